@@ -1,0 +1,11 @@
+pub mod Basics
+pub mod Terms
+pub mod Table
+pub mod Logs
+pub mod Configuration
+pub mod Stored
+pub mod Moves
+pub mod Run
+pub mod AtomicRun
+pub mod Calls
+pub mod Report

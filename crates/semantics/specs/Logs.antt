@@ -1,0 +1,49 @@
+-- The one test of a log's reads against counts, and the paths of an expression (document 01, "Choices and moves").
+-- Assumes nothing.
+use Prim.Native.Nat.{ℕ, suc}
+use mathlib.Core.Bool.{Bool}
+use mathlib.Core.Option.{Option}
+use mathlib.Core.List.{List, [], _∷_, _++_, map}
+use lib.ListN.{set}
+use lib.Dec.{leb}
+use Rattle.calculus.specs.Syntax.{Name, Action, rd, wt, Log, State}
+use Rattle.calculus.specs.State.{count, occurrences, without}
+use Rattle.calculus.specs.Log.{RD, WT}
+use Rattle.semantics.specs.Basics.{allOf, firstOf}
+use Rattle.semantics.specs.Terms.{Expression, endT, retryT, rdT, wtT, orElseT}
+
+-- "The empty log" is a named value
+unfoldable pub emptyLog : Log
+emptyLog = []
+
+-- the reads are within the counts: "for each tray, the log's reads are at most the present count"
+unfoldable pub within : List Name → State → Bool
+unfolding allOf occurrences
+within bs σ = allOf (λ a. leb (occurrences a bs) (count σ a)) bs
+
+-- a log, or a path, is readable at given counts
+unfoldable pub readable : State → Log → Bool
+unfolding within RD
+readable σ δ = within (RD δ) σ
+
+-- "A path of a block is a branch of its unfolded expression, its actions in order, that finishes in end", left to right
+unfoldable pub paths : Expression → List Log
+unfolding emptyLog
+paths (endT n) = emptyLog ∷ []
+paths (retryT n) = []
+paths (rdT n a M) = map (_∷_ (rd a)) (paths M)
+paths (wtT n a M) = map (_∷_ (wt a)) (paths M)
+paths (orElseT n M N) = paths M ++ paths N
+
+-- the first path, left to right, that is readable at given counts
+unfoldable pub firstReadable : State → Expression → Option Log
+unfolding firstOf readable paths
+firstReadable σ M = firstOf (readable σ) (paths M)
+
+-- a tray gains one; a tray loses one
+unfoldable pub gained : State → Name → State
+gained σ a = set σ a (suc (count σ a))
+
+unfoldable pub spent : State → Name → State
+unfolding without
+spent σ a = without σ (a ∷ [])

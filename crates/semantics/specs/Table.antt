@@ -1,0 +1,242 @@
+-- Reading a rule table (document 01, "The rule table" and refusals 1 to 9).
+-- Any list of bytes is accepted, with its terms, tokens and start, or refused with a number and a place.
+-- Assumes nothing.
+use Prim.Native.Nat.{ℕ, zero, suc, _+_}
+use mathlib.Core.Bool.{Bool, true, false, not, _&&_, _||_}
+use mathlib.Core.Option.{Option, none, some}
+use mathlib.Core.List.{List, [], _∷_, _++_}
+use lib.ListN.{length, getD, take, drop, set, replicate, getElem?}
+use lib.Dec.{leb, ltb, eqb}
+use Rattle.calculus.specs.Syntax.{Name, State}
+use Rattle.calculus.specs.State.{count}
+use Rattle.semantics.specs.Basics.{firstOf}
+use Rattle.semantics.specs.Terms.{Expression, endT, retryT, rdT, wtT, orElseT, Program, nilT, putT, takeT, repeatT, parT, atomT, Term, process, expression, width, branches, pathLength}
+
+-- ---- the record shapes
+
+-- the kinds, 1 to 13
+pub data Kind : Type 0 where
+  nilK putK takeK repeatK parK atomK endK retryK rdK wtK orElseK tokensK startK : Kind
+
+unfoldable pub kinds : List Kind
+kinds = nilK ∷ putK ∷ takeK ∷ repeatK ∷ parK ∷ atomK ∷ endK ∷ retryK ∷ rdK ∷ wtK ∷ orElseK ∷ tokensK ∷ startK ∷ []
+
+-- the kind that a byte names
+unfoldable pub kindOf : ℕ → Option Kind
+unfolding kinds
+kindOf zero = none
+kindOf (suc k) = getElem? kinds k
+
+-- what a byte of a body is: a tray, a reference to a process or to an expression, a count of tokens
+pub data Field : Type 0 where
+  channelF programF expressionF amountF : Field
+
+-- "Each record is one byte of kind, then a body whose length the kind fixes"
+unfoldable pub fields : Kind → List Field
+fields nilK = []
+fields putK = channelF ∷ []
+fields takeK = channelF ∷ programF ∷ []
+fields repeatK = channelF ∷ programF ∷ []
+fields parK = programF ∷ programF ∷ []
+fields atomK = expressionF ∷ []
+fields endK = []
+fields retryK = []
+fields rdK = channelF ∷ expressionF ∷ []
+fields wtK = channelF ∷ expressionF ∷ []
+fields orElseK = expressionF ∷ expressionF ∷ []
+fields tokensK = channelF ∷ amountF ∷ []
+fields startK = programF ∷ []
+
+-- ---- what has been read so far
+
+-- the terms in order, so that a term's number is its place; the tokens given, 0 where none were
+pub record Reading : Type 0 where
+  pub terms : List Term
+  pub tokens : State
+
+-- an accepted table
+pub record Table : Type 0 where
+  pub terms : List Term
+  pub tokens : State
+  pub start : Program
+
+pub data TableAnswer : Type 0 where
+  accepted : Table → TableAnswer
+  refusedAt : (number place : ℕ) → TableAnswer
+
+-- a reference's term, by its class; the tests come first, so the last clauses are never used for an accepted record
+unfoldable pub isProgram : Option Term → Bool
+isProgram none = false
+isProgram (some (process P)) = true
+isProgram (some (expression M)) = false
+
+unfoldable pub isExpression : Option Term → Bool
+isExpression none = false
+isExpression (some (process P)) = false
+isExpression (some (expression M)) = true
+
+unfoldable pub asProgram : Option Term → Program
+asProgram none = nilT 0
+asProgram (some (process P)) = P
+asProgram (some (expression M)) = nilT 0
+
+unfoldable pub asExpression : Option Term → Expression
+asExpression none = retryT 255
+asExpression (some (process P)) = retryT 255
+asExpression (some (expression M)) = M
+
+-- what a record says: kinds 1 to 11 are terms, 12 gives tokens, 13 names the start
+pub data Content : Type 0 where
+  aTerm : Term → Content
+  someTokens : Name → ℕ → Content
+  theStart : Program → Content
+
+-- the record of this kind with this body, after the terms ts: a new term's number is how many came before it
+module _ (ts : List Term) (body : List ℕ) where
+  unfoldable pub programIn : ℕ → Program
+  unfolding asProgram
+  programIn i = asProgram (getElem? ts (getD body i 0))
+
+  unfoldable pub expressionIn : ℕ → Expression
+  unfolding asExpression
+  expressionIn i = asExpression (getElem? ts (getD body i 0))
+
+  unfoldable pub said : Kind → Content
+  unfolding programIn expressionIn
+  said nilK = aTerm (process (nilT (length ts)))
+  said putK = aTerm (process (putT (length ts) (getD body 0 0)))
+  said takeK = aTerm (process (takeT (length ts) (getD body 0 0) (programIn 1)))
+  said repeatK = aTerm (process (repeatT (length ts) (getD body 0 0) (programIn 1)))
+  said parK = aTerm (process (parT (length ts) (programIn 0) (programIn 1)))
+  said atomK = aTerm (process (atomT (length ts) (expressionIn 0)))
+  said endK = aTerm (expression (endT (length ts)))
+  said retryK = aTerm (expression (retryT (length ts)))
+  said rdK = aTerm (expression (rdT (length ts) (getD body 0 0) (expressionIn 1)))
+  said wtK = aTerm (expression (wtT (length ts) (getD body 0 0) (expressionIn 1)))
+  said orElseK = aTerm (expression (orElseT (length ts) (expressionIn 0) (expressionIn 1)))
+  said tokensK = someTokens (getD body 0 0) (getD body 1 0)
+  said startK = theStart (programIn 0)
+
+-- ---- the tests on one record, each on all of its fields
+
+-- some field of the body fails
+unfoldable pub anyField : (Field → ℕ → Bool) → List Field → List ℕ → Bool
+anyField fails [] bs = false
+anyField fails (f ∷ fs) [] = false
+anyField fails (f ∷ fs) (b ∷ bs) = fails f b || anyField fails fs bs
+
+-- 3: a term record after 200 terms
+unfoldable pub tooMany : List Term → Content → Bool
+tooMany ts (aTerm t) = leb 200 (length ts)
+tooMany ts (someTokens a n) = false
+tooMany ts (theStart P) = false
+
+-- 4: a tray over 15
+unfoldable pub strayChannel : Field → ℕ → Bool
+strayChannel channelF b = ltb 15 b
+strayChannel programF b = false
+strayChannel expressionF b = false
+strayChannel amountF b = false
+
+-- 5: a reference that is not to an earlier term
+unfoldable pub notEarlier : List Term → Field → ℕ → Bool
+notEarlier ts channelF b = false
+notEarlier ts programF b = leb (length ts) b
+notEarlier ts expressionF b = leb (length ts) b
+notEarlier ts amountF b = false
+
+-- 6: a reference to the wrong class
+unfoldable pub wrongClass : List Term → Field → ℕ → Bool
+unfolding isProgram isExpression
+wrongClass ts channelF b = false
+wrongClass ts programF b = not (isProgram (getElem? ts b))
+wrongClass ts expressionF b = not (isExpression (getElem? ts b))
+wrongClass ts amountF b = false
+
+-- 7: width over 64, branches over 8 or length over 16
+unfoldable pub overLimit : Content → Bool
+unfolding width branches pathLength
+overLimit (aTerm (process P)) = ltb 64 (width P)
+overLimit (aTerm (expression M)) = ltb 8 (branches M) || ltb 16 (pathLength M)
+overLimit (someTokens a n) = false
+overLimit (theStart P) = false
+
+-- 8: a tokens record with count 0, or for a tray that was given before
+unfoldable pub badTokens : State → Content → Bool
+badTokens σ (aTerm t) = false
+badTokens σ (someTokens a n) = eqb n 0 || not (eqb (count σ a) 0)
+badTokens σ (theStart P) = false
+
+-- a refusal's number with its test
+pub record Test : Type 0 where
+  pub code : ℕ
+  pub holds : Bool
+
+-- tests 2 to 8 on a record of kind K, in number order; `bs` is all that follows its first byte
+unfoldable pub tests : Reading → Kind → List ℕ → List Test
+unfolding fields said anyField tooMany strayChannel notEarlier wrongClass overLimit badTokens
+tests r K bs =
+    let ts = r .terms in
+    let content = said ts bs K in
+    record { code = 2; holds = ltb (length bs) (length (fields K)) } ∷
+    record { code = 3; holds = tooMany ts content } ∷
+    record { code = 4; holds = anyField strayChannel (fields K) bs } ∷
+    record { code = 5; holds = anyField (notEarlier ts) (fields K) bs } ∷
+    record { code = 6; holds = anyField (wrongClass ts) (fields K) bs } ∷
+    record { code = 7; holds = overLimit content } ∷
+    record { code = 8; holds = badTokens (r .tokens) content } ∷ []
+
+-- ---- record by record
+
+-- what a turn gives: the answer, or the reading after a record of so many bytes
+pub data Turn : Type 0 where
+  stop : TableAnswer → Turn
+  more : Reading → ℕ → Turn
+
+-- 9: "A byte follows the start record (place: that byte)"
+unfoldable pub closed : Reading → Program → ℕ → List ℕ → TableAnswer
+closed r P at [] = accepted (record { terms = r .terms; tokens = r .tokens; start = P })
+closed r P at (b ∷ bs) = refusedAt 9 at
+
+-- a record of w bytes that passed its tests; `next` is the place behind it and `bs` what follows there
+unfoldable pub passed : Reading → Content → (w next : ℕ) → List ℕ → Turn
+unfolding closed
+passed r (aTerm t) w next bs = more (record { terms = r .terms ++ (t ∷ []); tokens = r .tokens }) w
+passed r (someTokens a n) w next bs = more (record { terms = r .terms; tokens = set (r .tokens) a n }) w
+passed r (theStart P) w next bs = stop (closed r P next bs)
+
+unfoldable pub tested : Reading → ℕ → Kind → List ℕ → Option Test → Turn
+unfolding passed said fields
+tested r at K bs (some t) = stop (refusedAt (t .code) at)
+tested r at K bs none =
+    let size = length (fields K) in
+    passed r (said (r .terms) bs K) (suc size) (at + suc size) (drop size bs)
+
+unfoldable pub kindRead : Reading → ℕ → List ℕ → Option Kind → Turn
+unfolding tested tests firstOf
+kindRead r at bs none = stop (refusedAt 1 at)
+kindRead r at bs (some K) = tested r at K bs (firstOf (λ t. t .holds) (tests r K bs))
+
+-- the record at a place; the table may end there: 9, "(place: its length)"
+unfoldable pub turn : Reading → ℕ → List ℕ → Turn
+unfolding kindRead kindOf
+turn r at [] = stop (refusedAt 9 at)
+turn r at (k ∷ bs) = kindRead r at bs (kindOf k)
+
+unfoldable pub after : Turn → (Reading → ℕ → TableAnswer) → TableAnswer
+after (stop answer) next = answer
+after (more r w) next = next r w
+
+-- the rest of a table from a place; each record takes a byte at least, so the first argument never runs out
+unfoldable pub readFrom : ℕ → Reading → ℕ → List ℕ → TableAnswer
+unfolding turn after
+readFrom zero r at bs = refusedAt 9 at
+readFrom (suc f) r at bs = after (turn r at bs) (λ s w. readFrom f s (at + w) (drop w bs))
+
+unfoldable pub nothingRead : Reading
+nothingRead = record { terms = []; tokens = replicate 16 0 }
+
+-- the answer on any list of bytes
+unfoldable pub readTable : List ℕ → TableAnswer
+unfolding readFrom nothingRead
+readTable bs = readFrom (suc (length bs)) nothingRead 0 bs
