@@ -9,3 +9,10 @@ pub mod Run
 pub mod AtomicRun
 pub mod Calls
 pub mod Report
+pub mod Standing
+pub mod Correspondence
+pub mod History
+pub mod Converse
+pub mod Atomicity
+pub mod InnerMoves
+pub mod Accounts
