@@ -16,3 +16,5 @@ pub mod Converse
 pub mod Atomicity
 pub mod InnerMoves
 pub mod Accounts
+pub mod GoodTable
+pub mod StoredClaims
