@@ -18,3 +18,4 @@ pub mod InnerMoves
 pub mod Accounts
 pub mod GoodTable
 pub mod StoredClaims
+pub mod Conditions

@@ -1,0 +1,196 @@
+-- The numbered conditions (document 01, "Reasons to turn a request down"), each said apart from the executable definitions,
+-- and the claim that the definitions refuse with a number exactly where its condition is the first that holds, at the place
+-- that the paper names, and accept exactly where none holds.
+-- Assumes nothing.
+use Prim.Native.Nat.{ℕ, suc, _+_, _≤_, _<_}
+use mathlib.Core.Path.{_≡_}
+use mathlib.Core.Logic.{_⊎_, _↔_, _≢_}
+use mathlib.Core.Option.{Option, none, some}
+use mathlib.Core.List.{List, [], _∷_, _++_, map}
+use lib.ListN.{length, take, drop, set, getElem?}
+use Rattle.calculus.specs.Syntax.{Name, Log, State}
+use Rattle.calculus.specs.State.{count, Included}
+use Rattle.calculus.specs.Log.{RD, WT}
+use Rattle.semantics.specs.Basics.{replaceAt}
+use Rattle.semantics.specs.Terms.{Expression, endT, retryT, rdT, wtT, orElseT, Program, Term, process, expression, width, branches, pathLength}
+use Rattle.semantics.specs.Table.{Kind, kindOf, Field, channelF, programF, expressionF, amountF, fields, Reading, nothingRead, Content, aTerm, someTokens, theStart, said, Table, TableAnswer, accepted, refusedAt, readTable}
+use Rattle.semantics.specs.Configuration.{Idle, taking, repeating, block, output, Tree, leaf, fork, Component, idle, transaction, Configuration, opens, nodes}
+use Rattle.semantics.specs.Stored.{WellFormed, bytesOf, hallBytes}
+use Rattle.semantics.specs.Moves.{Entry, act, inside, Answer, moved, refused, choose}
+use Rattle.semantics.specs.Run.{Counters, RunAnswer, run, schedule, entries}
+use Rattle.semantics.specs.Calls.{Admission, admitted, turnedDown, admission, OpenAnswer, opened, notOpened, openHall, IsMoved}
+use Rattle.semantics.specs.Converse.{NoComponent, EmptyChannel, TooMany, FullChannel, scheduleBytes, entryBytes}
+use Rattle.semantics.specs.InnerMoves.{Settled}
+use Rattle.semantics.specs.Correspondence.{Bytes, Accepts}
+
+-- a condition holds at its number, and none of a smaller number does
+abbrev pub First : (ℕ → Type 0) → ℕ → Type 0
+First C n = C n × ((m : ℕ) → m < n → C m → ⊥)
+
+-- ---- 1 to 9: a table
+
+-- A condition of the record that begins with these bytes, after a reading; the second number is where the place lies, counted
+-- from the record's first byte. No byte left means that the table ends here.
+pub data TableCondition (r : Reading) : (number offset : ℕ) → List ℕ → Type 0 where
+  -- 1: the kind is not 1 to 13
+  kind-unknown : {k : ℕ} {bs : List ℕ} → (k ≡ 0) ⊎ (13 < k) → TableCondition r 1 0 (k ∷ bs)
+  -- 2: the body is cut short
+  body-short : {k : ℕ} {bs : List ℕ} (K : Kind) → kindOf k ≡ some K → length bs < length (fields K) → TableCondition r 2 0 (k ∷ bs)
+  -- 3: a term record comes after 200 terms
+  terms-many : {k : ℕ} {bs : List ℕ} → 1 ≤ k → k ≤ 11 → 200 ≤ length (r .terms) → TableCondition r 3 0 (k ∷ bs)
+  -- 4: a tray is over 15
+  channel-over : {k : ℕ} {bs : List ℕ} (K : Kind) (i b : ℕ) → kindOf k ≡ some K →
+      getElem? (fields K) i ≡ some channelF → getElem? bs i ≡ some b → 15 < b → TableCondition r 4 0 (k ∷ bs)
+  -- 5: a reference is not to an earlier term
+  reference-later : {k : ℕ} {bs : List ℕ} (K : Kind) (i b : ℕ) → kindOf k ≡ some K →
+      (getElem? (fields K) i ≡ some programF) ⊎ (getElem? (fields K) i ≡ some expressionF) → getElem? bs i ≡ some b → length (r .terms) ≤ b →
+      TableCondition r 5 0 (k ∷ bs)
+  -- 6: a reference is to the wrong class
+  class-expression : {k : ℕ} {bs : List ℕ} (K : Kind) (i b : ℕ) (M : Expression) → kindOf k ≡ some K →
+      getElem? (fields K) i ≡ some programF → getElem? bs i ≡ some b → getElem? (r .terms) b ≡ some (expression M) → TableCondition r 6 0 (k ∷ bs)
+  class-process : {k : ℕ} {bs : List ℕ} (K : Kind) (i b : ℕ) (P : Program) → kindOf k ≡ some K →
+      getElem? (fields K) i ≡ some expressionF → getElem? bs i ≡ some b → getElem? (r .terms) b ≡ some (process P) → TableCondition r 6 0 (k ∷ bs)
+  -- 7: width is over 64, branches over 8 or length over 16
+  width-over : {k : ℕ} {bs : List ℕ} (K : Kind) (P : Program) → kindOf k ≡ some K → said (r .terms) bs K ≡ aTerm (process P) → 64 < width P →
+      TableCondition r 7 0 (k ∷ bs)
+  paths-over : {k : ℕ} {bs : List ℕ} (K : Kind) (M : Expression) → kindOf k ≡ some K → said (r .terms) bs K ≡ aTerm (expression M) →
+      (8 < branches M) ⊎ (16 < pathLength M) → TableCondition r 7 0 (k ∷ bs)
+  -- 8: a tokens record has count 0, or its tray was given before
+  tokens-none : {a : ℕ} {bs : List ℕ} → TableCondition r 8 0 (12 ∷ a ∷ 0 ∷ bs)
+  tokens-again : {a n : ℕ} {bs : List ℕ} → count (r .tokens) a ≢ 0 → TableCondition r 8 0 (12 ∷ a ∷ n ∷ bs)
+  -- 9: a byte follows the start record (the place is that byte), or the table ends without one (the place is its length)
+  byte-follows : {b c : ℕ} {bs : List ℕ} → TableCondition r 9 2 (13 ∷ b ∷ c ∷ bs)
+  start-missing : TableCondition r 9 0 []
+
+-- no condition holds of the record
+abbrev pub Passes : Reading → List ℕ → Type 0
+Passes r bs = (n offset : ℕ) → TableCondition r n offset bs → ⊥
+
+-- the places at which a record of the table begins, with what the records before it gave: none of those meets a condition
+pub data Reached (bs : List ℕ) : ℕ → Reading → Type 0 where
+  at-first : Reached bs 0 nothingRead
+  past-term : {p : ℕ} {r : Reading} (k : ℕ) (rest : List ℕ) (K : Kind) (t : Term) → Reached bs p r → drop p bs ≡ k ∷ rest → Passes r (k ∷ rest) →
+      kindOf k ≡ some K → said (r .terms) rest K ≡ aTerm t →
+      Reached bs (p + suc (length (fields K))) (record { terms = r .terms ++ (t ∷ []); tokens = r .tokens })
+  past-tokens : {p : ℕ} {r : Reading} (k : ℕ) (rest : List ℕ) (K : Kind) (a n : ℕ) → Reached bs p r → drop p bs ≡ k ∷ rest → Passes r (k ∷ rest) →
+      kindOf k ≡ some K → said (r .terms) rest K ≡ someTokens a n →
+      Reached bs (p + suc (length (fields K))) (record { terms = r .terms; tokens = set (r .tokens) a n })
+
+-- refused at the first record where a condition holds, with the first condition that does
+unfoldable pub TableRefused : List ℕ → (number place : ℕ) → Type 0
+TableRefused bs n q =
+    (p : ℕ) × (r : Reading) × (offset : ℕ) × Reached bs p r × TableCondition r n offset (drop p bs) ×
+    ((m o : ℕ) → m < n → TableCondition r m o (drop p bs) → ⊥) × (q ≡ p + offset)
+
+-- accepted with a start record that meets none, at the end
+unfoldable pub TableAccepted : List ℕ → Table → Type 0
+TableAccepted bs t =
+    (p : ℕ) × (r : Reading) × (k : ℕ) × (rest : List ℕ) × (K : Kind) × (P : Program) × Reached bs p r × (drop p bs ≡ k ∷ rest) × Passes r (k ∷ rest) ×
+    (kindOf k ≡ some K) × (said (r .terms) rest K ≡ theStart P) × (t ≡ record { terms = r .terms; tokens = r .tokens; start = P })
+
+unfoldable pub TableNumbers : Type 0
+unfolding TableRefused TableAccepted
+TableNumbers =
+    (bs : List ℕ) → ((n q : ℕ) → (readTable bs ≡ refusedAt n q) ↔ TableRefused bs n q) × ((t : Table) → (readTable bs ≡ accepted t) ↔ TableAccepted bs t)
+
+-- ---- 10 and 11: a hall
+
+-- a call on a hall turns it down with this number and place
+pub data HallCondition (table hall : List ℕ) : (number place : ℕ) → Type 0 where
+  -- 1 to 9: by its table
+  by-table : {n p : ℕ} → readTable table ≡ refusedAt n p → HallCondition table hall n p
+  -- 10: the lent hall is not 11,344 bytes
+  size-wrong : (t : Table) → readTable table ≡ accepted t → length hall ≢ hallBytes → HallCondition table hall 10 0
+  -- 11: the hall is not well formed
+  form-wrong : (t : Table) → readTable table ≡ accepted t → length hall ≡ hallBytes →
+      (((h : Configuration) × WellFormed (t .terms) h × (bytesOf h ≡ hall)) → ⊥) → HallCondition table hall 11 0
+
+unfoldable pub HallNumbers : Type 0
+HallNumbers =
+    (table hall : List ℕ) → Bytes table → Bytes hall →
+    ((n p : ℕ) → (admission table hall ≡ turnedDown n p) ↔ HallCondition table hall n p) ×
+    ((t : Table) (h : Configuration) → (admission table hall ≡ admitted t h) ↔
+    ((readTable table ≡ accepted t) × (length hall ≡ hallBytes) × WellFormed (t .terms) h × (bytesOf h ≡ hall)))
+
+-- opening tests the table and the size alone; refused, it leaves every byte
+unfoldable pub OpenNumbers : Type 0
+OpenNumbers =
+    (table hall : List ℕ) (n p : ℕ) → ((openHall table hall) .answer ≡ notOpened n p) ↔
+    ((readTable table ≡ refusedAt n p) ⊎ ((t : Table) × (readTable table ≡ accepted t) × (length hall ≢ hallBytes) × (n ≡ 10) × (p ≡ 0)))
+
+-- ---- 12 to 20: a choice
+
+-- the nodes of a tree in preorder: a node, its left side, its right side
+unfoldable pub preorder : Tree → List Tree
+preorder (leaf M δ) = leaf M δ ∷ []
+preorder (fork l r) = fork l r ∷ (preorder l ++ preorder r)
+
+-- an end or retry leaf, or a fork whose left side is neither
+abbrev pub AtRest : Tree → Type 0
+AtRest (leaf M δ) = Settled (leaf M δ)
+AtRest (fork l r) = ¬ Settled l
+
+-- a condition of a choice on a configuration
+pub data ChoiceCondition (h : Configuration) : ℕ → Entry → Type 0 where
+  -- 14: there is no station at the position
+  no-station : {p : ℕ} → NoComponent (h .components) p → ChoiceCondition h 14 (act p)
+  no-station-inside : {p k : ℕ} → NoComponent (h .components) p → ChoiceCondition h 14 (inside p k)
+  -- 15: kind 1 meets an attempt that is not a single end or retry leaf, or kind 2 meets no attempt
+  unsettled : {p : ℕ} (n : ℕ) (M : Expression) (s : State) (t : Tree) → getElem? (h .components) p ≡ some (transaction n M s t) → ¬ Settled t →
+      ChoiceCondition h 15 (act p)
+  no-attempt : {p k : ℕ} (c : Idle) → getElem? (h .components) p ≡ some (idle c) → ChoiceCondition h 15 (inside p k)
+  -- 16: there is no such node
+  no-node : {p k : ℕ} (n : ℕ) (M : Expression) (s : State) (t : Tree) → getElem? (h .components) p ≡ some (transaction n M s t) → nodes t ≤ k →
+      ChoiceCondition h 16 (inside p k)
+  -- 17: the node is an end or retry leaf, or a fork whose left side is neither
+  at-rest : {p k : ℕ} (n : ℕ) (M : Expression) (s : State) (t u : Tree) → getElem? (h .components) p ≡ some (transaction n M s t) →
+      getElem? (preorder t) k ≡ some u → AtRest u → ChoiceCondition h 17 (inside p k)
+  -- 18: IN or REP meets an empty tray
+  in-empty : {p : ℕ} (n : ℕ) (a : Name) (P : Program) → getElem? (h .components) p ≡ some (idle (taking n a P)) → EmptyChannel (h .counts) a →
+      ChoiceCondition h 18 (act p)
+  rep-empty : {p : ℕ} (n : ℕ) (a : Name) (P : Program) → getElem? (h .components) p ≡ some (idle (repeating n a P)) → EmptyChannel (h .counts) a →
+      ChoiceCondition h 18 (act p)
+  -- 19: the move would leave more than 64 stations: an IN, a REP or an ATOK
+  in-many : {p : ℕ} (n : ℕ) (a : Name) (P : Program) → getElem? (h .components) p ≡ some (idle (taking n a P)) →
+      TooMany (length (replaceAt p (map idle (opens P)) (h .components))) → ChoiceCondition h 19 (act p)
+  rep-many : {p : ℕ} (n : ℕ) (a : Name) (P : Program) → getElem? (h .components) p ≡ some (idle (repeating n a P)) →
+      TooMany (length (replaceAt p (map idle (opens P ++ (repeating n a P ∷ []))) (h .components))) → ChoiceCondition h 19 (act p)
+  commit-many : {p : ℕ} (n : ℕ) (M : Expression) (s : State) (e : ℕ) (δ : Log) →
+      getElem? (h .components) p ≡ some (transaction n M s (leaf (endT e) δ)) → Included (RD δ) (h .counts) →
+      TooMany (length (replaceAt p (map (λ a. idle (output a)) (WT δ)) (h .components))) → ChoiceCondition h 19 (act p)
+  -- 20: OUT meets a count of 255
+  out-full : {p : ℕ} (a : Name) → getElem? (h .components) p ≡ some (idle (output a)) → FullChannel (h .counts) a → ChoiceCondition h 20 (act p)
+
+unfoldable pub ChoiceNumbers : Type 0
+ChoiceNumbers =
+    (ts : List Term) (h : Configuration) → WellFormed ts h → (e : Entry) →
+    ((n : ℕ) → (choose h e ≡ refused n) ↔ First (λ m. ChoiceCondition h m e) n) ×
+    (IsMoved (choose h e) ↔ ((n : ℕ) → ChoiceCondition h n e → ⊥))
+
+-- why a run stops with this number, before these bytes, at this configuration: 0 at the end, 12 where the choice's kind is not
+-- 1 or 2, 13 where the choice is cut short, else the choice's first condition
+pub data Stops (h : Configuration) : ℕ → List ℕ → Type 0 where
+  at-end : Stops h 0 []
+  kind-neither : {k : ℕ} {bs : List ℕ} → k ≢ 1 → k ≢ 2 → Stops h 12 (k ∷ bs)
+  act-short : Stops h 13 (1 ∷ [])
+  inside-short : Stops h 13 (2 ∷ [])
+  node-short : {p : ℕ} → Stops h 13 (2 ∷ p ∷ [])
+  act-refused : {n p : ℕ} {bs : List ℕ} → First (λ m. ChoiceCondition h m (act p)) n → Stops h n (1 ∷ p ∷ bs)
+  inside-refused : {n p k : ℕ} {bs : List ℕ} → First (λ m. ChoiceCondition h m (inside p k)) n → Stops h n (2 ∷ p ∷ k ∷ bs)
+
+-- of a run's answer: its place is the first byte behind the choices done, which are as many as done says; it stops there for
+-- the reason that its number gives
+pub record RunStops (bs : List ℕ) (a : RunAnswer) : Type 0 where
+  pub inside-bytes : a .place ≤ length bs
+  pub before : take (a .place) bs ≡ scheduleBytes (take (a .done) (entries (schedule bs)))
+  pub as-many : a .done ≤ length (entries (schedule bs))
+  pub reason : Stops (a .configuration) (a .number) (drop (a .place) bs)
+
+unfoldable pub RunNumbers : Type 0
+RunNumbers =
+    (table : List ℕ) (t : Table) → Accepts table t → (h : Configuration) → WellFormed (t .terms) h → (c : Counters) (bs : List ℕ) →
+    RunStops bs (run h c bs)
+
+-- and there is never a second reason
+unfoldable pub OneReason : Type 0
+OneReason = (h : Configuration) (bs : List ℕ) (m n : ℕ) → Stops h m bs → Stops h n bs → m ≡ n
