@@ -1,7 +1,8 @@
 -- The syntax of AtCCS: Table 1 of document 004, without hiding and without message values.
 --
 -- A name is a number. The printed table lacks four lines (retry, output, input, parallel), which its text supplies.
--- There are no limits here: no bound on names, counts, components or lengths.
+-- There are no limits here: a state counts as many names as its list is long, of any length, and nothing bounds a count, the
+-- components or the length of an expression.
 -- Assumes nothing.
 use Prim.Native.Nat.{ℕ}
 use mathlib.Core.List.{List}

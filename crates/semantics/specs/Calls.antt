@@ -13,7 +13,7 @@ use Rattle.semantics.specs.Table.{Table, TableAnswer, accepted, refusedA
 use Rattle.semantics.specs.Configuration.{Configuration, opening}
 use Rattle.semantics.specs.Stored.{hallBytes, bytesOf, configurationOf}
 use Rattle.semantics.specs.Moves.{Entry, Answer, moved, refused, choose}
-use Rattle.semantics.specs.Run.{Counters, freshCounters, RunAnswer, run, schedule, entries}
+use Rattle.semantics.specs.Run.{Counters, freshCounters, RunAnswer, run, schedule, entries, entryBytes}
 
 -- a number, 0 for none, and a place, 0 where nothing is refused
 pub record Verdict : Type 0 where
@@ -163,6 +163,18 @@ pub data SuggestAnswer : Type 0 where
   suggested : Entry → SuggestAnswer
   still : SuggestAnswer
   notSuggested : (number place : ℕ) → SuggestAnswer
+
+-- the number, the place and the choice's bytes, which are none where nothing is suggested
+pub record SuggestValues : Type 0 where
+  pub number : ℕ
+  pub place : ℕ
+  pub choice : List ℕ
+
+unfoldable pub suggestValues : SuggestAnswer → SuggestValues
+unfolding entryBytes
+suggestValues (suggested e) = record { number = 0; place = 0; choice = entryBytes e }
+suggestValues still = record { number = 0; place = 0; choice = [] }
+suggestValues (notSuggested n p) = record { number = n; place = p; choice = [] }
 
 abbrev pub IsMoved : Answer → Type 0
 IsMoved (moved r h) = Unit {0}

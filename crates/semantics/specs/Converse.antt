@@ -16,6 +16,7 @@ use Rattle.semantics.specs.Table.{Table}
 use Rattle.semantics.specs.Logs.{emptyLog, readable, paths, firstReadable, gained, spent}
 use Rattle.semantics.specs.Configuration.{Idle, taking, repeating, block, output, opens}
 use Rattle.semantics.specs.Moves.{Entry, act, inside}
+unfoldable pub use Rattle.semantics.specs.Run.{entryBytes, scheduleBytes}
 
 -- ---- the conditions of the refusals that a step may meet
 
@@ -118,13 +119,3 @@ unfoldable pub choicesFor : Plain → List ℕ → List Entry
 unfolding choicesAt struck
 choicesFor s [] = []
 choicesFor s (p ∷ ps) = choicesAt (s .counts) p (getElem? (s .stations) p) ++ choicesFor (struck s p (getElem? (s .stations) p)) ps
-
--- the bytes of a list of choices
-unfoldable pub entryBytes : Entry → List ℕ
-entryBytes (act p) = 1 ∷ p ∷ []
-entryBytes (inside p k) = 2 ∷ p ∷ k ∷ []
-
-unfoldable pub scheduleBytes : List Entry → List ℕ
-unfolding entryBytes
-scheduleBytes [] = []
-scheduleBytes (e ∷ es) = entryBytes e ++ scheduleBytes es

@@ -162,3 +162,13 @@ ruleNumber AWR = 10
 ruleNumber AOI = 11
 ruleNumber AOF = 12
 ruleNumber AOE = 13
+
+-- what a choice answers, for each case with its number
+pub data Told : Type 0 where
+  movedBy : (rule : ℕ) → Told
+  refusedBy : (number : ℕ) → Told
+
+unfoldable pub told : Answer → Told
+unfolding ruleNumber
+told (moved r h) = movedBy (ruleNumber r)
+told (refused n) = refusedBy n

@@ -24,6 +24,16 @@ schedule (suc (suc zero) ∷ p ∷ []) = malformed 13 ∷ []
 schedule (suc (suc zero) ∷ p ∷ k ∷ bs) = entry (inside p k) 3 ∷ schedule bs
 schedule (suc (suc (suc k)) ∷ bs) = malformed 12 ∷ []
 
+-- and back: "Choice kind 1, body position", "Choice kind 2, body position and node"
+unfoldable pub entryBytes : Entry → List ℕ
+entryBytes (act p) = 1 ∷ p ∷ []
+entryBytes (inside p k) = 2 ∷ p ∷ k ∷ []
+
+unfoldable pub scheduleBytes : List Entry → List ℕ
+unfolding entryBytes
+scheduleBytes [] = []
+scheduleBytes (e ∷ es) = entryBytes e ++ scheduleBytes es
+
 -- the entries of a schedule, up to what ends it
 unfoldable pub entries : List Item → List Entry
 entries [] = []
