@@ -1,6 +1,6 @@
 -- Small functions on lists and options that the definitions share. Nothing here is about the engine.
 -- Assumes nothing.
-use Prim.Native.Nat.{ℕ, zero, suc, _+_, _-_}
+use Prim.Native.Nat.{ℕ, zero, suc, _-_, _≤_}
 use mathlib.Core.Bool.{Bool, true, false, cond, _&&_}
 use mathlib.Core.Option.{Option, none, some}
 use mathlib.Core.List.{List, [], _∷_, _++_}
@@ -49,3 +49,7 @@ joined (xs ∷ xss) = xs ++ joined xss
 abbrev pub All {ℓ} : {A : Type ℓ} → (A → Type 0) → List A → Type 0
 All p [] = Unit {0}
 All p (x ∷ xs) = p x × All p xs
+
+-- these numbers are bytes
+abbrev pub Bytes : List ℕ → Type 0
+Bytes bs = All (λ b. b ≤ 255) bs

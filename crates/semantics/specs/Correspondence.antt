@@ -9,7 +9,7 @@ use Rattle.calculus.specs.Syntax.{Name, State, Process, par}
 use Rattle.calculus.specs.State.{SameNames}
 use Rattle.calculus.specs.Log.{RD}
 use Rattle.calculus.specs.Reduction.{Rule, OUT, IN, REP, ATST, ATRE, ATFAIL, ATOK, ARDOK, ARDF, AWR, AOI, AOF, AOE, Label, by, COM, Reduces, LogOrder, AnyOrder, outputs}
-use Rattle.semantics.specs.Basics.{All}
+pub use Rattle.semantics.specs.Basics.{Bytes}
 use Rattle.semantics.specs.Table.{Table, accepted, readTable}
 use Rattle.semantics.specs.Configuration.{Configuration}
 use Rattle.semantics.specs.Stored.{WellFormed, bytesOf, hallBytes}
@@ -17,10 +17,6 @@ use Rattle.semantics.specs.Moves.{Entry, act, inside, moved, choose}
 use Rattle.semantics.specs.Run.{Counters, Step, RunAnswer, run}
 use Rattle.semantics.specs.Calls.{Quiescent}
 use Rattle.semantics.specs.Standing.{Stands, WithinLimits}
-
--- these numbers are bytes
-abbrev pub Bytes : List ℕ → Type 0
-Bytes bs = All (λ b. b ≤ 255) bs
 
 -- the bytes are those of an accepted table
 abbrev pub Accepts : List ℕ → Table → Type 0

@@ -4,58 +4,54 @@
 use Prim.Native.Nat.{ℕ, _≤_}
 use mathlib.Core.Path.{_≡_}
 use mathlib.Core.Logic.{_↔_}
-use mathlib.Core.Option.{Option, some}
+use mathlib.Core.Option.{some}
 use mathlib.Core.List.{List, _++_, map}
 use lib.ListN.{length}
-use Rattle.calculus.specs.Syntax.{State}
-use Rattle.semantics.specs.Basics.{All, joined}
-use Rattle.semantics.specs.Terms.{Program, Term, width}
+use Rattle.semantics.specs.Basics.{joined}
+pub use Rattle.semantics.specs.Basics.{Bytes}
+use Rattle.semantics.specs.Terms.{Term, width}
 use Rattle.semantics.specs.Table.{Table, accepted, readTable}
 use Rattle.semantics.specs.Configuration.{Configuration, opening}
 use Rattle.semantics.specs.Stored.{ByteCounts, WellFormed, componentBytes, bytesOf, configurationOf, hallBytes}
 use Rattle.semantics.specs.GoodTable.{GoodTable, ProgramIn}
 
--- every element fits a byte
-abbrev pub Bytes : List ℕ → Type 0
-Bytes bs = All (λ b. b ≤ 255) bs
-
 -- The terms of every accepted table are good: at most 200, numbered by their places, resting on one another, within the limits.
-unfoldable pub AcceptedIsGood : Type 0
+abbrev pub AcceptedIsGood : Type 0
 AcceptedIsGood = (bs : List ℕ) (t : Table) → readTable bs ≡ accepted t → GoodTable (t .terms)
 
--- The start of every accepted table is one of its terms, and opens into at most 64 components.
-unfoldable pub StartIsEntry : Type 0
+-- The start of every accepted table is one of its terms, of width at most 64.
+abbrev pub StartIsEntry : Type 0
 StartIsEntry = (bs : List ℕ) (t : Table) → readTable bs ≡ accepted t → ProgramIn (t .terms) (t .start) × (width (t .start) ≤ 64)
 
 -- The tokens of every accepted table are 16 counts, each at most 255 where the table is given as bytes.
-unfoldable pub TokensAreCounts : Type 0
+abbrev pub TokensAreCounts : Type 0
 TokensAreCounts = (bs : List ℕ) (t : Table) → Bytes bs → readTable bs ≡ accepted t → ByteCounts (t .tokens)
 
 -- A well-formed configuration is read back from its bytes.
-unfoldable pub ReadBack : Type 0
+abbrev pub ReadBack : Type 0
 ReadBack = (ts : List Term) (h : Configuration) → GoodTable ts → WellFormed ts h → configurationOf ts (bytesOf h) ≡ some h
 
 -- Different well-formed configurations have different bytes.
-unfoldable pub BytesDiffer : Type 0
+abbrev pub BytesDiffer : Type 0
 BytesDiffer = (ts : List Term) (h g : Configuration) → GoodTable ts → WellFormed ts h → WellFormed ts g → bytesOf h ≡ bytesOf g → h ≡ g
 
 -- What is read from 11,344 bytes is well formed, and those are its bytes.
-unfoldable pub ReadIsWellFormed : Type 0
+abbrev pub ReadIsWellFormed : Type 0
 ReadIsWellFormed = (ts : List Term) (bs : List ℕ) (h : Configuration) → GoodTable ts → Bytes bs → length bs ≡ hallBytes →
     configurationOf ts bs ≡ some h → WellFormed ts h × (bytesOf h ≡ bs)
 
 -- Well formed means the same of bytes and of configurations: 11,344 bytes are read exactly where they are a well-formed
 -- configuration's bytes.
-unfoldable pub WellFormedAgrees : Type 0
+abbrev pub WellFormedAgrees : Type 0
 WellFormedAgrees = (ts : List Term) (bs : List ℕ) → GoodTable ts → Bytes bs → length bs ≡ hallBytes →
     ((h : Configuration) × (configurationOf ts bs ≡ some h)) ↔ ((h : Configuration) × WellFormed ts h × (bytesOf h ≡ bs))
 
 -- A well-formed configuration fits: its counts and components take at most 11,344 bytes, so its stored form has exactly 11,344,
 -- each at most 255.
-unfoldable pub StoredFits : Type 0
+abbrev pub StoredFits : Type 0
 StoredFits = (ts : List Term) (h : Configuration) → GoodTable ts → WellFormed ts h →
     (length (h .counts ++ joined (map componentBytes (h .components))) ≤ hallBytes) × (length (bytesOf h) ≡ hallBytes) × Bytes (bytesOf h)
 
 -- Opening an accepted table, given as bytes, gives a well-formed configuration.
-unfoldable pub OpeningIsWellFormed : Type 0
+abbrev pub OpeningIsWellFormed : Type 0
 OpeningIsWellFormed = (bs : List ℕ) (t : Table) → Bytes bs → readTable bs ≡ accepted t → WellFormed (t .terms) (opening t)
