@@ -3,3 +3,4 @@ pub mod Reading
 pub mod GoodTable
 pub mod Trees
 pub mod RoundTrip
+pub mod Examples

@@ -19,3 +19,4 @@ pub mod Accounts
 pub mod GoodTable
 pub mod StoredClaims
 pub mod Conditions
+pub mod Examples
