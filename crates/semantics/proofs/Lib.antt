@@ -3,4 +3,10 @@ pub mod Reading
 pub mod GoodTable
 pub mod Trees
 pub mod RoundTrip
+pub mod Lists
+pub mod Readable
+pub mod Moves
+pub mod WellFormedKept
+pub mod Soundness
+pub mod Accounts
 pub mod Examples
