@@ -1,0 +1,116 @@
+//! The public calls on bytes, with their refusals in number order: table,
+//! hall, choices (document 01, "Reasons to turn a request down").
+//!
+//! Where a call is not refused its place is 0, except for a run, whose place
+//! is then the length of the choices.
+
+use crate::choice::Choice;
+use crate::hall::{decode, encode, opening, Hall, HALL_BYTES};
+use crate::moves;
+use crate::run::{run_choices, Tally};
+use crate::table::{read_table, Refusal, Table};
+
+/// A number (0 for none) and a place.
+#[derive(Clone, Copy, Debug, PartialEq, Eq)]
+pub struct Answer {
+    pub number: u8,
+    pub place: usize,
+}
+
+impl Answer {
+    const FINE: Answer = Answer {
+        number: 0,
+        place: 0,
+    };
+}
+
+/// A number (0 for none), a place and the choices done.
+#[derive(Clone, Copy, Debug, PartialEq, Eq)]
+pub struct RunAnswer {
+    pub number: u8,
+    pub place: usize,
+    pub done: usize,
+}
+
+fn answer<T>(result: Result<T, Refusal>) -> Answer {
+    match result {
+        Ok(_) => Answer::FINE,
+        Err(Refusal { number, place }) => Answer { number, place },
+    }
+}
+
+/// Refusals 1 to 9.
+pub fn check_table(table: &[u8]) -> Answer {
+    answer(read_table(table))
+}
+
+/// Refusals 1 to 11.
+pub fn check_hall(table: &[u8], hall: &[u8]) -> Answer {
+    answer(read_both(table, hall))
+}
+
+/// Opens a hall from a table. Writes the whole hall and gives the fresh tally,
+/// or is refused (1 to 10) and writes nothing.
+pub fn open(table: &[u8], hall: &mut [u8]) -> Result<Tally, Refusal> {
+    let table = read_table(table)?;
+    test_hall_length(hall)?;
+    hall.copy_from_slice(&encode(&opening(&table)));
+    Ok(Tally::FRESH)
+}
+
+/// Runs choices. Under refusals 1 to 11 hall and tally stay as they are; under
+/// the others they are as the choices done have made them.
+pub fn run(table: &[u8], hall: &mut [u8], tally: &mut Tally, choices: &[u8]) -> RunAnswer {
+    let (table, before) = match read_both(table, hall) {
+        Ok(both) => both,
+        Err(Refusal { number, place }) => {
+            return RunAnswer {
+                number,
+                place,
+                done: 0,
+            }
+        }
+    };
+    let result = run_choices(&table, &before, *tally, choices);
+    hall.copy_from_slice(&encode(&result.hall));
+    *tally = result.tally;
+    RunAnswer {
+        number: result.number,
+        place: result.place,
+        done: result.done,
+    }
+}
+
+/// All accepted choices of a stored hall, or refusals 1 to 11. A suggestion
+/// may be any of them.
+pub fn accepted_choices(table: &[u8], hall: &[u8]) -> Result<Vec<Choice>, Refusal> {
+    let (table, hall) = read_both(table, hall)?;
+    Ok(moves::accepted_choices(&table, &hall))
+}
+
+/// True when a stored hall has no accepted choice, or refusals 1 to 11.
+pub fn is_still(table: &[u8], hall: &[u8]) -> Result<bool, Refusal> {
+    Ok(accepted_choices(table, hall)?.is_empty())
+}
+
+/// Table and hall of a call, or refusals 1 to 11.
+fn read_both(table: &[u8], hall: &[u8]) -> Result<(Table, Hall), Refusal> {
+    let table = read_table(table)?;
+    test_hall_length(hall)?;
+    let hall = decode(&table, hall).ok_or(Refusal {
+        number: 11,
+        place: 0,
+    })?;
+    Ok((table, hall))
+}
+
+fn test_hall_length(hall: &[u8]) -> Result<(), Refusal> {
+    if hall.len() == HALL_BYTES {
+        Ok(())
+    } else {
+        Err(Refusal {
+            number: 10,
+            place: 0,
+        })
+    }
+}
