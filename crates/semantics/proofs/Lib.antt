@@ -9,4 +9,8 @@ pub mod Moves
 pub mod WellFormedKept
 pub mod Soundness
 pub mod Accounts
+pub mod Communication
+pub mod Completeness
+pub mod AnyOrder
+pub mod Theorems
 pub mod Examples
