@@ -12,5 +12,14 @@ pub mod Accounts
 pub mod Communication
 pub mod Completeness
 pub mod AnyOrder
+pub mod HistoryLists
+pub mod Outcome
+pub mod InnerMoves
+pub mod Simulation
+pub mod PathClause
+pub mod CallsAsOne
+pub mod Abandoned
+pub mod Drive
+pub mod Converse
 pub mod Theorems
 pub mod Examples

@@ -2,13 +2,20 @@
 -- Assumes nothing.
 use Rattle.semantics.specs.Correspondence.{Soundness, RunSoundness, Completeness, CompletenessAnyOrder, StillIsStill, KeepsWellFormed}
 use Rattle.semantics.specs.Accounts.{RunAccounts}
+use Rattle.semantics.specs.InnerMoves.{MovesEnd, MovesGoOn, SettledRests, MovesSettleFirstPath}
+use Rattle.semantics.specs.Atomicity.{AtomicityOfCalls}
 use Rattle.semantics.proofs.GoodTable.{accepted-is-good}
-use Rattle.semantics.proofs.RoundTrip.{stored-fits}
+use Rattle.semantics.proofs.RoundTrip.{stored-fits, read-back, opening-is-well-formed}
 use Rattle.semantics.proofs.WellFormedKept as Kept
 use Rattle.semantics.proofs.Soundness as Sound
 use Rattle.semantics.proofs.Accounts as Counting
 use Rattle.semantics.proofs.Completeness as Complete
 use Rattle.semantics.proofs.AnyOrder as Any
+use Rattle.semantics.proofs.InnerMoves as Inside
+use Rattle.semantics.proofs.Simulation.{Related, step-related, opening-related, related-stations}
+use Rattle.semantics.proofs.CallsAsOne.{StepKept, forward}
+use Rattle.semantics.proofs.Abandoned.{atomic-follows, kept-claims}
+use Rattle.semantics.proofs.Converse.{converse-holds}
 
 -- ---- demand 2
 
@@ -34,3 +41,44 @@ still-is-still = Any.still-is-still keeps-well-formed
 
 pub run-accounts : RunAccounts
 run-accounts = Counting.run-accounts accepted-is-good
+
+-- ---- the moves inside an attempt
+
+pub moves-end : MovesEnd
+moves-end = Inside.moves-end
+
+pub moves-go-on : MovesGoOn
+moves-go-on = Inside.moves-go-on
+
+pub settled-rests : SettledRests
+settled-rests = Inside.settled-rests
+
+pub moves-settle-first-path : MovesSettleFirstPath
+moves-settle-first-path = Inside.moves-settle-first-path
+
+-- ---- demand 3
+
+step-kept : StepKept
+step-kept ts h e r g = Kept.well-formed-step e
+
+pub atomicity-of-calls : AtomicityOfCalls
+unfolding AtomicityOfCalls
+atomicity-of-calls table t accepts buffer size first cs =
+    let f = forward accepted-is-good read-back stored-fits opening-is-well-formed step-kept table t accepts buffer size first cs in
+    let follows = atomic-follows Related step-related t first (opening-related t first) (λ h a r. r .counts) related-stations in
+    let k = kept-claims table t buffer first cs follows (f .whole) (f .hall) in
+    record {
+      never-turned-down = f .never-turned-down;
+      whole = f .whole;
+      hall = f .hall;
+      counts = f .counts;
+      stations = f .stations;
+      tally = f .tally;
+      paths = f .paths;
+      kept-whole = k .kept-whole;
+      kept-hall = k .kept-hall;
+      kept-counts = k .kept-counts;
+      kept-stations = k .kept-stations;
+      kept-commits = k .kept-commits;
+      converse = converse-holds accepted-is-good read-back stored-fits opening-is-well-formed step-kept table t accepts buffer size first cs;
+    }

@@ -8,6 +8,7 @@ use mathlib.Core.List.{List, [], _∷_}
 use lib.ListN.{getElem?}
 use Rattle.calculus.specs.Syntax.{State}
 use Rattle.calculus.specs.Reduction.{Rule}
+use Rattle.semantics.specs.Basics.{replaceAt}
 use Rattle.semantics.specs.Terms.{Expression, endT, retryT, rdT, wtT, orElseT}
 use Rattle.semantics.specs.Table.{Table}
 use Rattle.semantics.specs.Logs.{emptyLog, firstReadable}
@@ -43,13 +44,14 @@ pub data Moves (s : State) : Tree → Tree → Type 0 where
   unmoved : {t : Tree} → Moves s t t
   movedOn : {t u v : Tree} (k : ℕ) (r : Rule) → inner s t k ≡ evolves r u → Moves s u v → Moves s t v
 
--- on every well-formed hall: a move inside the attempt at p lowers its measure and changes no other component
+-- on every well-formed hall: a move inside the attempt at p is one of its nodes', lowers its measure and changes nothing else
 unfoldable pub MovesEnd : Type 0
 unfolding weight
 MovesEnd =
     (bs : List ℕ) (t : Table) → Accepts bs t → (h : Configuration) → WellFormed (t .terms) h → (p k n : ℕ) (M : Expression) (s : State) (u : Tree) →
     getElem? (h .components) p ≡ some (transaction n M s u) → (r : Rule) (g : Configuration) → choose h (inside p k) ≡ moved r g →
-    (v : Tree) × (getElem? (g .components) p ≡ some (transaction n M s v)) × (inner s u k ≡ evolves r v) × (weight v < weight u)
+    (v : Tree) × (inner s u k ≡ evolves r v) × (weight v < weight u) ×
+    (g ≡ record { counts = h .counts; components = replaceAt p (transaction n M s v ∷ []) (h .components) })
 
 -- an attempt that is no single end or retry leaf has a move inside it
 unfoldable pub MovesGoOn : Type 0

@@ -1,0 +1,683 @@
+-- Abandoned attempts never happened (document 01, "The one-step run"): from a history without its abandoned attempts' choices the
+-- same configuration is reached, by the same commits in the same order.
+--
+-- The run without those choices stands, at each point, where the full run stands with every attempt that will be abandoned read
+-- as its block not begun.
+-- Assumes nothing.
+use Prim.Native.Nat.{ℕ, zero, suc, _+_, _-_, _<_}
+use mathlib.Core.Path.{_≡_, refl, sym, ap, ap₂, subst, _∙_}
+use mathlib.Core.Bool.{Bool, true, false, cond}
+use mathlib.Core.Option.{Option, none, some, Option·map}
+use mathlib.Core.List.{List, [], _∷_, _++_, map}
+use native.Mathlib.Omega.{arith}
+use lib.ListN.{length, getElem?}
+use lib.Dec.{leb, eqb}
+use Rattle.calculus.specs.Syntax.{Name, rd, Log, State}
+use Rattle.calculus.specs.Reduction.{Rule, OUT, IN, REP, ATST, ATRE, ATFAIL, ATOK, ARDOK, ARDF, AWR, AOI, AOF, AOE}
+use Rattle.calculus.specs.State.{count, without}
+use Rattle.calculus.specs.Log.{RD, WT}
+use Rattle.semantics.specs.Basics.{replaceAt}
+use Rattle.semantics.specs.Terms.{Expression, endT, retryT, rdT, wtT, orElseT}
+use Rattle.semantics.specs.Table.{Table}
+use Rattle.semantics.specs.Stored.{bytesOf}
+use Rattle.semantics.specs.Logs.{emptyLog, readable, gained, spent}
+use Rattle.semantics.specs.Configuration.{Idle, taking, repeating, block, output, Tree, leaf, fork, Component, idle, transaction, Configuration, opens, opening}
+use Rattle.semantics.specs.Moves.{Entry, act, inside, moves, stays, takes, puts, commits, acts, Inner, evolves, resting, past, atLeaf, reads, atFork, inRight, inLeft, inner, innerLocal, actsInside, Answer, moved, refused, settles, at, choose}
+use Rattle.semantics.specs.Run.{Counters, risen, counted, Step, steps, stepsOn}
+use Rattle.semantics.specs.AtomicRun.{Atomic, atomicStart, fed, fedAll}
+use Rattle.semantics.specs.Calls.{Call}
+use Rattle.semantics.specs.History.{laid, here, doomed, abandons, opensOne, abandonedBy, kept}
+use Rattle.semantics.specs.Atomicity.{unbegun, lastOf, finishes, done, history, atomic, atomicKept, historyKept}
+use Rattle.semantics.proofs.Reading.{true-leb, false-leb, true-eqb, false-eqb}
+use Rattle.semantics.proofs.Lists.{found-below, length-replaceAt}
+use Rattle.semantics.proofs.HistoryLists.{replaceAt-same}
+
+-- ---- attempts read as not begun
+
+-- a component, read as not begun where the first argument says so
+unfoldable pub clear : Bool → Component → Component
+clear true (idle c) = idle c
+clear true (transaction n M s t) = idle (block n M)
+clear false c = c
+
+-- the same of each component, by its position
+unfoldable pub cleared : (ℕ → Bool) → List Component → List Component
+unfolding clear
+cleared d [] = []
+cleared d (c ∷ cs) = clear (d 0) c ∷ cleared (λ j. d (suc j)) cs
+
+-- an idle component stays in any case
+clear-idle : (b : Bool) (c : Idle) → clear b (idle c) ≡ idle c
+unfolding clear
+clear-idle true c = refl
+clear-idle false c = refl
+
+-- where nothing is said to be cleared nothing is
+cleared-none : (cs : List Component) → cleared (λ j. false) cs ≡ cs
+unfolding cleared
+cleared-none [] = refl
+cleared-none (c ∷ cs) = ap (_∷_ c) (cleared-none cs)
+
+-- idle components stay, outputs among them
+cleared-idle : (d : ℕ → Bool) (cs : List Idle) → cleared d (map idle cs) ≡ map idle cs
+unfolding cleared
+cleared-idle d [] = refl
+cleared-idle d (c ∷ cs) = ap₂ _∷_ (clear-idle (d 0) c) (cleared-idle (λ j. d (suc j)) cs)
+
+cleared-outputs : (d : ℕ → Bool) (f : Name → Idle) (bs : List Name) → cleared d (map (λ a. idle (f a)) bs) ≡ map (λ a. idle (f a)) bs
+unfolding cleared
+cleared-outputs d f [] = refl
+cleared-outputs d f (b ∷ bs) = ap₂ _∷_ (clear-idle (d 0) (f b)) (cleared-outputs (λ j. d (suc j)) f bs)
+
+-- how many they are, and which one stands at a position
+cleared-length : (d : ℕ → Bool) (cs : List Component) → length (cleared d cs) ≡ length cs
+unfolding cleared
+cleared-length d [] = refl
+cleared-length d (c ∷ cs) = ap suc (cleared-length (λ j. d (suc j)) cs)
+
+cleared-at : (d : ℕ → Bool) (cs : List Component) (p : ℕ) → getElem? (cleared d cs) p ≡ Option·map (clear (d p)) (getElem? cs p)
+unfolding cleared
+cleared-at d [] p = refl
+cleared-at d (c ∷ cs) zero = refl
+cleared-at d (c ∷ cs) (suc p) = cleared-at (λ j. d (suc j)) cs p
+
+-- two ways to say what is cleared that agree
+cleared-agree : (d e : ℕ → Bool) → ((q : ℕ) → d q ≡ e q) → (cs : List Component) → cleared d cs ≡ cleared e cs
+unfolding cleared
+cleared-agree d e h [] = refl
+cleared-agree d e h (c ∷ cs) = ap₂ _∷_ (ap (λ b. clear b c) (h 0)) (cleared-agree (λ j. d (suc j)) (λ j. e (suc j)) (λ q. h (suc q)) cs)
+
+-- of two lists, the second by its own positions
+cleared-append : (d e : ℕ → Bool) (ys xs : List Component) → ((q : ℕ) → e q ≡ d (q + length ys)) →
+    cleared d (ys ++ xs) ≡ cleared d ys ++ cleared e xs
+unfolding cleared
+cleared-append d e [] xs h = cleared-agree d e (λ q. let k : q ≡ q + 0 = omega arith in ap d k ∙ sym (h q)) xs
+cleared-append d e (y ∷ ys) xs h =
+    ap (_∷_ (clear (d 0) y)) (cleared-append (λ j. d (suc j)) e ys xs (λ q. let k : q + suc (length ys) ≡ suc (q + length ys) = omega arith in h q ∙ ap d k))
+
+-- clearing goes with a replacement, where what is said before it agrees with what is said after it
+cleared-replace : (d e : ℕ → Bool) (p : ℕ) (ys xs : List Component) →
+    ((q : ℕ) → q < p → e q ≡ d q) → ((q : ℕ) → p < q → e q ≡ d (q + length ys - 1)) →
+    cleared d (replaceAt p ys xs) ≡ replaceAt p (cleared (λ j. d (p + j)) ys) (cleared e xs)
+unfolding cleared replaceAt
+cleared-replace d e p ys [] before behind = refl
+cleared-replace d e zero ys (x ∷ xs) before behind =
+    cleared-append d (λ j. e (suc j)) ys xs (λ q. let k : suc q + length ys - 1 ≡ q + length ys = omega arith in behind (suc q) (omega arith) ∙ ap d k)
+    ∙ ap
+    (λ zs. zs ++ cleared (λ j. e (suc j)) xs)
+    (cleared-agree d (λ j. d (0 + j)) (λ q. let k : q ≡ 0 + q = omega arith in ap d k) ys)
+cleared-replace d e (suc p) ys (x ∷ xs) before behind =
+    ap₂
+    _∷_
+    (ap (λ b. clear b x) (sym (before 0 (omega arith))))
+    (cleared-replace
+    (λ j. d (suc j))
+    (λ j. e (suc j))
+    p
+    ys
+    xs
+    (λ q h. before (suc q) (omega arith))
+    (λ q h. let k : suc q + length ys - 1 ≡ suc (q + length ys - 1) = omega arith in behind (suc q) (omega arith) ∙ ap d k)
+    ∙ ap
+    (λ zs. replaceAt p zs (cleared (λ j. e (suc j)) xs))
+    (cleared-agree (λ j. d (suc (p + j))) (λ j. d (suc p + j)) (λ q. let k : suc (p + q) ≡ suc p + q = omega arith in ap d k) ys))
+
+-- ---- one step
+
+-- a configuration with the attempts that the future abandons read as not begun
+unfoldable pub clearedBy : List Step → Configuration → Configuration
+unfolding cleared doomed
+clearedBy future h = record { counts = h .counts; components = cleared (λ q. doomed q future) (h .components) }
+
+-- what is said of a position before a step, against what is said of the position that its component has afterwards
+doomed-before : (s : Step) (future : List Step) (p q : ℕ) → s .chosen ≡ act p → q < p → doomed q (s ∷ future) ≡ doomed q future
+unfolding doomed
+doomed-before s future p q e h = rw (e, true-leb (suc q) p h)
+
+doomed-here : (s : Step) (future : List Step) (p : ℕ) → s .chosen ≡ act p → doomed p (s ∷ future) ≡ abandons (s .rule)
+unfolding doomed
+doomed-here s future p e = rw (e, false-leb (suc p) p (omega arith), true-eqb p)
+
+doomed-behind : (s : Step) (future : List Step) (p q : ℕ) → s .chosen ≡ act p → p < q → doomed q (s ∷ future) ≡ doomed (q + laid s - 1) future
+unfolding doomed
+doomed-behind s future p q e h = rw (e, false-leb (suc q) p (omega arith), false-eqb q p (λ k. omega arith))
+
+-- the step by a rule at an entry
+abbrev stepBy : Configuration → Entry → Rule → Configuration → Step
+stepBy h e r f = record { chosen = e; rule = r; before = h; result = f }
+
+-- a choice at a component that is there
+act-chosen : (g : Configuration) (p : ℕ) (c : Component) → getElem? (g .components) p ≡ some c → choose g (act p) ≡ settles p (acts (g .counts) c) g
+unfolding choose
+act-chosen g p c e = rw e
+
+inside-chosen : (g : Configuration) (p k : ℕ) (c : Component) → getElem? (g .components) p ≡ some c →
+    choose g (inside p k) ≡ settles p (actsInside (g .counts) c k) g
+unfolding choose
+inside-chosen g p k c e = rw e
+
+-- the log that a rule commits
+unfoldable pub commitOf : Rule → List Log
+commitOf (OUT a) = []
+commitOf (IN a) = []
+commitOf (REP a) = []
+commitOf ATST = []
+commitOf ATRE = []
+commitOf ATFAIL = []
+commitOf (ATOK δ) = δ ∷ []
+commitOf ARDOK = []
+commitOf ARDF = []
+commitOf AWR = []
+commitOf AOI = []
+commitOf AOF = []
+commitOf AOE = []
+
+-- what a step is in the run without abandoned attempts: nothing, where it belongs to one, else the same step
+abbrev Shadow : Configuration → Entry → List Step → Rule → Configuration → Bool → Type 0
+Shadow h e future r f true = (clearedBy (stepBy h e r f ∷ future) h ≡ clearedBy future f) × (commitOf r ≡ [])
+Shadow h e future r f false = choose (clearedBy (stepBy h e r f ∷ future) h) e ≡ moved r (clearedBy future f)
+
+abbrev Shadows : Configuration → Entry → List Step → Answer → Type 0
+Shadows h e future (moved r f) = Shadow h e future r f (abandonedBy r e future)
+Shadows h e future (refused n) = Unit {0}
+
+module _ (h : Configuration) (p : ℕ) (c : Component) (found : getElem? (h .components) p ≡ some c) (future : List Step) where
+  -- what a move of that component leaves
+  abbrev leaves : State → List Component → Configuration
+  leaves σ ys = record { counts = σ; components = replaceAt p ys (h .components) }
+
+  -- a step lays down as many components as its move gives
+  laid-length : (e : Entry) (r : Rule) (σ : State) (ys : List Component) → laid (stepBy h e r (leaves σ ys)) ≡ length ys
+  unfolding laid
+  laid-length e r σ ys = let k = length-replaceAt (h .components) ys p (found-below (h .components) p c found) in omega arith
+
+  -- what an act leaves, cleared for the future, is the same replacement in what it met, cleared for the future with that act
+  act-cleared : (r : Rule) (σ : State) (ys : List Component) →
+      cleared (λ q. doomed q future) (replaceAt p ys (h .components))
+      ≡ replaceAt p (cleared (λ j. doomed (p + j) future) ys) (cleared (λ q. doomed q (stepBy h (act p) r (leaves σ ys) ∷ future)) (h .components))
+  act-cleared r σ ys =
+      let s : Step = stepBy h (act p) r (leaves σ ys) in
+      cleared-replace
+      (λ q. doomed q future)
+      (λ q. doomed q (s ∷ future))
+      p
+      ys
+      (h .components)
+      (λ q k. doomed-before s future p q refl k)
+      (λ q k. doomed-behind s future p q refl k ∙ ap (λ n. doomed (q + n - 1) future) (laid-length (act p) r σ ys))
+
+  -- the same of a move inside, which changes no position
+  inside-cleared : (k : ℕ) (r : Rule) (σ : State) (y : Component) →
+      cleared (λ q. doomed q future) (replaceAt p (y ∷ []) (h .components))
+      ≡ replaceAt p (cleared (λ j. doomed (p + j) future) (y ∷ [])) (cleared (λ q. doomed q (stepBy h (inside p k) r (leaves σ (y ∷ [])) ∷ future)) (h .components))
+  unfolding doomed
+  inside-cleared k r σ y =
+      cleared-replace
+      (λ q. doomed q future)
+      (λ q. doomed q future)
+      p
+      (y ∷ [])
+      (h .components)
+      (λ q j. refl)
+      (λ q j. let i : q ≡ q + 1 - 1 = omega arith in ap (λ n. doomed n future) i)
+
+  -- a step with the same component and the same move in both runs
+  same-step : (e : Entry) (r : Rule) (σ : State) (ys : List Component) → abandonedBy r e future ≡ false →
+      ((g : Configuration) → g .counts ≡ h .counts → getElem? (g .components) p ≡ some c → choose g e ≡ settles p (moves r σ ys) g) →
+      cleared (λ j. doomed (p + j) future) ys ≡ ys → clear (doomed p (stepBy h e r (leaves σ ys) ∷ future)) c ≡ c →
+      cleared (λ q. doomed q future) (replaceAt p ys (h .components))
+      ≡ replaceAt p (cleared (λ j. doomed (p + j) future) ys) (cleared (λ q. doomed q (stepBy h e r (leaves σ ys) ∷ future)) (h .components)) →
+      Shadows h e future (settles p (moves r σ ys) h)
+  unfolding settles clearedBy
+  same-step e r σ ys lasts chosen ys-stay c-stays behind = go (leb (length (replaceAt p ys (h .components))) 64) refl
+    where
+      doomedNow : ℕ → Bool
+      doomedNow q = doomed q (stepBy h e r (leaves σ ys) ∷ future)
+
+      found-cleared : getElem? (cleared doomedNow (h .components)) p ≡ some c
+      found-cleared = cleared-at doomedNow (h .components) p ∙ rw found (ap {B = Option Component} some c-stays)
+
+      replaced : replaceAt p ys (cleared doomedNow (h .components)) ≡ cleared (λ q. doomed q future) (replaceAt p ys (h .components))
+      replaced = sym (behind ∙ ap (λ zs. replaceAt p zs (cleared doomedNow (h .components))) ys-stay)
+
+      go : (b : Bool) → leb (length (replaceAt p ys (h .components))) 64 ≡ b → Shadows h e future (cond b (moved r (leaves σ ys)) (refused 19))
+      go true small =
+          rw lasts (chosen (record { counts = h .counts; components = cleared doomedNow (h .components) }) refl found-cleared ∙ rw (replaced, cleared-length, small))
+      go false large = tt
+
+  -- a step of an abandoned attempt: its component, cleared, is the same before and after it
+  skipped-step : (e : Entry) (r : Rule) (y : Component) → abandonedBy r e future ≡ true → commitOf r ≡ [] →
+      clear (doomed p (stepBy h e r (leaves (h .counts) (y ∷ [])) ∷ future)) c ≡ clear (doomed p future) y →
+      cleared (λ q. doomed q future) (replaceAt p (y ∷ []) (h .components))
+      ≡ replaceAt
+      p
+      (cleared (λ j. doomed (p + j) future) (y ∷ []))
+      (cleared (λ q. doomed q (stepBy h e r (leaves (h .counts) (y ∷ [])) ∷ future)) (h .components)) →
+      Shadows h e future (settles p (moves r (h .counts) (y ∷ [])) h)
+  unfolding settles clearedBy cleared
+  skipped-step e r y belongs no-commit c-same behind = go (leb (length (replaceAt p (y ∷ []) (h .components))) 64)
+    where
+      doomedNow : ℕ → Bool
+      doomedNow q = doomed q (stepBy h e r (leaves (h .counts) (y ∷ [])) ∷ future)
+
+      found-cleared : getElem? (cleared doomedNow (h .components)) p ≡ some (clear (doomed (p + 0) future) y)
+      found-cleared =
+          let k : p ≡ p + 0 = omega arith in
+          cleared-at doomedNow (h .components) p ∙ rw found (ap {B = Option Component} some (c-same ∙ ap (λ q. clear (doomed q future) y) k))
+
+      same : cleared doomedNow (h .components) ≡ cleared (λ q. doomed q future) (replaceAt p (y ∷ []) (h .components))
+      same = sym (behind ∙ replaceAt-same (cleared doomedNow (h .components)) p (clear (doomed (p + 0) future) y) found-cleared)
+
+      go : (b : Bool) → Shadows h e future (cond b (moved r (leaves (h .counts) (y ∷ []))) (refused 19))
+      go true = rw belongs (λ i. record { counts = h .counts; components = same i }, no-commit)
+      go false = tt
+
+  -- both for an act, which abandons the component's attempt exactly where its rule does
+  same-act : (r : Rule) (σ : State) (ys : List Component) → acts (h .counts) c ≡ moves r σ ys → abandonedBy r (act p) future ≡ false →
+      cleared (λ j. doomed (p + j) future) ys ≡ ys → clear (abandons r) c ≡ c → Shadows h (act p) future (settles p (moves r σ ys) h)
+  same-act r σ ys move lasts ys-stay c-stays =
+      same-step
+      (act p)
+      r
+      σ
+      ys
+      lasts
+      (λ g counts there. act-chosen g p c there ∙ rw (counts, move))
+      ys-stay
+      (rw (doomed-here (stepBy h (act p) r (leaves σ ys)) future p refl) c-stays)
+      (act-cleared r σ ys)
+
+  skipped-act : (r : Rule) (y : Component) → abandonedBy r (act p) future ≡ true → commitOf r ≡ [] →
+      clear (abandons r) c ≡ clear (doomed p future) y → Shadows h (act p) future (settles p (moves r (h .counts) (y ∷ [])) h)
+  skipped-act r y belongs no-commit c-same =
+      skipped-step
+      (act p)
+      r
+      y
+      belongs
+      no-commit
+      (rw (doomed-here (stepBy h (act p) r (leaves (h .counts) (y ∷ []))) future p refl) c-same)
+      (act-cleared r (h .counts) (y ∷ []))
+
+module _ (h : Configuration) (p : ℕ) (future : List Step) where
+  -- an act of an idle component that leaves idle ones
+  idle-act : (x : Idle) → getElem? (h .components) p ≡ some (idle x) → (r : Rule) (σ : State) (cs : List Idle) →
+      acts (h .counts) (idle x) ≡ moves r σ (map idle cs) → abandonedBy r (act p) future ≡ false → Shadows h (act p) future (settles p (moves r σ (map idle cs)) h)
+  idle-act x found r σ cs e lasts =
+      same-act h p (idle x) found future r σ (map idle cs) e lasts (cleared-idle (λ j. doomed (p + j) future) cs) (clear-idle (abandons r) x)
+
+  -- a take, an output
+  takes-act : (x : Idle) → getElem? (h .components) p ≡ some (idle x) → (a : Name) (r : Rule) (cs : List Idle) →
+      acts (h .counts) (idle x) ≡ takes (h .counts) a r cs → abandonedBy r (act p) future ≡ false → Shadows h (act p) future (settles p (takes (h .counts) a r cs) h)
+  unfolding takes settles
+  takes-act x found a r cs e lasts = go (eqb (count (h .counts) a) 0) refl
+    where
+      go : (b : Bool) → eqb (count (h .counts) a) 0 ≡ b →
+          Shadows h (act p) future (settles p (cond b (stays 18) (moves r (spent (h .counts) a) (map idle cs))) h)
+      go true t = tt
+      go false t = idle-act x found r (spent (h .counts) a) cs (e ∙ rw t) lasts
+
+  puts-act : (a : Name) → getElem? (h .components) p ≡ some (idle (output a)) → Shadows h (act p) future (settles p (puts (h .counts) a) h)
+  unfolding puts settles acts abandonedBy
+  puts-act a found = go (leb 255 (count (h .counts) a)) refl
+    where
+      go : (b : Bool) → leb 255 (count (h .counts) a) ≡ b → Shadows h (act p) future (settles p (cond b (stays 20) (moves (OUT a) (gained (h .counts) a) [])) h)
+      go true t = tt
+      go false t = idle-act (output a) found (OUT a) (gained (h .counts) a) [] (rw t) refl
+
+  -- an attempt opens: where it will be abandoned nothing changes
+  opens-act : (n : ℕ) (M : Expression) → getElem? (h .components) p ≡ some (idle (block n M)) →
+      Shadows h (act p) future (settles p (moves ATST (h .counts) (transaction n M (h .counts) (leaf M emptyLog) ∷ [])) h)
+  unfolding acts abandonedBy cleared clear commitOf
+  opens-act n M found = go (doomed p future) refl
+    where
+      begun : Component
+      begun = transaction n M (h .counts) (leaf M emptyLog)
+
+      go : (b : Bool) → doomed p future ≡ b → Shadows h (act p) future (settles p (moves ATST (h .counts) (begun ∷ [])) h)
+      go true d = skipped-act h p (idle (block n M)) found future ATST begun d refl (rw d)
+      go false d =
+          let here : p + 0 ≡ p = omega arith in
+          same-act h p (idle (block n M)) found future ATST (h .counts) (begun ∷ []) refl d (rw (here, d)) refl
+
+  -- an attempt is abandoned: nothing changes
+  abandons-act : (n : ℕ) (M : Expression) (s : State) (t : Tree) → getElem? (h .components) p ≡ some (transaction n M s t) → (r : Rule) →
+      opensOne r ≡ false → abandons r ≡ true → commitOf r ≡ [] → Shadows h (act p) future (settles p (moves r (h .counts) (idle (block n M) ∷ [])) h)
+  unfolding abandonedBy clear
+  abandons-act n M s t found r late ends no-commit =
+      let same : clear (abandons r) (transaction n M s t) ≡ clear (doomed p future) (idle (block n M)) = rw ends (sym (clear-idle (doomed p future) (block n M))) in
+      skipped-act h p (transaction n M s t) found future r (idle (block n M)) (rw (late, ends)) no-commit same
+
+  -- an attempt commits: it was not to be abandoned
+  commits-act : (n : ℕ) (M : Expression) (s : State) (e : ℕ) (δ : Log) → getElem? (h .components) p ≡ some (transaction n M s (leaf (endT e) δ)) →
+      Shadows h (act p) future (settles p (commits (h .counts) n M δ) h)
+  unfolding commits acts abandonedBy clear commitOf
+  commits-act n M s e δ found = go (readable (h .counts) δ) refl
+    where
+      c : Component
+      c = transaction n M s (leaf (endT e) δ)
+
+      σ : State
+      σ = without (h .counts) (RD δ)
+
+      ys : List Component
+      ys = map (λ a. idle (output a)) (WT δ)
+
+      go : (b : Bool) → readable (h .counts) δ ≡ b →
+          Shadows h (act p) future (settles p (cond b (moves (ATOK δ) σ ys) (moves ATFAIL (h .counts) (idle (block n M) ∷ []))) h)
+      go true t = same-act h p c found future (ATOK δ) σ ys (rw t) refl (cleared-outputs (λ j. doomed (p + j) future) output (WT δ)) refl
+      go false t = abandons-act n M s (leaf (endT e) δ) found ATFAIL refl refl refl
+
+  -- every act
+  act-shadows : (c : Component) → getElem? (h .components) p ≡ some c → Shadows h (act p) future (settles p (acts (h .counts) c) h)
+  unfolding acts abandonedBy settles commitOf
+  act-shadows (idle (taking n a P)) found = takes-act (taking n a P) found a (IN a) (opens P) refl refl
+  act-shadows (idle (repeating n a P)) found = takes-act (repeating n a P) found a (REP a) (opens P ++ (repeating n a P ∷ [])) refl refl
+  act-shadows (idle (block n M)) found = opens-act n M found
+  act-shadows (idle (output a)) found = puts-act a found
+  act-shadows (transaction n M s (leaf (endT e) δ)) found = commits-act n M s e δ found
+  act-shadows (transaction n M s (leaf (retryT e) δ)) found = abandons-act n M s (leaf (retryT e) δ) found ATRE refl refl refl
+  act-shadows (transaction n M s (leaf (rdT e a N) δ)) found = tt
+  act-shadows (transaction n M s (leaf (wtT e a N) δ)) found = tt
+  act-shadows (transaction n M s (leaf (orElseT e N N′) δ)) found = tt
+  act-shadows (transaction n M s (fork l r)) found = tt
+
+-- no move inside an attempt commits
+abbrev NoCommit : Inner → Type 0
+NoCommit (evolves r t) = commitOf r ≡ []
+NoCommit resting = Unit {0}
+NoCommit (past k) = Unit {0}
+
+leaf-no-commit : (s : State) (M : Expression) (δ : Log) → NoCommit (atLeaf s M δ)
+unfolding atLeaf reads commitOf
+leaf-no-commit s (endT n) δ = tt
+leaf-no-commit s (retryT n) δ = tt
+leaf-no-commit s (rdT n a M) δ = go (readable s (δ ++ (rd a ∷ [])))
+  where
+    go : (b : Bool) → NoCommit (cond b (evolves ARDOK (leaf M (δ ++ (rd a ∷ [])))) (evolves ARDF (leaf (retryT 255) δ)))
+    go true = refl
+    go false = refl
+leaf-no-commit s (wtT n a M) δ = refl
+leaf-no-commit s (orElseT n M N) δ = refl
+
+fork-no-commit : (l r : Tree) → NoCommit (atFork l r)
+unfolding atFork commitOf
+fork-no-commit (leaf (endT n) δ) r = refl
+fork-no-commit (leaf (retryT n) δ) r = refl
+fork-no-commit (leaf (rdT n a M) δ) r = tt
+fork-no-commit (leaf (wtT n a M) δ) r = tt
+fork-no-commit (leaf (orElseT n M N) δ) r = tt
+fork-no-commit (fork l m) r = tt
+
+right-no-commit : (l : Tree) (i : Inner) → NoCommit i → NoCommit (inRight l i)
+unfolding inRight
+right-no-commit l (evolves r t) h = h
+right-no-commit l resting h = tt
+right-no-commit l (past k) h = tt
+
+left-no-commit : (r : Tree) (i : Inner) (next : ℕ → Inner) → NoCommit i → ((j : ℕ) → NoCommit (next j)) → NoCommit (inLeft r i next)
+unfolding inLeft
+left-no-commit r (evolves e t) next h k = h
+left-no-commit r resting next h k = tt
+left-no-commit r (past j) next h k = k j
+
+inner-no-commit : (s : State) (t : Tree) (k : ℕ) → NoCommit (inner s t k)
+unfolding inner
+inner-no-commit s (leaf M δ) zero = leaf-no-commit s M δ
+inner-no-commit s (leaf M δ) (suc k) = tt
+inner-no-commit s (fork l r) zero = fork-no-commit l r
+inner-no-commit s (fork l r) (suc k) =
+    left-no-commit r (inner s l k) (λ j. inRight l (inner s r j)) (inner-no-commit s l k) (λ j. right-no-commit l (inner s r j) (inner-no-commit s r j))
+
+module _ (h : Configuration) (p k : ℕ) (future : List Step) where
+  -- a move inside an attempt: nothing where it will be abandoned, else the same move
+  evolves-inside : (n : ℕ) (M : Expression) (s : State) (t u : Tree) (r : Rule) → getElem? (h .components) p ≡ some (transaction n M s t) →
+      inner s t k ≡ evolves r u → commitOf r ≡ [] → Shadows h (inside p k) future (settles p (moves r (h .counts) (transaction n M s u ∷ [])) h)
+  unfolding abandonedBy cleared clear actsInside innerLocal doomed
+  evolves-inside n M s t u r found evolved no-commit = go (doomed p future) refl
+    where
+      go : (b : Bool) → doomed p future ≡ b → Shadows h (inside p k) future (settles p (moves r (h .counts) (transaction n M s u ∷ [])) h)
+      go true d =
+          skipped-step
+          h
+          p
+          (transaction n M s t)
+          found
+          future
+          (inside p k)
+          r
+          (transaction n M s u)
+          d
+          no-commit
+          (rw d)
+          (inside-cleared h p (transaction n M s t) found future k r (h .counts) (transaction n M s u))
+      go false d =
+          same-step
+          h
+          p
+          (transaction n M s t)
+          found
+          future
+          (inside p k)
+          r
+          (h .counts)
+          (transaction n M s u ∷ [])
+          d
+          (λ g counts there. inside-chosen g p k (transaction n M s t) there ∙ rw (evolved, counts))
+          (let i : p + 0 ≡ p = omega arith in rw (i, d))
+          (rw d)
+          (inside-cleared h p (transaction n M s t) found future k r (h .counts) (transaction n M s u))
+
+  -- every choice inside
+  inside-shadows : (c : Component) → getElem? (h .components) p ≡ some c → Shadows h (inside p k) future (settles p (actsInside (h .counts) c k) h)
+  unfolding actsInside innerLocal settles
+  inside-shadows (idle c) found = tt
+  inside-shadows (transaction n M s t) found = go (inner s t k) refl (inner-no-commit s t k)
+    where
+      go : (i : Inner) → inner s t k ≡ i → NoCommit i → Shadows h (inside p k) future (settles p (innerLocal (h .counts) n M s i) h)
+      go (evolves r u) e no-commit = evolves-inside n M s t u r found e no-commit
+      go resting e no-commit = tt
+      go (past j) e no-commit = tt
+
+-- every choice: refused, or a step with its shadow in the run without abandoned attempts
+shadows : (h : Configuration) (e : Entry) (future : List Step) → Shadows h e future (choose h e)
+unfolding choose at
+shadows h (act p) future = go (getElem? (h .components) p) refl
+  where
+    go : (o : Option Component) → getElem? (h .components) p ≡ o → Shadows h (act p) future (at o (λ c. settles p (acts (h .counts) c) h))
+    go none e = tt
+    go (some c) e = act-shadows h p future c e
+shadows h (inside p k) future = go (getElem? (h .components) p) refl
+  where
+    go : (o : Option Component) → getElem? (h .components) p ≡ o → Shadows h (inside p k) future (at o (λ c. settles p (actsInside (h .counts) c k) h))
+    go none e = tt
+    go (some c) e = inside-shadows h p k future c e
+
+-- ---- the whole history
+
+-- the logs committed, in order
+unfoldable pub commitsIn : List Step → List Log
+unfolding commitOf
+commitsIn [] = []
+commitsIn (s ∷ ss) = commitOf (s .rule) ++ commitsIn ss
+
+-- the kept choices of a history are all accepted from g, to the same last configuration, with the same commits
+pub record KeptFrom (g h : Configuration) (history : List Step) : Type 0 where
+  pub whole : length (steps g (kept history)) ≡ length (kept history)
+  pub last : lastOf g (steps g (kept history)) ≡ lastOf h history
+  pub commits : commitsIn (steps g (kept history)) ≡ commitsIn history
+
+-- where nothing is done, and where one more step is
+nothing-done : (h : Configuration) → KeptFrom (clearedBy [] h) h []
+unfolding steps kept clearedBy doomed commitsIn
+nothing-done h = record { whole = refl; last = λ i. record { counts = h .counts; components = cleared-none (h .components) i }; commits = refl }
+
+step-done : (h : Configuration) (e : Entry) (r : Rule) (f : Configuration) (future : List Step) → Shadow h e future r f (abandonedBy r e future) →
+    KeptFrom (clearedBy future f) f future → KeptFrom (clearedBy (stepBy h e r f ∷ future) h) h (stepBy h e r f ∷ future)
+unfolding kept steps stepsOn commitsIn
+step-done h e r f future = go (abandonedBy r e future) refl
+  where
+    go : (b : Bool) → abandonedBy r e future ≡ b → Shadow h e future r f b → KeptFrom (clearedBy future f) f future →
+        KeptFrom (clearedBy (stepBy h e r f ∷ future) h) h (stepBy h e r f ∷ future)
+    go true b s k = record { whole = rw (b, s .0) (k .whole); last = rw (b, s .0) (k .last); commits = rw (b, s .0, s .1) (k .commits) }
+    go false b s k = record { whole = rw (b, s) (ap suc (k .whole)); last = rw (b, s) (k .last); commits = rw (b, s) (ap (_++_ (commitOf r)) (k .commits)) }
+
+-- From any configuration, without its attempts that will be abandoned.
+pub kept-from-cleared : (h : Configuration) (es : List Entry) → KeptFrom (clearedBy (steps h es) h) h (steps h es)
+unfolding steps
+kept-from-cleared h [] = nothing-done h
+kept-from-cleared h (e ∷ es) = go (choose h e) (λ future. shadows h e future) (λ f. kept-from-cleared f es)
+  where
+    next : Rule → Configuration → List Step
+    next r f = stepBy h e r f ∷ steps f es
+
+    go : (a : Answer) → ((future : List Step) → Shadows h e future a) → ((f : Configuration) → KeptFrom (clearedBy (steps f es) f) f (steps f es)) →
+        KeptFrom (clearedBy (stepsOn a next) h) h (stepsOn a next)
+    go (moved r f) s rest = step-done h e r f (steps f es) (s (steps f es)) (rest f)
+    go (refused n) s rest = nothing-done h
+
+-- where nothing that has begun will be abandoned, clearing changes nothing
+cleared-all : (d : ℕ → Bool) (cs : List Component) →
+    ((q n : ℕ) (M : Expression) (s : State) (t : Tree) → getElem? cs q ≡ some (transaction n M s t) → d q ≡ false) → cleared d cs ≡ cs
+unfolding cleared clear
+cleared-all d [] h = refl
+cleared-all d (idle c ∷ cs) h = ap₂ _∷_ (clear-idle (d 0) c) (cleared-all (λ j. d (suc j)) cs (λ q. h (suc q)))
+cleared-all d (transaction n M s t ∷ cs) h = ap₂ _∷_ (rw (h 0 n M s t refl)) (cleared-all (λ j. d (suc j)) cs (λ q. h (suc q)))
+
+-- From a configuration with no attempt that will be abandoned: the kept choices are all accepted, to the same end.
+pub kept-runs : (h : Configuration) (es : List Entry) →
+    ((q n : ℕ) (M : Expression) (s : State) (t : Tree) → getElem? (h .components) q ≡ some (transaction n M s t) → doomed q (steps h es) ≡ false) →
+    KeptFrom h h (steps h es)
+unfolding clearedBy
+kept-runs h es spared =
+    let same : clearedBy (steps h es) h ≡ h =
+    λ i. record { counts = h .counts; components = cleared-all (λ q. doomed q (steps h es)) (h .components) spared i } in
+    subst (λ g. KeptFrom g h (steps h es)) same (kept-from-cleared h es)
+
+-- From a configuration with no attempt at all.
+pub kept-runs-idle : (σ : State) (cs : List Idle) (es : List Entry) →
+    let h : Configuration = record { counts = σ; components = map idle cs } in KeptFrom h h (steps h es)
+unfolding clearedBy
+kept-runs-idle σ cs es =
+    let h : Configuration = record { counts = σ; components = map idle cs } in
+    let same : clearedBy (steps h es) h ≡ h = λ i. record { counts = σ; components = cleared-idle (λ q. doomed q (steps h es)) cs i } in
+    subst (λ g. KeptFrom g h (steps h es)) same (kept-from-cleared h es)
+
+-- From the opening.
+pub kept-runs-opening : (t : Table) (es : List Entry) → KeptFrom (opening t) (opening t) (steps (opening t) es)
+unfolding opening
+kept-runs-opening t es = kept-runs-idle (t .tokens) (opens (t .start)) es
+
+-- ---- the counters
+
+-- the counters after the rules of some steps
+unfoldable pub tallied : Counters → List Step → Counters
+unfolding counted
+tallied c [] = c
+tallied c (s ∷ ss) = tallied (counted (s .rule) c) ss
+
+-- a count of commits after some logs were committed
+commitsAfter : ℕ → List Log → ℕ
+commitsAfter n [] = n
+commitsAfter n (δ ∷ δs) = commitsAfter (risen n) δs
+
+-- each rule counts what it commits, and so do the rules of some steps
+counted-commits : (r : Rule) (c : Counters) (δs : List Log) → commitsAfter (counted r c .commits) δs ≡ commitsAfter (c .commits) (commitOf r ++ δs)
+unfolding counted commitOf commitsAfter
+counted-commits (OUT a) c δs = refl
+counted-commits (IN a) c δs = refl
+counted-commits (REP a) c δs = refl
+counted-commits ATST c δs = refl
+counted-commits ATRE c δs = refl
+counted-commits ATFAIL c δs = refl
+counted-commits (ATOK δ) c δs = refl
+counted-commits ARDOK c δs = refl
+counted-commits ARDF c δs = refl
+counted-commits AWR c δs = refl
+counted-commits AOI c δs = refl
+counted-commits AOF c δs = refl
+counted-commits AOE c δs = refl
+
+tallied-commits : (ss : List Step) (c : Counters) → tallied c ss .commits ≡ commitsAfter (c .commits) (commitsIn ss)
+unfolding tallied commitsIn commitsAfter
+tallied-commits [] c = refl
+tallied-commits (s ∷ ss) c = tallied-commits ss (counted (s .rule) c) ∙ counted-commits (s .rule) c (commitsIn ss)
+
+-- Two lists of steps with the same commits count the same commits.
+pub same-commits : (c : Counters) (ss us : List Step) → commitsIn ss ≡ commitsIn us → tallied c ss .commits ≡ tallied c us .commits
+same-commits c ss us e = tallied-commits ss c ∙ ap (commitsAfter (c .commits)) e ∙ sym (tallied-commits us c)
+
+-- ---- in the claim's terms
+
+-- The one-step run over accepted choices follows the run: its counts, its stations not begun, the counters of its rules.
+pub record AtomicFollows (t : Table) (first : Counters) (es : List Entry) : Type 0 where
+  pub counts : fedAll (atomicStart t first) es .counts ≡ lastOf (opening t) (steps (opening t) es) .counts
+  pub stations : map (λ x. x .station) (fedAll (atomicStart t first) es .stations) ≡ map unbegun (lastOf (opening t) (steps (opening t) es) .components)
+  pub tally : fedAll (atomicStart t first) es .counters ≡ tallied first (steps (opening t) es)
+
+-- It does, where some relation between configurations and one-step runs holds at the start, is kept by each accepted choice with
+-- its rule counted, and says that counts and stations agree.
+module _
+    (Agrees : Configuration → Atomic → Type 0)
+    (step-agrees : (h : Configuration) (a : Atomic) (e : Entry) (r : Rule) (g : Configuration) → Agrees h a → choose h e ≡ moved r g →
+    Agrees g (fed a e) × ((fed a e) .counters ≡ counted r (a .counters)))
+  where
+    steps-agree : (es : List Entry) (h : Configuration) (a : Atomic) → Agrees h a → length (steps h es) ≡ length es →
+        Agrees (lastOf h (steps h es)) (fedAll a es) × (fedAll a es .counters ≡ tallied (a .counters) (steps h es))
+    unfolding steps stepsOn fedAll tallied
+    steps-agree [] h a agrees whole = (agrees, refl)
+    steps-agree (e ∷ es) h a agrees whole = go (choose h e) refl whole (λ g b. steps-agree es g b)
+      where
+        next : Rule → Configuration → List Step
+        next r g = stepBy h e r g ∷ steps g es
+
+        go : (answer : Answer) → choose h e ≡ answer → length (stepsOn answer next) ≡ suc (length es) →
+            ((g : Configuration) (b : Atomic) → Agrees g b → length (steps g es) ≡ length es →
+            Agrees (lastOf g (steps g es)) (fedAll b es) × (fedAll b es .counters ≡ tallied (b .counters) (steps g es))) →
+            Agrees (lastOf h (stepsOn answer next)) (fedAll (fed a e) es) × (fedAll (fed a e) es .counters ≡ tallied (a .counters) (stepsOn answer next))
+        go (moved r g) q w rest =
+            let k = step-agrees h a e r g agrees q in
+            let m = rest g (fed a e) (k .0) (omega arith) in (m .0, m .1 ∙ ap (λ c. tallied c (steps g es)) (k .1))
+        go (refused n) q w rest = absurd (omega arith)
+
+    pub atomic-follows : (t : Table) (first : Counters) → Agrees (opening t) (atomicStart t first) →
+        ((h : Configuration) (a : Atomic) → Agrees h a → h .counts ≡ a .counts) →
+        ((h : Configuration) (a : Atomic) → Agrees h a → map unbegun (h .components) ≡ map (λ x. x .station) (a .stations)) →
+        (es : List Entry) → length (steps (opening t) es) ≡ length es → AtomicFollows t first es
+    unfolding atomicStart
+    atomic-follows t first start same-counts same-stations es whole =
+        let k = steps-agree es (opening t) (atomicStart t first) start whole in
+        let last = lastOf (opening t) (steps (opening t) es) in
+        let end = fedAll (atomicStart t first) es in
+        record { counts = sym (same-counts last end (k .0)); stations = sym (same-stations last end (k .0)); tally = k .1 }
+
+module _ (table : List ℕ) (t : Table) (buffer : List ℕ) (first : Counters) (cs : List Call) where
+  -- the claims about the run without abandoned attempts
+  pub record KeptClaims : Type 0 where
+    pub kept-whole : length (historyKept table t buffer first cs) ≡ length (kept (history table t buffer first cs))
+    pub kept-hall : bytesOf (lastOf (opening t) (historyKept table t buffer first cs)) ≡ finishes table t buffer first cs .hall
+    pub kept-counts : atomicKept table t buffer first cs .counts ≡ atomic table t buffer first cs .counts
+    pub kept-stations :
+        map (λ x. x .station) (atomicKept table t buffer first cs .stations) ≡ map (λ x. x .station) (atomic table t buffer first cs .stations)
+    pub kept-commits : atomicKept table t buffer first cs .counters .commits ≡ atomic table t buffer first cs .counters .commits
+
+  -- Abandoned attempts never happened, where the one-step run follows every list of accepted choices.
+  pub kept-claims : ((es : List Entry) → length (steps (opening t) es) ≡ length es → AtomicFollows t first es) →
+      length (history table t buffer first cs) ≡ length (done table t buffer first cs) →
+      finishes table t buffer first cs .hall ≡ bytesOf (lastOf (opening t) (history table t buffer first cs)) → KeptClaims
+  unfolding history historyKept atomic atomicKept
+  kept-claims follows whole hall =
+      let es = done table t buffer first cs in
+      let k = kept-runs-opening t es in
+      let before = follows es whole in
+      let after = follows (kept (steps (opening t) es)) (k .whole) in
+      record {
+        kept-whole = k .whole;
+        kept-hall = ap bytesOf (k .last) ∙ sym hall;
+        kept-counts = after .counts ∙ ap (λ h. h .counts) (k .last) ∙ sym (before .counts);
+        kept-stations = after .stations ∙ ap (λ h. map unbegun (h .components)) (k .last) ∙ sym (before .stations);
+        kept-commits =
+            ap (λ c. c .commits) (after .tally)
+            ∙ same-commits first (steps (opening t) (kept (steps (opening t) es))) (steps (opening t) es) (k .commits)
+            ∙ sym (ap (λ c. c .commits) (before .tally));
+      }

@@ -1,0 +1,313 @@
+-- The forward half of demand 3: a list of calls, whatever it refuses on the way, is one run of the choices done from the
+-- opening, and that run keeps pace with the atomic run.
+-- Assumes nothing; what other files prove of tables and stored halls stands in the signatures.
+use Prim.Native.Nat.{ℕ, zero, suc, _+_, _≤_}
+use native.Mathlib.Omega.{arith}
+use mathlib.Core.Path.{_≡_, refl, sym, ap, _∙_}
+use mathlib.Core.Logic.{_⊎_, inl, inr}
+use mathlib.Core.Bool.{Bool, true, false, cond}
+use mathlib.Core.Option.{Option, none, some}
+use mathlib.Core.List.{List, [], _∷_, _++_, map}
+use lib.ListN.{length, take, getElem?}
+use lib.Dec.{leb, eqb}
+use Rattle.calculus.specs.Syntax.{Name, State}
+use Rattle.calculus.specs.State.{count, without}
+use Rattle.calculus.specs.Log.{RD, WT}
+use Rattle.calculus.specs.Reduction.{Rule, OUT, ATFAIL, ATOK}
+use Rattle.semantics.specs.Basics.{All, replaceAt}
+use Rattle.semantics.specs.Terms.{Expression, endT, retryT, rdT, wtT, orElseT, Term}
+use Rattle.semantics.specs.Table.{Table, accepted, readTable}
+use Rattle.semantics.specs.Logs.{readable, gained, spent}
+use Rattle.semantics.specs.Configuration.{Idle, taking, repeating, block, output, Tree, leaf, fork, Component, idle, transaction, Configuration, opening, opens}
+use Rattle.semantics.specs.Stored.{WellFormed, hallBytes, bytesOf}
+use Rattle.semantics.specs.Moves.{Entry, act, inside, Answer, moved, refused, settles, at, choose, Local, moves, stays, takes, puts, ends, acts, actsInside, Inner, evolves, resting, past, inner, innerLocal}
+use Rattle.semantics.specs.Run.{Item, entry, malformed, schedule, entries, Counters, counted, RunAnswer, goesOn, runFrom, run, steps}
+use Rattle.semantics.specs.AtomicRun.{Atomic, atomicStart, fed, fedAll}
+use Rattle.semantics.specs.Calls.{admitted, formTested, sizeTested, tableTested, admission, openSized, openTested, Lent, RunCall, ranOn, runAdmitted, runCall, Call, runChoices, called, calls, callEntries, doneIn}
+use Rattle.semantics.specs.Correspondence.{Accepts}
+use Rattle.semantics.specs.Atomicity.{unbegun, lastOf, answers, firstLent, CommitsOk, begins, finishes, done, history, atomic}
+use Rattle.semantics.specs.GoodTable.{GoodTable}
+use Rattle.semantics.specs.StoredClaims.{AcceptedIsGood, ReadBack, StoredFits, OpeningIsWellFormed}
+use Rattle.semantics.proofs.Reading.{true-eqb}
+use Rattle.semantics.proofs.Simulation.{Related, related-stations, opening-related, step-related}
+use Rattle.semantics.proofs.PathClause.{steps-commit, opening-known}
+
+-- ---- refusals of choices are 12 and above
+
+-- a refusal by a component's move is 12 or above
+abbrev pub LocalHigh : Local → Type 0
+LocalHigh (moves r σ cs) = Unit {0}
+LocalHigh (stays n) = 12 ≤ n
+
+-- a refusal of a choice
+abbrev pub AnswerHigh : Answer → Type 0
+AnswerHigh (moved r g) = Unit {0}
+AnswerHigh (refused n) = 12 ≤ n
+
+-- a refusal of a schedule's bytes
+abbrev pub ItemHigh : Item → Type 0
+ItemHigh (entry e w) = Unit {0}
+ItemHigh (malformed n) = 12 ≤ n
+
+-- IN and REP
+takes-high : (σ : State) (a : Name) (r : Rule) (cs : List Idle) → LocalHigh (takes σ a r cs)
+unfolding takes
+takes-high σ a r cs = go (eqb (count σ a) 0)
+  where
+    go : (b : Bool) → LocalHigh (cond b (stays 18) (moves r (spent σ a) (map idle cs)))
+    go true = omega arith
+    go false = tt
+
+-- OUT
+puts-high : (σ : State) (a : Name) → LocalHigh (puts σ a)
+unfolding puts
+puts-high σ a = go (leb 255 (count σ a))
+  where
+    go : (b : Bool) → LocalHigh (cond b (stays 20) (moves (OUT a) (gained σ a) []))
+    go true = omega arith
+    go false = tt
+
+-- at an attempt's nodes
+ends-high : (σ : State) (n : ℕ) (M : Expression) (t : Tree) → LocalHigh (ends σ n M t)
+unfolding ends
+ends-high σ n M (leaf (endT e) δ) = go (readable σ δ)
+  where
+    go : (b : Bool) → LocalHigh
+        (cond b (moves (ATOK δ) (without σ (RD δ)) (map (λ a. idle (output a)) (WT δ))) (moves ATFAIL σ (idle (block n M) ∷ [])))
+    go true = tt
+    go false = tt
+ends-high σ n M (leaf (retryT e) δ) = tt
+ends-high σ n M (leaf (rdT e a N) δ) = omega arith
+ends-high σ n M (leaf (wtT e a N) δ) = omega arith
+ends-high σ n M (leaf (orElseT e N N′) δ) = omega arith
+ends-high σ n M (fork l r) = omega arith
+
+-- kind 1
+acts-high : (σ : State) (c : Component) → LocalHigh (acts σ c)
+unfolding acts
+acts-high σ (idle (taking n a P)) = takes-high σ a _ (opens P)
+acts-high σ (idle (repeating n a P)) = takes-high σ a _ (opens P ++ (repeating n a P ∷ []))
+acts-high σ (idle (block n M)) = tt
+acts-high σ (idle (output a)) = puts-high σ a
+acts-high σ (transaction n M s t) = ends-high σ n M t
+
+-- kind 2
+inside-high : (σ : State) (c : Component) (k : ℕ) → LocalHigh (actsInside σ c k)
+unfolding actsInside innerLocal
+inside-high σ (idle c) k = omega arith
+inside-high σ (transaction n M s t) k = go (inner s t k)
+  where
+    go : (i : Inner) → LocalHigh (innerLocal σ n M s i)
+    go (evolves r u) = tt
+    go resting = omega arith
+    go (past j) = omega arith
+
+-- at a position
+settles-high : (p : ℕ) (l : Local) (h : Configuration) → LocalHigh l → AnswerHigh (settles p l h)
+unfolding settles
+settles-high p (stays n) h i = i
+settles-high p (moves r σ cs) h i = go (leb (length (replaceAt p cs (h .components))) 64)
+  where
+    go : (b : Bool) → AnswerHigh (cond b (moved r (record { counts = σ; components = replaceAt p cs (h .components) })) (refused 19))
+    go true = tt
+    go false = omega arith
+
+-- of any choice
+choose-high : (h : Configuration) (e : Entry) → AnswerHigh (choose h e)
+unfolding choose
+choose-high h (act p) = go (getElem? (h .components) p)
+  where
+    go : (o : Option Component) → AnswerHigh (at o (λ c. settles p (acts (h .counts) c) h))
+    go none = omega arith
+    go (some c) = settles-high p (acts (h .counts) c) h (acts-high (h .counts) c)
+choose-high h (inside p k) = go (getElem? (h .components) p)
+  where
+    go : (o : Option Component) → AnswerHigh (at o (λ c. settles p (actsInside (h .counts) c k) h))
+    go none = omega arith
+    go (some c) = settles-high p (actsInside (h .counts) c k) h (inside-high (h .counts) c k)
+
+-- of any bytes
+schedule-high : (bs : List ℕ) → All ItemHigh (schedule bs)
+unfolding schedule
+schedule-high [] = tt
+schedule-high (zero ∷ bs) = (omega arith, tt)
+schedule-high (suc zero ∷ []) = (omega arith, tt)
+schedule-high (suc zero ∷ p ∷ bs) = (tt, schedule-high bs)
+schedule-high (suc (suc zero) ∷ []) = (omega arith, tt)
+schedule-high (suc (suc zero) ∷ p ∷ []) = (omega arith, tt)
+schedule-high (suc (suc zero) ∷ p ∷ k ∷ bs) = (tt, schedule-high bs)
+schedule-high (suc (suc (suc k)) ∷ bs) = (omega arith, tt)
+
+-- ---- entries done
+
+-- entries accepted one after another, from one configuration and counters to others
+pub data Runs : Configuration → Counters → List Entry → Configuration → Counters → Type 0 where
+  rested : {h : Configuration} {c : Counters} → Runs h c [] h c
+  ran : {h g k : Configuration} {c d : Counters} {e : Entry} {es : List Entry} {r : Rule} →
+      choose h e ≡ moved r g → Runs g (counted r c) es k d → Runs h c (e ∷ es) k d
+
+-- entries done behind entries done
+pub runs-append : {h g k : Configuration} {c d f : Counters} {es fs : List Entry} → Runs h c es g d → Runs g d fs k f → Runs h c (es ++ fs) k f
+runs-append rested y = y
+runs-append (ran q x) y = ran q (runs-append x y)
+
+-- the steps of accepted entries are all of them, and lead where they lead
+pub runs-steps : {h g : Configuration} {c d : Counters} {es : List Entry} → Runs h c es g d →
+    (length (steps h es) ≡ length es) × (lastOf h (steps h es) ≡ g)
+unfolding steps
+runs-steps rested = (refl, refl)
+runs-steps (ran q x) = let i = runs-steps x in rw q (ap suc (i .0), i .1)
+
+-- the atomic run keeps pace
+pub runs-related : {h g : Configuration} {c d : Counters} {es : List Entry} → Runs h c es g d → (a : Atomic) → Related h a → a .counters ≡ c →
+    Related g (fedAll a es) × ((fedAll a es) .counters ≡ d)
+unfolding fedAll
+runs-related rested a rel e = (rel, e)
+runs-related (ran {e = x} {r = r} q y) a rel e =
+    let s = step-related _ a x r _ rel q in runs-related y (fed a x) (s .0) (s .1 ∙ ap (counted r) e)
+
+-- what every accepted choice keeps, the entries done keep
+pub runs-keep : (P : Configuration → Type 0) → ((h : Configuration) (e : Entry) (r : Rule) (g : Configuration) → P h → choose h e ≡ moved r g → P g) →
+    {h g : Configuration} {c d : Counters} {es : List Entry} → Runs h c es g d → P h → P g
+runs-keep P step rested p = p
+runs-keep P step (ran {h = h} {g = g} {e = e} {r = r} q x) p = runs-keep P step x (step h e r g p q)
+
+-- a call's answer is no refusal of 1 to 11
+abbrev pub NotTurnedDown : ℕ → Type 0
+NotTurnedDown n = (n ≡ 0) ⊎ (12 ≤ n)
+
+-- what a run over items from h with so many entries done before it answers
+pub record RunTells (h : Configuration) (c : Counters) (before : ℕ) (items : List Item) (a : RunAnswer) : Type 0 where
+  pub more : ℕ
+  pub done : a .done ≡ before + more
+  pub runs : Runs h c (take more (entries items)) (a .configuration) (a .counters)
+  pub number : NotTurnedDown (a .number)
+
+-- the rest of a run does the entries that it counts, and refuses with 0 or with 12 and above
+run-from-tells : (items : List Item) → All ItemHigh items → (h : Configuration) (c : Counters) (p d : ℕ) → RunTells h c d items (runFrom h c p d items)
+unfolding runFrom entries
+run-from-tells [] high h c p d = record { more = 0; done = omega arith; runs = rested; number = inl refl }
+run-from-tells (malformed n ∷ items) high h c p d = record { more = 0; done = omega arith; runs = rested; number = inr (high .0) }
+run-from-tells (entry e w ∷ items) high h c p d = go (choose h e) refl (choose-high h e) (λ g k. run-from-tells items (high .1) g k (p + w) (suc d))
+  where
+    go : (a : Answer) → choose h e ≡ a → AnswerHigh a → ((g : Configuration) (k : Counters) → RunTells g k (suc d) items (runFrom g k (p + w) (suc d) items)) →
+        RunTells h c d (entry e w ∷ items)
+        (goesOn a (λ n. record { number = n; place = p; done = d; configuration = h; counters = c }) (λ r g. runFrom g (counted r c) (p + w) (suc d) items))
+    go (moved r g) q i rest =
+        let t = rest g (counted r c) in
+        record { more = suc (t .more); done = t .done ∙ omega arith; runs = ran q (t .runs); number = t .number }
+    go (refused n) q i rest = record { more = 0; done = omega arith; runs = rested; number = inr i }
+
+-- a run over choice bytes
+pub run-tells : (h : Configuration) (c : Counters) (bs : List ℕ) →
+    Runs h c (take ((run h c bs) .done) (entries (schedule bs))) ((run h c bs) .configuration) ((run h c bs) .counters) × NotTurnedDown ((run h c bs) .number)
+unfolding run
+run-tells h c bs =
+    let t = run-from-tells (schedule bs) (schedule-high bs) h c 0 0 in
+    let e : t .more ≡ (run h c bs) .done = let d = t .done in omega arith in
+    (rw (← e) (t .runs), t .number)
+
+-- ---- calls
+
+-- an accepted choice keeps a configuration well formed
+abbrev pub StepKept : Type 0
+StepKept =
+    (ts : List Term) (h : Configuration) (e : Entry) (r : Rule) (g : Configuration) → GoodTable ts → WellFormed ts h → choose h e ≡ moved r g →
+    WellFormed ts g
+
+module _ (back : ReadBack) (fits : StoredFits) (step-kept : StepKept) (table : List ℕ) (t : Table) (reads : readTable table ≡ accepted t)
+    (good : GoodTable (t .terms)) where
+  -- the stored bytes of a well-formed configuration are admitted
+  stored-admitted : (h : Configuration) → WellFormed (t .terms) h → admission table (bytesOf h) ≡ admitted t h
+  unfolding admission
+  stored-admitted h w =
+      ap (tableTested (bytesOf h)) reads ∙
+      ap (sizeTested t (bytesOf h)) (ap (λ n. eqb n hallBytes) (fits (t .terms) h good w .1) ∙ true-eqb hallBytes) ∙
+      ap (formTested t) (back (t .terms) h good w)
+
+  -- a call on them is a run
+  stored-run : (l : Lent) (h : Configuration) → l .hall ≡ bytesOf h → WellFormed (t .terms) h → (bs : List ℕ) →
+      runCall table l bs ≡ ranOn (run h (l .counters) bs)
+  unfolding runCall
+  stored-run l h e w bs = ap (runAdmitted l bs) (ap (admission table) e ∙ stored-admitted h w)
+
+  -- what a call on a stored configuration answers and leaves
+  record CallTells (l : Lent) (h : Configuration) (c : Call) (a : RunCall) : Type 0 where
+    after : Configuration
+    well-formed : WellFormed (t .terms) after
+    hall : a .lent .hall ≡ bytesOf after
+    runs : Runs h (l .counters) (take (a .done) (callEntries c)) after (a .lent .counters)
+    number : NotTurnedDown (a .number)
+
+  -- each call does the choices that it counts, to the hall that it leaves
+  call-tells : (l : Lent) (h : Configuration) → l .hall ≡ bytesOf h → WellFormed (t .terms) h → (c : Call) → CallTells l h c (called table l c)
+  unfolding called callEntries ranOn
+  call-tells l h e w (runChoices bs) = rw (stored-run l h e w bs) told
+    where
+      a : RunAnswer
+      a = run h (l .counters) bs
+
+      told : CallTells l h (runChoices bs) (ranOn a)
+      told =
+          let r = run-tells h (l .counters) bs in
+          let w′ = runs-keep (WellFormed (t .terms)) (λ h e r g w q. step-kept (t .terms) h e r g good w q) (r .0) w in
+          record { after = a .configuration; well-formed = w′; hall = refl; runs = r .0; number = r .1 }
+
+  -- what a list of calls does: the entries done are one run
+  pub record CallsTell (l : Lent) (h : Configuration) (cs : List Call) : Type 0 where
+    pub after : Configuration
+    pub hall : (calls table l cs) .hall ≡ bytesOf after
+    pub runs : Runs h (l .counters) (doneIn table l cs) after ((calls table l cs) .counters)
+    pub numbers : All (λ a. NotTurnedDown (a .number)) (answers table l cs)
+
+  -- the calls, one after another, are one run of the choices done
+  pub calls-tell : (l : Lent) (h : Configuration) → l .hall ≡ bytesOf h → WellFormed (t .terms) h → (cs : List Call) → CallsTell l h cs
+  unfolding calls doneIn answers
+  calls-tell l h e w [] = record { after = h; hall = e; runs = rested; numbers = tt }
+  calls-tell l h e w (c ∷ cs) =
+      let one = call-tells l h e w c in
+      let rest = calls-tell ((called table l c) .lent) (one .after) (one .hall) (one .well-formed) cs in
+      record { after = rest .after; hall = rest .hall; runs = runs-append (one .runs) (rest .runs); numbers = (one .number, rest .numbers) }
+
+-- ---- the forward half of demand 3
+
+-- the hall that opening gives
+opened-hall : (table : List ℕ) (t : Table) → readTable table ≡ accepted t → (buffer : List ℕ) → length buffer ≡ hallBytes → (first : Counters) →
+    (firstLent table buffer first) .hall ≡ bytesOf (opening t)
+unfolding firstLent openTested
+opened-hall table t reads buffer size first =
+    ap (λ a. (openTested buffer a) .hall) reads ∙
+    ap (λ b. (openSized t buffer b) .hall) (ap (λ n. eqb n hallBytes) size ∙ true-eqb hallBytes)
+
+module _ (table : List ℕ) (t : Table) (buffer : List ℕ) (first : Counters) (cs : List Call) where
+  -- those fields of demand 3 that speak of the calls themselves
+  pub record Forward : Type 0 where
+    pub never-turned-down : All (λ a. NotTurnedDown (a .number)) (answers table (begins table t buffer first cs) cs)
+    pub whole : length (history table t buffer first cs) ≡ length (done table t buffer first cs)
+    pub hall : (finishes table t buffer first cs) .hall ≡ bytesOf (lastOf (opening t) (history table t buffer first cs))
+    pub counts : lastOf (opening t) (history table t buffer first cs) .counts ≡ (atomic table t buffer first cs) .counts
+    pub stations :
+        map unbegun (lastOf (opening t) (history table t buffer first cs) .components)
+        ≡ map (λ x. x .station) ((atomic table t buffer first cs) .stations)
+    pub tally : (finishes table t buffer first cs) .counters ≡ (atomic table t buffer first cs) .counters
+    pub paths : CommitsOk [] (history table t buffer first cs)
+
+-- of every accepted table, buffer of a hall's size, first tally and list of calls
+pub forward : AcceptedIsGood → ReadBack → StoredFits → OpeningIsWellFormed → StepKept →
+    (table : List ℕ) (t : Table) → Accepts table t → (buffer : List ℕ) → length buffer ≡ hallBytes → (first : Counters) (cs : List Call) →
+    Forward table t buffer first cs
+unfolding begins finishes done history atomic
+forward good back fits opening-kept step-kept table t accepts buffer size first cs =
+    let all = calls-tell back fits step-kept table t (accepts .1) (good table t (accepts .1)) (firstLent table buffer first) (opening t)
+    (opened-hall table t (accepts .1) buffer size first) (opening-kept table t (accepts .0) (accepts .1)) cs in
+    let stepped = runs-steps (all .runs) in
+    let paced = runs-related (all .runs) (atomicStart t first) (opening-related t first) refl in
+    record {
+      never-turned-down = all .numbers;
+      whole = stepped .0;
+      hall = all .hall ∙ ap bytesOf (sym (stepped .1));
+      counts = ap (λ h. h .counts) (stepped .1) ∙ paced .0 .counts;
+      stations = ap (λ h. map unbegun (h .components)) (stepped .1) ∙ related-stations _ _ (paced .0);
+      tally = sym (paced .1);
+      paths = steps-commit (doneIn table (firstLent table buffer first) cs) [] (opening t) (opening-known t);
+    }
