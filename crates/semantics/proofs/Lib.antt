@@ -21,5 +21,9 @@ pub mod CallsAsOne
 pub mod Abandoned
 pub mod Drive
 pub mod Converse
+pub mod ChoiceConditions
+pub mod TableConditions
+pub mod HallConditions
+pub mod RunConditions
 pub mod Theorems
 pub mod Examples

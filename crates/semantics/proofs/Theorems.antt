@@ -4,8 +4,9 @@ use Rattle.semantics.specs.Correspondence.{Soundness, RunSoundness, Comp
 use Rattle.semantics.specs.Accounts.{RunAccounts}
 use Rattle.semantics.specs.InnerMoves.{MovesEnd, MovesGoOn, SettledRests, MovesSettleFirstPath}
 use Rattle.semantics.specs.Atomicity.{AtomicityOfCalls}
+use Rattle.semantics.specs.Conditions.{TableNumbers, MissingAtLength, HallNumbers, OpenNumbers, ChoiceNumbers, RunNumbers, OneReason}
 use Rattle.semantics.proofs.GoodTable.{accepted-is-good}
-use Rattle.semantics.proofs.RoundTrip.{stored-fits, read-back, opening-is-well-formed}
+use Rattle.semantics.proofs.RoundTrip.{stored-fits, read-back, read-is-well-formed, opening-is-well-formed}
 use Rattle.semantics.proofs.WellFormedKept as Kept
 use Rattle.semantics.proofs.Soundness as Sound
 use Rattle.semantics.proofs.Accounts as Counting
@@ -16,6 +17,10 @@ use Rattle.semantics.proofs.Simulation.{Related, step-related, opening-
 use Rattle.semantics.proofs.CallsAsOne.{StepKept, forward}
 use Rattle.semantics.proofs.Abandoned.{atomic-follows, kept-claims}
 use Rattle.semantics.proofs.Converse.{converse-holds}
+use Rattle.semantics.proofs.TableConditions as OnTables
+use Rattle.semantics.proofs.HallConditions as OnHalls
+use Rattle.semantics.proofs.ChoiceConditions as OnChoices
+use Rattle.semantics.proofs.RunConditions as OnRuns
 
 -- ---- demand 2
 
@@ -82,3 +87,27 @@ atomicity-of-calls table t accepts buffer size first cs =
       kept-commits = k .kept-commits;
       converse = converse-holds accepted-is-good read-back stored-fits opening-is-well-formed step-kept table t accepts buffer size first cs;
     }
+
+-- ---- the numbered conditions
+
+pub table-numbers : TableNumbers
+table-numbers = OnTables.table-numbers
+
+pub missing-at-length : MissingAtLength
+unfolding MissingAtLength
+missing-at-length = OnTables.missing-at-length
+
+pub hall-numbers : HallNumbers
+hall-numbers = OnHalls.hall-numbers accepted-is-good read-back read-is-well-formed
+
+pub open-numbers : OpenNumbers
+open-numbers = OnHalls.open-numbers
+
+pub choice-numbers : ChoiceNumbers
+choice-numbers = OnChoices.choice-numbers
+
+pub run-numbers : RunNumbers
+run-numbers = OnRuns.run-numbers
+
+pub one-reason : OneReason
+one-reason = OnRuns.one-reason

@@ -82,6 +82,10 @@ TableRefused bs n q =
     (p : ℕ) × (r : Reading) × (offset : ℕ) × Reached bs p r × TableCondition r n offset (drop p bs) ×
     ((m o : ℕ) → m < n → TableCondition r m o (drop p bs) → ⊥) × (q ≡ p + offset)
 
+-- where a table ends without a start record the place is its length
+unfoldable pub MissingAtLength : Type 0
+MissingAtLength = (bs : List ℕ) (p : ℕ) (r : Reading) → Reached bs p r → drop p bs ≡ [] → p ≡ length bs
+
 -- accepted with a start record that meets none, at the end
 unfoldable pub TableAccepted : List ℕ → Table → Type 0
 TableAccepted bs t =
@@ -115,8 +119,10 @@ HallNumbers =
 -- opening tests the table and the size alone; refused, it leaves every byte
 unfoldable pub OpenNumbers : Type 0
 OpenNumbers =
-    (table hall : List ℕ) (n p : ℕ) → ((openHall table hall) .answer ≡ notOpened n p) ↔
-    ((readTable table ≡ refusedAt n p) ⊎ ((t : Table) × (readTable table ≡ accepted t) × (length hall ≢ hallBytes) × (n ≡ 10) × (p ≡ 0)))
+    (table hall : List ℕ) (n p : ℕ) →
+    (((openHall table hall) .answer ≡ notOpened n p) ↔
+    ((readTable table ≡ refusedAt n p) ⊎ ((t : Table) × (readTable table ≡ accepted t) × (length hall ≢ hallBytes) × (n ≡ 10) × (p ≡ 0)))) ×
+    ((openHall table hall) .answer ≡ notOpened n p → (openHall table hall) .hall ≡ hall)
 
 -- ---- 12 to 20: a choice
 
