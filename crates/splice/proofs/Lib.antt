@@ -1,0 +1,2 @@
+-- The laws of `written`, `fit` and `spliced`; those of the last serve whoever splices.
+pub mod Laws

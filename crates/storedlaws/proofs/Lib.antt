@@ -1,0 +1,4 @@
+pub mod Cursors
+pub mod Trees
+pub mod Components
+pub mod Halls
