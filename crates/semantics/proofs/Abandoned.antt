@@ -1,36 +1,37 @@
 -- Abandoned attempts never happened (document 01, "The one-step run"): from a history without its abandoned attempts' choices the
--- same configuration is reached, by the same commits in the same order.
+-- same configuration is reached, by the same effects in the same order, and nothing abandoned is left in it.
 --
 -- The run without those choices stands, at each point, where the full run stands with every attempt that will be abandoned read
 -- as its block not begun.
 -- Assumes nothing.
 use Prim.Native.Nat.{ℕ, zero, suc, _+_, _-_, _<_}
 use mathlib.Core.Path.{_≡_, refl, sym, ap, ap₂, subst, _∙_}
-use mathlib.Core.Bool.{Bool, true, false, cond}
+use mathlib.Core.Bool.{Bool, true, false, cond, true≢false}
 use mathlib.Core.Option.{Option, none, some, Option·map}
 use mathlib.Core.List.{List, [], _∷_, _++_, map}
 use native.Mathlib.Omega.{arith}
 use lib.ListN.{length, getElem?}
 use lib.Dec.{leb, eqb}
-use Rattle.calculus.specs.Syntax.{Name, rd, Log, State}
+use Rattle.calculus.specs.Syntax.{Name, Log, State}
 use Rattle.calculus.specs.Reduction.{Rule, OUT, IN, REP, ATST, ATRE, ATFAIL, ATOK, ARDOK, ARDF, AWR, AOI, AOF, AOE}
 use Rattle.calculus.specs.State.{count, without}
 use Rattle.calculus.specs.Log.{RD, WT}
-use Rattle.semantics.specs.Basics.{replaceAt}
+use Rattle.semantics.specs.Basics.{All, replaceAt}
 use Rattle.semantics.specs.Terms.{Expression, endT, retryT, rdT, wtT, orElseT}
 use Rattle.semantics.specs.Table.{Table}
 use Rattle.semantics.specs.Stored.{bytesOf}
 use Rattle.semantics.specs.Logs.{emptyLog, readable, gained, spent}
 use Rattle.semantics.specs.Configuration.{Idle, taking, repeating, block, output, Tree, leaf, fork, Component, idle, transaction, Configuration, opens, opening}
-use Rattle.semantics.specs.Moves.{Entry, act, inside, moves, stays, takes, puts, commits, acts, Inner, evolves, resting, past, atLeaf, reads, atFork, inRight, inLeft, inner, innerLocal, actsInside, Answer, moved, refused, settles, at, choose}
-use Rattle.semantics.specs.Run.{Counters, risen, counted, Step, steps, stepsOn}
+use Rattle.semantics.specs.Moves.{Entry, act, inside, moves, stays, takes, puts, commits, acts, Inner, evolves, resting, past, inner, innerLocal, actsInside, Answer, moved, refused, settles, at, choose}
+use Rattle.semantics.specs.Run.{Counters, counted, Step, steps, stepsOn}
 use Rattle.semantics.specs.AtomicRun.{Atomic, atomicStart, fed, fedAll}
 use Rattle.semantics.specs.Calls.{Call}
-use Rattle.semantics.specs.History.{laid, here, doomed, abandons, opensOne, abandonedBy, kept}
+use Rattle.semantics.specs.History.{laid, doomed, abandons, opensOne, abandonedBy, kept, effect, effects}
 use Rattle.semantics.specs.Atomicity.{unbegun, lastOf, finishes, done, history, atomic, atomicKept, historyKept}
 use Rattle.semantics.proofs.Reading.{true-leb, false-leb, true-eqb, false-eqb}
 use Rattle.semantics.proofs.Lists.{found-below, length-replaceAt}
 use Rattle.semantics.proofs.HistoryLists.{replaceAt-same}
+use Rattle.semantics.proofs.InnerMoves.{InnerRule, ByInnerRule, inner-rule}
 
 -- ---- attempts read as not begun
 
@@ -156,30 +157,49 @@ inside-chosen : (g : Configuration) (p k : ℕ) (c : Component) → getElem? (g 
 unfolding choose
 inside-chosen g p k c e = rw e
 
--- the log that a rule commits
-unfoldable pub commitOf : Rule → List Log
-commitOf (OUT a) = []
-commitOf (IN a) = []
-commitOf (REP a) = []
-commitOf ATST = []
-commitOf ATRE = []
-commitOf ATFAIL = []
-commitOf (ATOK δ) = δ ∷ []
-commitOf ARDOK = []
-commitOf ARDF = []
-commitOf AWR = []
-commitOf AOI = []
-commitOf AOF = []
-commitOf AOE = []
-
--- what a step is in the run without abandoned attempts: nothing, where it belongs to one, else the same step
+-- what a step is in the run without abandoned attempts: nothing, where it belongs to one, else the same step, by a rule that
+-- abandons nothing
 abbrev Shadow : Configuration → Entry → List Step → Rule → Configuration → Bool → Type 0
-Shadow h e future r f true = (clearedBy (stepBy h e r f ∷ future) h ≡ clearedBy future f) × (commitOf r ≡ [])
-Shadow h e future r f false = choose (clearedBy (stepBy h e r f ∷ future) h) e ≡ moved r (clearedBy future f)
+Shadow h e future r f true = (clearedBy (stepBy h e r f ∷ future) h ≡ clearedBy future f) × (effect r ≡ [])
+Shadow h e future r f false = (choose (clearedBy (stepBy h e r f ∷ future) h) e ≡ moved r (clearedBy future f)) × (abandons r ≡ false)
 
 abbrev Shadows : Configuration → Entry → List Step → Answer → Type 0
 Shadows h e future (moved r f) = Shadow h e future r f (abandonedBy r e future)
 Shadows h e future (refused n) = Unit {0}
+
+-- an act that belongs to no abandoned attempt abandons nothing
+kept-abandons-none : (r : Rule) (p : ℕ) (future : List Step) → abandonedBy r (act p) future ≡ false → abandons r ≡ false
+unfolding abandonedBy
+kept-abandons-none (OUT a) p future e = refl
+kept-abandons-none (IN a) p future e = refl
+kept-abandons-none (REP a) p future e = refl
+kept-abandons-none ATST p future e = refl
+kept-abandons-none ATRE p future e = e
+kept-abandons-none ATFAIL p future e = e
+kept-abandons-none (ATOK δ) p future e = refl
+kept-abandons-none ARDOK p future e = refl
+kept-abandons-none ARDF p future e = refl
+kept-abandons-none AWR p future e = refl
+kept-abandons-none AOI p future e = refl
+kept-abandons-none AOF p future e = refl
+kept-abandons-none AOE p future e = refl
+
+-- a move inside has no effect and abandons nothing
+inner-plain : (r : Rule) → InnerRule r → (effect r ≡ []) × (abandons r ≡ false)
+unfolding effect abandons
+inner-plain (OUT a) i = absurd i
+inner-plain (IN a) i = absurd i
+inner-plain (REP a) i = absurd i
+inner-plain ATST i = absurd i
+inner-plain ATRE i = absurd i
+inner-plain ATFAIL i = absurd i
+inner-plain (ATOK δ) i = absurd i
+inner-plain ARDOK i = (refl, refl)
+inner-plain ARDF i = (refl, refl)
+inner-plain AWR i = (refl, refl)
+inner-plain AOI i = (refl, refl)
+inner-plain AOF i = (refl, refl)
+inner-plain AOE i = (refl, refl)
 
 module _ (h : Configuration) (p : ℕ) (c : Component) (found : getElem? (h .components) p ≡ some c) (future : List Step) where
   -- what a move of that component leaves
@@ -222,14 +242,14 @@ module _ (h : Configuration) (p : ℕ) (c : Component) (found : getElem? (h .com
       (λ q j. let i : q ≡ q + 1 - 1 = omega arith in ap (λ n. doomed n future) i)
 
   -- a step with the same component and the same move in both runs
-  same-step : (e : Entry) (r : Rule) (σ : State) (ys : List Component) → abandonedBy r e future ≡ false →
+  same-step : (e : Entry) (r : Rule) (σ : State) (ys : List Component) → abandonedBy r e future ≡ false → abandons r ≡ false →
       ((g : Configuration) → g .counts ≡ h .counts → getElem? (g .components) p ≡ some c → choose g e ≡ settles p (moves r σ ys) g) →
       cleared (λ j. doomed (p + j) future) ys ≡ ys → clear (doomed p (stepBy h e r (leaves σ ys) ∷ future)) c ≡ c →
       cleared (λ q. doomed q future) (replaceAt p ys (h .components))
       ≡ replaceAt p (cleared (λ j. doomed (p + j) future) ys) (cleared (λ q. doomed q (stepBy h e r (leaves σ ys) ∷ future)) (h .components)) →
       Shadows h e future (settles p (moves r σ ys) h)
   unfolding settles clearedBy
-  same-step e r σ ys lasts chosen ys-stay c-stays behind = go (leb (length (replaceAt p ys (h .components))) 64) refl
+  same-step e r σ ys lasts abandons-none chosen ys-stay c-stays behind = go (leb (length (replaceAt p ys (h .components))) 64) refl
     where
       doomedNow : ℕ → Bool
       doomedNow q = doomed q (stepBy h e r (leaves σ ys) ∷ future)
@@ -242,11 +262,14 @@ module _ (h : Configuration) (p : ℕ) (c : Component) (found : getElem? (h .com
 
       go : (b : Bool) → leb (length (replaceAt p ys (h .components))) 64 ≡ b → Shadows h e future (cond b (moved r (leaves σ ys)) (refused 19))
       go true small =
-          rw lasts (chosen (record { counts = h .counts; components = cleared doomedNow (h .components) }) refl found-cleared ∙ rw (replaced, cleared-length, small))
+          rw lasts (
+            chosen (record { counts = h .counts; components = cleared doomedNow (h .components) }) refl found-cleared ∙ rw (replaced, cleared-length, small),
+            abandons-none,
+          )
       go false large = tt
 
   -- a step of an abandoned attempt: its component, cleared, is the same before and after it
-  skipped-step : (e : Entry) (r : Rule) (y : Component) → abandonedBy r e future ≡ true → commitOf r ≡ [] →
+  skipped-step : (e : Entry) (r : Rule) (y : Component) → abandonedBy r e future ≡ true → effect r ≡ [] →
       clear (doomed p (stepBy h e r (leaves (h .counts) (y ∷ [])) ∷ future)) c ≡ clear (doomed p future) y →
       cleared (λ q. doomed q future) (replaceAt p (y ∷ []) (h .components))
       ≡ replaceAt
@@ -255,7 +278,7 @@ module _ (h : Configuration) (p : ℕ) (c : Component) (found : getElem? (h .com
       (cleared (λ q. doomed q (stepBy h e r (leaves (h .counts) (y ∷ [])) ∷ future)) (h .components)) →
       Shadows h e future (settles p (moves r (h .counts) (y ∷ [])) h)
   unfolding settles clearedBy cleared
-  skipped-step e r y belongs no-commit c-same behind = go (leb (length (replaceAt p (y ∷ []) (h .components))) 64)
+  skipped-step e r y belongs no-effect c-same behind = go (leb (length (replaceAt p (y ∷ []) (h .components))) 64)
     where
       doomedNow : ℕ → Bool
       doomedNow q = doomed q (stepBy h e r (leaves (h .counts) (y ∷ [])) ∷ future)
@@ -269,7 +292,7 @@ module _ (h : Configuration) (p : ℕ) (c : Component) (found : getElem? (h .com
       same = sym (behind ∙ replaceAt-same (cleared doomedNow (h .components)) p (clear (doomed (p + 0) future) y) found-cleared)
 
       go : (b : Bool) → Shadows h e future (cond b (moved r (leaves (h .counts) (y ∷ []))) (refused 19))
-      go true = rw belongs (λ i. record { counts = h .counts; components = same i }, no-commit)
+      go true = rw belongs (λ i. record { counts = h .counts; components = same i }, no-effect)
       go false = tt
 
   -- both for an act, which abandons the component's attempt exactly where its rule does
@@ -282,20 +305,21 @@ module _ (h : Configuration) (p : ℕ) (c : Component) (found : getElem? (h .com
       σ
       ys
       lasts
+      (kept-abandons-none r p future lasts)
       (λ g counts there. act-chosen g p c there ∙ rw (counts, move))
       ys-stay
       (rw (doomed-here (stepBy h (act p) r (leaves σ ys)) future p refl) c-stays)
       (act-cleared r σ ys)
 
-  skipped-act : (r : Rule) (y : Component) → abandonedBy r (act p) future ≡ true → commitOf r ≡ [] →
+  skipped-act : (r : Rule) (y : Component) → abandonedBy r (act p) future ≡ true → effect r ≡ [] →
       clear (abandons r) c ≡ clear (doomed p future) y → Shadows h (act p) future (settles p (moves r (h .counts) (y ∷ [])) h)
-  skipped-act r y belongs no-commit c-same =
+  skipped-act r y belongs no-effect c-same =
       skipped-step
       (act p)
       r
       y
       belongs
-      no-commit
+      no-effect
       (rw (doomed-here (stepBy h (act p) r (leaves (h .counts) (y ∷ []))) future p refl) c-same)
       (act-cleared r (h .counts) (y ∷ []))
 
@@ -328,7 +352,7 @@ module _ (h : Configuration) (p : ℕ) (future : List Step) where
   -- an attempt opens: where it will be abandoned nothing changes
   opens-act : (n : ℕ) (M : Expression) → getElem? (h .components) p ≡ some (idle (block n M)) →
       Shadows h (act p) future (settles p (moves ATST (h .counts) (transaction n M (h .counts) (leaf M emptyLog) ∷ [])) h)
-  unfolding acts abandonedBy cleared clear commitOf
+  unfolding acts abandonedBy cleared clear effect
   opens-act n M found = go (doomed p future) refl
     where
       begun : Component
@@ -342,16 +366,16 @@ module _ (h : Configuration) (p : ℕ) (future : List Step) where
 
   -- an attempt is abandoned: nothing changes
   abandons-act : (n : ℕ) (M : Expression) (s : State) (t : Tree) → getElem? (h .components) p ≡ some (transaction n M s t) → (r : Rule) →
-      opensOne r ≡ false → abandons r ≡ true → commitOf r ≡ [] → Shadows h (act p) future (settles p (moves r (h .counts) (idle (block n M) ∷ [])) h)
+      opensOne r ≡ false → abandons r ≡ true → effect r ≡ [] → Shadows h (act p) future (settles p (moves r (h .counts) (idle (block n M) ∷ [])) h)
   unfolding abandonedBy clear
-  abandons-act n M s t found r late ends no-commit =
+  abandons-act n M s t found r late ends no-effect =
       let same : clear (abandons r) (transaction n M s t) ≡ clear (doomed p future) (idle (block n M)) = rw ends (sym (clear-idle (doomed p future) (block n M))) in
-      skipped-act h p (transaction n M s t) found future r (idle (block n M)) (rw (late, ends)) no-commit same
+      skipped-act h p (transaction n M s t) found future r (idle (block n M)) (rw (late, ends)) no-effect same
 
   -- an attempt commits: it was not to be abandoned
   commits-act : (n : ℕ) (M : Expression) (s : State) (e : ℕ) (δ : Log) → getElem? (h .components) p ≡ some (transaction n M s (leaf (endT e) δ)) →
       Shadows h (act p) future (settles p (commits (h .counts) n M δ) h)
-  unfolding commits acts abandonedBy clear commitOf
+  unfolding commits acts abandonedBy clear effect
   commits-act n M s e δ found = go (readable (h .counts) δ) refl
     where
       c : Component
@@ -370,7 +394,7 @@ module _ (h : Configuration) (p : ℕ) (future : List Step) where
 
   -- every act
   act-shadows : (c : Component) → getElem? (h .components) p ≡ some c → Shadows h (act p) future (settles p (acts (h .counts) c) h)
-  unfolding acts abandonedBy settles commitOf
+  unfolding acts abandonedBy settles effect
   act-shadows (idle (taking n a P)) found = takes-act (taking n a P) found a (IN a) (opens P) refl refl
   act-shadows (idle (repeating n a P)) found = takes-act (repeating n a P) found a (REP a) (opens P ++ (repeating n a P ∷ [])) refl refl
   act-shadows (idle (block n M)) found = opens-act n M found
@@ -382,59 +406,12 @@ module _ (h : Configuration) (p : ℕ) (future : List Step) where
   act-shadows (transaction n M s (leaf (orElseT e N N′) δ)) found = tt
   act-shadows (transaction n M s (fork l r)) found = tt
 
--- no move inside an attempt commits
-abbrev NoCommit : Inner → Type 0
-NoCommit (evolves r t) = commitOf r ≡ []
-NoCommit resting = Unit {0}
-NoCommit (past k) = Unit {0}
-
-leaf-no-commit : (s : State) (M : Expression) (δ : Log) → NoCommit (atLeaf s M δ)
-unfolding atLeaf reads commitOf
-leaf-no-commit s (endT n) δ = tt
-leaf-no-commit s (retryT n) δ = tt
-leaf-no-commit s (rdT n a M) δ = go (readable s (δ ++ (rd a ∷ [])))
-  where
-    go : (b : Bool) → NoCommit (cond b (evolves ARDOK (leaf M (δ ++ (rd a ∷ [])))) (evolves ARDF (leaf (retryT 255) δ)))
-    go true = refl
-    go false = refl
-leaf-no-commit s (wtT n a M) δ = refl
-leaf-no-commit s (orElseT n M N) δ = refl
-
-fork-no-commit : (l r : Tree) → NoCommit (atFork l r)
-unfolding atFork commitOf
-fork-no-commit (leaf (endT n) δ) r = refl
-fork-no-commit (leaf (retryT n) δ) r = refl
-fork-no-commit (leaf (rdT n a M) δ) r = tt
-fork-no-commit (leaf (wtT n a M) δ) r = tt
-fork-no-commit (leaf (orElseT n M N) δ) r = tt
-fork-no-commit (fork l m) r = tt
-
-right-no-commit : (l : Tree) (i : Inner) → NoCommit i → NoCommit (inRight l i)
-unfolding inRight
-right-no-commit l (evolves r t) h = h
-right-no-commit l resting h = tt
-right-no-commit l (past k) h = tt
-
-left-no-commit : (r : Tree) (i : Inner) (next : ℕ → Inner) → NoCommit i → ((j : ℕ) → NoCommit (next j)) → NoCommit (inLeft r i next)
-unfolding inLeft
-left-no-commit r (evolves e t) next h k = h
-left-no-commit r resting next h k = tt
-left-no-commit r (past j) next h k = k j
-
-inner-no-commit : (s : State) (t : Tree) (k : ℕ) → NoCommit (inner s t k)
-unfolding inner
-inner-no-commit s (leaf M δ) zero = leaf-no-commit s M δ
-inner-no-commit s (leaf M δ) (suc k) = tt
-inner-no-commit s (fork l r) zero = fork-no-commit l r
-inner-no-commit s (fork l r) (suc k) =
-    left-no-commit r (inner s l k) (λ j. inRight l (inner s r j)) (inner-no-commit s l k) (λ j. right-no-commit l (inner s r j) (inner-no-commit s r j))
-
 module _ (h : Configuration) (p k : ℕ) (future : List Step) where
   -- a move inside an attempt: nothing where it will be abandoned, else the same move
   evolves-inside : (n : ℕ) (M : Expression) (s : State) (t u : Tree) (r : Rule) → getElem? (h .components) p ≡ some (transaction n M s t) →
-      inner s t k ≡ evolves r u → commitOf r ≡ [] → Shadows h (inside p k) future (settles p (moves r (h .counts) (transaction n M s u ∷ [])) h)
+      inner s t k ≡ evolves r u → InnerRule r → Shadows h (inside p k) future (settles p (moves r (h .counts) (transaction n M s u ∷ [])) h)
   unfolding abandonedBy cleared clear actsInside innerLocal doomed
-  evolves-inside n M s t u r found evolved no-commit = go (doomed p future) refl
+  evolves-inside n M s t u r found evolved ruled = go (doomed p future) refl
     where
       go : (b : Bool) → doomed p future ≡ b → Shadows h (inside p k) future (settles p (moves r (h .counts) (transaction n M s u ∷ [])) h)
       go true d =
@@ -448,7 +425,7 @@ module _ (h : Configuration) (p k : ℕ) (future : List Step) where
           r
           (transaction n M s u)
           d
-          no-commit
+          (inner-plain r ruled .0)
           (rw d)
           (inside-cleared h p (transaction n M s t) found future k r (h .counts) (transaction n M s u))
       go false d =
@@ -463,6 +440,7 @@ module _ (h : Configuration) (p k : ℕ) (future : List Step) where
           (h .counts)
           (transaction n M s u ∷ [])
           d
+          (inner-plain r ruled .1)
           (λ g counts there. inside-chosen g p k (transaction n M s t) there ∙ rw (evolved, counts))
           (let i : p + 0 ≡ p = omega arith in rw (i, d))
           (rw d)
@@ -472,12 +450,12 @@ module _ (h : Configuration) (p k : ℕ) (future : List Step) where
   inside-shadows : (c : Component) → getElem? (h .components) p ≡ some c → Shadows h (inside p k) future (settles p (actsInside (h .counts) c k) h)
   unfolding actsInside innerLocal settles
   inside-shadows (idle c) found = tt
-  inside-shadows (transaction n M s t) found = go (inner s t k) refl (inner-no-commit s t k)
+  inside-shadows (transaction n M s t) found = go (inner s t k) refl (inner-rule s t k)
     where
-      go : (i : Inner) → inner s t k ≡ i → NoCommit i → Shadows h (inside p k) future (settles p (innerLocal (h .counts) n M s i) h)
-      go (evolves r u) e no-commit = evolves-inside n M s t u r found e no-commit
-      go resting e no-commit = tt
-      go (past j) e no-commit = tt
+      go : (i : Inner) → inner s t k ≡ i → ByInnerRule i → Shadows h (inside p k) future (settles p (innerLocal (h .counts) n M s i) h)
+      go (evolves r u) e ruled = evolves-inside n M s t u r found e ruled
+      go resting e ruled = tt
+      go (past j) e ruled = tt
 
 -- every choice: refused, or a step with its shadow in the run without abandoned attempts
 shadows : (h : Configuration) (e : Entry) (future : List Step) → Shadows h e future (choose h e)
@@ -495,32 +473,46 @@ shadows h (inside p k) future = go (getElem? (h .components) p) refl
 
 -- ---- the whole history
 
--- the logs committed, in order
-unfoldable pub commitsIn : List Step → List Log
-unfolding commitOf
-commitsIn [] = []
-commitsIn (s ∷ ss) = commitOf (s .rule) ++ commitsIn ss
-
--- the kept choices of a history are all accepted from g, to the same last configuration, with the same commits
+-- the kept choices of a history are all accepted from g, to the same last configuration, with the same effects, and abandon
+-- nothing
 pub record KeptFrom (g h : Configuration) (history : List Step) : Type 0 where
   pub whole : length (steps g (kept history)) ≡ length (kept history)
   pub last : lastOf g (steps g (kept history)) ≡ lastOf h history
-  pub commits : commitsIn (steps g (kept history)) ≡ commitsIn history
+  pub same-effects : effects (steps g (kept history)) ≡ effects history
+  pub no-abandoned : All (λ u. abandons (u .rule) ≡ false) (steps g (kept history))
 
 -- where nothing is done, and where one more step is
 nothing-done : (h : Configuration) → KeptFrom (clearedBy [] h) h []
-unfolding steps kept clearedBy doomed commitsIn
-nothing-done h = record { whole = refl; last = λ i. record { counts = h .counts; components = cleared-none (h .components) i }; commits = refl }
+unfolding steps kept clearedBy doomed effects
+nothing-done h =
+    record {
+      whole = refl;
+      last = λ i. record { counts = h .counts; components = cleared-none (h .components) i };
+      same-effects = refl;
+      no-abandoned = tt;
+    }
 
 step-done : (h : Configuration) (e : Entry) (r : Rule) (f : Configuration) (future : List Step) → Shadow h e future r f (abandonedBy r e future) →
     KeptFrom (clearedBy future f) f future → KeptFrom (clearedBy (stepBy h e r f ∷ future) h) h (stepBy h e r f ∷ future)
-unfolding kept steps stepsOn commitsIn
+unfolding kept steps stepsOn effects
 step-done h e r f future = go (abandonedBy r e future) refl
   where
     go : (b : Bool) → abandonedBy r e future ≡ b → Shadow h e future r f b → KeptFrom (clearedBy future f) f future →
         KeptFrom (clearedBy (stepBy h e r f ∷ future) h) h (stepBy h e r f ∷ future)
-    go true b s k = record { whole = rw (b, s .0) (k .whole); last = rw (b, s .0) (k .last); commits = rw (b, s .0, s .1) (k .commits) }
-    go false b s k = record { whole = rw (b, s) (ap suc (k .whole)); last = rw (b, s) (k .last); commits = rw (b, s) (ap (_++_ (commitOf r)) (k .commits)) }
+    go true b s k =
+        record {
+          whole = rw (b, s .0) (k .whole);
+          last = rw (b, s .0) (k .last);
+          same-effects = rw (b, s .0, s .1) (k .same-effects);
+          no-abandoned = rw (b, s .0) (k .no-abandoned);
+        }
+    go false b s k =
+        record {
+          whole = rw (b, s .0) (ap suc (k .whole));
+          last = rw (b, s .0) (k .last);
+          same-effects = rw (b, s .0) (ap (_++_ (effect r)) (k .same-effects));
+          no-abandoned = rw (b, s .0) (s .1, k .no-abandoned);
+        }
 
 -- From any configuration, without its attempts that will be abandoned.
 pub kept-from-cleared : (h : Configuration) (es : List Entry) → KeptFrom (clearedBy (steps h es) h) h (steps h es)
@@ -576,36 +568,69 @@ unfolding counted
 tallied c [] = c
 tallied c (s ∷ ss) = tallied (counted (s .rule) c) ss
 
--- a count of commits after some logs were committed
-commitsAfter : ℕ → List Log → ℕ
+-- a count of commits after some rules
+raised : Rule → ℕ → ℕ
+unfolding counted
+raised r n = counted r (record { commits = n; failed = 0; retries = 0 }) .commits
+
+commitsAfter : ℕ → List Rule → ℕ
+unfolding raised
 commitsAfter n [] = n
-commitsAfter n (δ ∷ δs) = commitsAfter (risen n) δs
+commitsAfter n (r ∷ rs) = commitsAfter (raised r n) rs
 
--- each rule counts what it commits, and so do the rules of some steps
-counted-commits : (r : Rule) (c : Counters) (δs : List Log) → commitsAfter (counted r c .commits) δs ≡ commitsAfter (c .commits) (commitOf r ++ δs)
-unfolding counted commitOf commitsAfter
-counted-commits (OUT a) c δs = refl
-counted-commits (IN a) c δs = refl
-counted-commits (REP a) c δs = refl
-counted-commits ATST c δs = refl
-counted-commits ATRE c δs = refl
-counted-commits ATFAIL c δs = refl
-counted-commits (ATOK δ) c δs = refl
-counted-commits ARDOK c δs = refl
-counted-commits ARDF c δs = refl
-counted-commits AWR c δs = refl
-counted-commits AOI c δs = refl
-counted-commits AOF c δs = refl
-counted-commits AOE c δs = refl
+-- of each rule its effect counts, and so of the rules of some steps
+counted-commits : (r : Rule) (c : Counters) (rs : List Rule) → commitsAfter (counted r c .commits) rs ≡ commitsAfter (c .commits) (effect r ++ rs)
+unfolding counted effect commitsAfter
+counted-commits (OUT a) c rs = refl
+counted-commits (IN a) c rs = refl
+counted-commits (REP a) c rs = refl
+counted-commits ATST c rs = refl
+counted-commits ATRE c rs = refl
+counted-commits ATFAIL c rs = refl
+counted-commits (ATOK δ) c rs = refl
+counted-commits ARDOK c rs = refl
+counted-commits ARDF c rs = refl
+counted-commits AWR c rs = refl
+counted-commits AOI c rs = refl
+counted-commits AOF c rs = refl
+counted-commits AOE c rs = refl
 
-tallied-commits : (ss : List Step) (c : Counters) → tallied c ss .commits ≡ commitsAfter (c .commits) (commitsIn ss)
-unfolding tallied commitsIn commitsAfter
+tallied-commits : (ss : List Step) (c : Counters) → tallied c ss .commits ≡ commitsAfter (c .commits) (effects ss)
+unfolding tallied effects commitsAfter
 tallied-commits [] c = refl
-tallied-commits (s ∷ ss) c = tallied-commits ss (counted (s .rule) c) ∙ counted-commits (s .rule) c (commitsIn ss)
+tallied-commits (s ∷ ss) c = tallied-commits ss (counted (s .rule) c) ∙ counted-commits (s .rule) c (effects ss)
 
--- Two lists of steps with the same commits count the same commits.
-pub same-commits : (c : Counters) (ss us : List Step) → commitsIn ss ≡ commitsIn us → tallied c ss .commits ≡ tallied c us .commits
+-- Two lists of steps with the same effects count the same commits.
+pub same-commits : (c : Counters) (ss us : List Step) → effects ss ≡ effects us → tallied c ss .commits ≡ tallied c us .commits
 same-commits c ss us e = tallied-commits ss c ∙ ap (commitsAfter (c .commits)) e ∙ sym (tallied-commits us c)
+
+-- the counters of abandoned attempts are the same in both
+abbrev SameAbandoned : Counters → Counters → Type 0
+SameAbandoned c d = (c .failed ≡ d .failed) × (c .retries ≡ d .retries)
+
+-- a rule that abandons nothing leaves them, and so do the rules of some steps
+counted-abandons-none : (r : Rule) (c : Counters) → abandons r ≡ false → SameAbandoned (counted r c) c
+unfolding counted abandons
+counted-abandons-none (OUT a) c e = (refl, refl)
+counted-abandons-none (IN a) c e = (refl, refl)
+counted-abandons-none (REP a) c e = (refl, refl)
+counted-abandons-none ATST c e = (refl, refl)
+counted-abandons-none ATRE c e = absurd (true≢false e)
+counted-abandons-none ATFAIL c e = absurd (true≢false e)
+counted-abandons-none (ATOK δ) c e = (refl, refl)
+counted-abandons-none ARDOK c e = (refl, refl)
+counted-abandons-none ARDF c e = (refl, refl)
+counted-abandons-none AWR c e = (refl, refl)
+counted-abandons-none AOI c e = (refl, refl)
+counted-abandons-none AOF c e = (refl, refl)
+counted-abandons-none AOE c e = (refl, refl)
+
+tallied-abandons-none : (ss : List Step) (c : Counters) → All (λ u. abandons (u .rule) ≡ false) ss → SameAbandoned (tallied c ss) c
+unfolding tallied
+tallied-abandons-none [] c spared = (refl, refl)
+tallied-abandons-none (s ∷ ss) c spared =
+    let one = counted-abandons-none (s .rule) c (spared .0) in
+    let rest = tallied-abandons-none ss (counted (s .rule) c) (spared .1) in (rest .0 ∙ one .0, rest .1 ∙ one .1)
 
 -- ---- in the claim's terms
 
@@ -660,6 +685,10 @@ module _ (table : List ℕ) (t : Table) (buffer : List ℕ) (first : Counters) (
     pub kept-stations :
         map (λ x. x .station) (atomicKept table t buffer first cs .stations) ≡ map (λ x. x .station) (atomic table t buffer first cs .stations)
     pub kept-commits : atomicKept table t buffer first cs .counters .commits ≡ atomic table t buffer first cs .counters .commits
+    pub kept-none : All (λ u. abandons (u .rule) ≡ false) (historyKept table t buffer first cs)
+    pub kept-failed : atomicKept table t buffer first cs .counters .failed ≡ first .failed
+    pub kept-retries : atomicKept table t buffer first cs .counters .retries ≡ first .retries
+    pub kept-effects : effects (historyKept table t buffer first cs) ≡ effects (history table t buffer first cs)
 
   -- Abandoned attempts never happened, where the one-step run follows every list of accepted choices.
   pub kept-claims : ((es : List Entry) → length (steps (opening t) es) ≡ length es → AtomicFollows t first es) →
@@ -671,6 +700,7 @@ module _ (table : List ℕ) (t : Table) (buffer : List ℕ) (first : Counters) (
       let k = kept-runs-opening t es in
       let before = follows es whole in
       let after = follows (kept (steps (opening t) es)) (k .whole) in
+      let same = tallied-abandons-none (steps (opening t) (kept (steps (opening t) es))) first (k .no-abandoned) in
       record {
         kept-whole = k .whole;
         kept-hall = ap bytesOf (k .last) ∙ sym hall;
@@ -678,6 +708,10 @@ module _ (table : List ℕ) (t : Table) (buffer : List ℕ) (first : Counters) (
         kept-stations = after .stations ∙ ap (λ h. map unbegun (h .components)) (k .last) ∙ sym (before .stations);
         kept-commits =
             ap (λ c. c .commits) (after .tally)
-            ∙ same-commits first (steps (opening t) (kept (steps (opening t) es))) (steps (opening t) es) (k .commits)
+            ∙ same-commits first (steps (opening t) (kept (steps (opening t) es))) (steps (opening t) es) (k .same-effects)
             ∙ sym (ap (λ c. c .commits) (before .tally));
+        kept-none = k .no-abandoned;
+        kept-failed = ap (λ c. c .failed) (after .tally) ∙ same .0;
+        kept-retries = ap (λ c. c .retries) (after .tally) ∙ same .1;
+        kept-effects = k .same-effects;
       }

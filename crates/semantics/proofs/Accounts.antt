@@ -17,7 +17,7 @@ use Rattle.semantics.specs.Stored.{WellFormed}
 use Rattle.semantics.specs.Standing.{componentProcess, Stands, nothing, alone, beside}
 use Rattle.semantics.specs.GoodTable.{GoodTable}
 use Rattle.semantics.specs.Moves.{Entry, moved, choose, ruleNumber}
-use Rattle.semantics.specs.Run.{entries, Counters, counterTop, counted, RunAnswer, run, schedule, Step, steps}
+use Rattle.semantics.specs.Run.{entries, Counters, counterTop, counted, RunAnswer, run, schedule, Step, steps, lastOf}
 use Rattle.semantics.specs.StoredClaims.{AcceptedIsGood}
 use Rattle.semantics.specs.Correspondence.{Reduction}
 use Rattle.semantics.specs.Accounts.{adds, removes, total, byRule, RunAccounts}
@@ -111,6 +111,7 @@ pub record WithinTop (c : Counters) : Type 0 where
 record Kept (h : Configuration) (c : Counters) (d : ℕ) (ss : List Step) (a : RunAnswer) : Type 0 where
   balance : (x : Name) → count (a .configuration .counts) x + total (removes x) ss ≡ count (h .counts) x + total (adds x) ss
   byte : (x : Name) → count (a .configuration .counts) x ≤ 255
+  leaves : lastOf h ss ≡ a .configuration
   moves : a .done ≡ d + length ss
   commits : a .counters .commits ≡ min counterTop (c .commits + byRule 7 ss)
   failed : a .counters .failed ≡ min counterTop (c .failed + byRule 6 ss)
@@ -123,6 +124,7 @@ unfolding total byRule
 kept-none ts n p d h c ok top = record {
   balance = λ x. refl;
   byte = λ x. count-byte (h .counts) x (ok .sixteen);
+  leaves = refl;
   moves = omega arith;
   commits = omega arith;
   failed = omega arith;
@@ -144,6 +146,7 @@ kept-one good e r h g c d ss a q rest ok top =
     record {
       balance = λ x. let b = i .balance x in let one = choice-balance e x ok q in omega arith;
       byte = i .byte;
+      leaves = i .leaves;
       moves = let m = i .moves in omega arith;
       commits = let m = i .commits in omega arith;
       failed = let m = i .failed in omega arith;
@@ -166,6 +169,7 @@ run-accounts accepted bs t a h ok c top-commits top-failed top-retries choices =
       balance = i .balance;
       net-above = λ x. let b = i .byte x in omega arith;
       net-below = λ x. let b = count-byte (h .counts) x (ok .sixteen) in omega arith;
+      leaves = i .leaves;
       moves = omega arith;
       commits = i .commits;
       failed = i .failed;

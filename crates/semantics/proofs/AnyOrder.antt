@@ -92,17 +92,17 @@ pub completeness-any-order : KeepsWellFormed → CompletenessAnyOrder
 unfolding CompletenessAnyOrder Completeness
 completeness-any-order keeps bs t acc h ok P s l P′ σ′ d b =
     let (P″, same, e) = in-log-order d in
-    (P″, same, completeness keeps bs t acc h ok P s l P″ σ′ e (reordered-within l (h .counts) σ′ same b))
+    (P″, same, e, completeness keeps bs t acc h ok P s l P″ σ′ e (reordered-within l (h .counts) σ′ same b))
 
 -- where a reduction is answered some choice is accepted
 answered-moves : (l : Label) (h : Configuration) (P : Process) (σ : State) → Answered l h P σ → Quiescent h → ⊥
 unfolding Answered Quiescent
-answered-moves (by r) h P σ x still = rw (x .3) at (still (x .0))
-answered-moves (COM a) h P σ x still = rw (x .7) at (still (x .0))
+answered-moves (by r) h P σ x still = rw (x .3) at (still (x .0) (x .2))
+answered-moves (COM a) h P σ x still = rw (x .7) at (still (x .0) (x .5))
 
 -- where no choice is accepted no reduction within the limits exists
 pub still-is-still : KeepsWellFormed → StillIsStill
 unfolding StillIsStill CompletenessAnyOrder
 still-is-still keeps bs t acc h ok still P s l P′ σ′ d b =
-    let (P″, same, x) = completeness-any-order keeps bs t acc h ok P s l P′ σ′ d b in
+    let (P″, same, e, x) = completeness-any-order keeps bs t acc h ok P s l P′ σ′ d b in
     answered-moves l h P″ σ′ x still

@@ -19,18 +19,18 @@ use Rattle.semantics.specs.Terms.{Expression, endT, retryT, rdT, wtT, or
 use Rattle.semantics.specs.Table.{Table, accepted, readTable}
 use Rattle.semantics.specs.Logs.{readable, gained, spent}
 use Rattle.semantics.specs.Configuration.{Idle, taking, repeating, block, output, Tree, leaf, fork, Component, idle, transaction, Configuration, opening, opens}
-use Rattle.semantics.specs.Stored.{WellFormed, hallBytes, bytesOf}
+use Rattle.semantics.specs.Stored.{WellFormed, hallBytes, bytesOf, configurationOf}
 use Rattle.semantics.specs.Moves.{Entry, act, inside, Answer, moved, refused, settles, at, choose, Local, moves, stays, takes, puts, ends, acts, actsInside, Inner, evolves, resting, past, inner, innerLocal}
 use Rattle.semantics.specs.Run.{Item, entry, malformed, schedule, entries, Counters, counted, RunAnswer, goesOn, runFrom, run, steps}
 use Rattle.semantics.specs.AtomicRun.{Atomic, atomicStart, fed, fedAll}
 use Rattle.semantics.specs.Calls.{admitted, formTested, sizeTested, tableTested, admission, openSized, openTested, Lent, RunCall, ranOn, runAdmitted, runCall, Call, runChoices, called, calls, callEntries, doneIn}
 use Rattle.semantics.specs.Correspondence.{Accepts}
-use Rattle.semantics.specs.Atomicity.{unbegun, lastOf, answers, firstLent, CommitsOk, begins, finishes, done, history, atomic}
+use Rattle.semantics.specs.Atomicity.{unbegun, lastOf, answers, firstLent, CommitsOk, AlwaysAttemptsOk, begins, finishes, done, history, atomic}
 use Rattle.semantics.specs.GoodTable.{GoodTable}
 use Rattle.semantics.specs.StoredClaims.{AcceptedIsGood, ReadBack, StoredFits, OpeningIsWellFormed}
 use Rattle.semantics.proofs.Reading.{true-eqb}
 use Rattle.semantics.proofs.Simulation.{Related, related-stations, opening-related, step-related}
-use Rattle.semantics.proofs.PathClause.{steps-commit, opening-known}
+use Rattle.semantics.proofs.PathClause.{steps-tell, opening-known}
 
 -- ---- refusals of choices are 12 and above
 
@@ -256,6 +256,7 @@ module _ (back : ReadBack) (fits : StoredFits) (step-kept : StepKept) (table : L
   -- what a list of calls does: the entries done are one run
   pub record CallsTell (l : Lent) (h : Configuration) (cs : List Call) : Type 0 where
     pub after : Configuration
+    pub well-formed : WellFormed (t .terms) after
     pub hall : (calls table l cs) .hall ≡ bytesOf after
     pub runs : Runs h (l .counters) (doneIn table l cs) after ((calls table l cs) .counters)
     pub numbers : All (λ a. NotTurnedDown (a .number)) (answers table l cs)
@@ -263,11 +264,17 @@ module _ (back : ReadBack) (fits : StoredFits) (step-kept : StepKept) (table : L
   -- the calls, one after another, are one run of the choices done
   pub calls-tell : (l : Lent) (h : Configuration) → l .hall ≡ bytesOf h → WellFormed (t .terms) h → (cs : List Call) → CallsTell l h cs
   unfolding calls doneIn answers
-  calls-tell l h e w [] = record { after = h; hall = e; runs = rested; numbers = tt }
+  calls-tell l h e w [] = record { after = h; well-formed = w; hall = e; runs = rested; numbers = tt }
   calls-tell l h e w (c ∷ cs) =
       let one = call-tells l h e w c in
       let rest = calls-tell ((called table l c) .lent) (one .after) (one .hall) (one .well-formed) cs in
-      record { after = rest .after; hall = rest .hall; runs = runs-append (one .runs) (rest .runs); numbers = (one .number, rest .numbers) }
+      record {
+        after = rest .after;
+        well-formed = rest .well-formed;
+        hall = rest .hall;
+        runs = runs-append (one .runs) (rest .runs);
+        numbers = (one .number, rest .numbers);
+      }
 
 -- ---- the forward half of demand 3
 
@@ -285,11 +292,14 @@ module _ (table : List ℕ) (t : Table) (buffer : List ℕ) (first : Counters) (
     pub never-turned-down : All (λ a. NotTurnedDown (a .number)) (answers table (begins table t buffer first cs) cs)
     pub whole : length (history table t buffer first cs) ≡ length (done table t buffer first cs)
     pub hall : (finishes table t buffer first cs) .hall ≡ bytesOf (lastOf (opening t) (history table t buffer first cs))
+    pub read :
+        configurationOf (t .terms) ((finishes table t buffer first cs) .hall) ≡ some (lastOf (opening t) (history table t buffer first cs))
     pub counts : lastOf (opening t) (history table t buffer first cs) .counts ≡ (atomic table t buffer first cs) .counts
     pub stations :
         map unbegun (lastOf (opening t) (history table t buffer first cs) .components)
         ≡ map (λ x. x .station) ((atomic table t buffer first cs) .stations)
     pub tally : (finishes table t buffer first cs) .counters ≡ (atomic table t buffer first cs) .counters
+    pub attempts : AlwaysAttemptsOk [] (opening t) (history table t buffer first cs)
     pub paths : CommitsOk [] (history table t buffer first cs)
 
 -- of every accepted table, buffer of a hall's size, first tally and list of calls
@@ -301,13 +311,18 @@ forward good back fits opening-kept step-kept table t accepts buffer size first 
     let all = calls-tell back fits step-kept table t (accepts .1) (good table t (accepts .1)) (firstLent table buffer first) (opening t)
     (opened-hall table t (accepts .1) buffer size first) (opening-kept table t (accepts .0) (accepts .1)) cs in
     let stepped = runs-steps (all .runs) in
+    let told = steps-tell (doneIn table (firstLent table buffer first) cs) [] (opening t) (opening-known t) in
     let paced = runs-related (all .runs) (atomicStart t first) (opening-related t first) refl in
     record {
       never-turned-down = all .numbers;
       whole = stepped .0;
       hall = all .hall ∙ ap bytesOf (sym (stepped .1));
+      read =
+          ap (configurationOf (t .terms)) (all .hall) ∙ back (t .terms) (all .after) (good table t (accepts .1)) (all .well-formed)
+          ∙ ap some (sym (stepped .1));
       counts = ap (λ h. h .counts) (stepped .1) ∙ paced .0 .counts;
       stations = ap (λ h. map unbegun (h .components)) (stepped .1) ∙ related-stations _ _ (paced .0);
       tally = sym (paced .1);
-      paths = steps-commit (doneIn table (firstLent table buffer first) cs) [] (opening t) (opening-known t);
+      attempts = told .1;
+      paths = told .0;
     }

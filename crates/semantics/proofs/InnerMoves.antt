@@ -2,7 +2,7 @@
 -- Assumes nothing.
 use Prim.Native.Nat.{ℕ, zero, suc, _+_, _≤_, _<_}
 use native.Mathlib.Omega.{arith}
-use mathlib.Core.Path.{_≡_, refl, sym, ap, _∙_}
+use mathlib.Core.Path.{_≡_, refl, sym}
 use mathlib.Core.Bool.{Bool, true, false, cond}
 use mathlib.Core.Option.{some}
 use mathlib.Core.List.{List, [], _∷_, _++_}
@@ -19,7 +19,6 @@ use Rattle.semantics.specs.Correspondence.{InBytes}
 use Rattle.semantics.specs.InnerMoves.{weight, Settled, Moves, unmoved, movedOn, MovesEnd, MovesGoOn, SettledRests, EndsWith, MovesSettleFirstPath}
 use Rattle.semantics.proofs.Reading.{true-leb}
 use Rattle.semantics.proofs.Lists.{found-below, found-left, found-right, length-replaceAt, all-at}
-use Rattle.semantics.proofs.HistoryLists.{found-replaced}
 use Rattle.semantics.proofs.Moves.{positionOf, localMove, accepted-inverts}
 use Rattle.semantics.proofs.Outcome.{Faithful, StaysFaithful, faithful-start, faithful-move, faithful-end, faithful-retry}
 
@@ -191,6 +190,11 @@ moves-keep : (s : State) (M : Expression) {t u : Tree} → Moves s t u → Faith
 moves-keep s M unmoved f = f
 moves-keep s M (movedOn {t = t} {u = u} k r e m) f =
     let one : StaysFaithful s M (evolves r u) = rw e at (faithful-move s M t k f) in moves-keep s M m one
+
+-- one move more, at the end
+pub moves-snoc : {s : State} {t u v : Tree} (k : ℕ) (r : Rule) → Moves s t u → inner s u k ≡ evolves r v → Moves s t v
+moves-snoc k r unmoved e = movedOn k r e unmoved
+moves-snoc k r (movedOn j x d m) e = movedOn j x d (moves-snoc k r m e)
 
 -- moves in any order settle the first path readable at the snapshot
 pub moves-settle-first-path : MovesSettleFirstPath

@@ -12,6 +12,7 @@ pub mod Accounts
 pub mod Communication
 pub mod Completeness
 pub mod AnyOrder
+pub mod Limits
 pub mod HistoryLists
 pub mod Outcome
 pub mod InnerMoves
@@ -21,9 +22,11 @@ pub mod CallsAsOne
 pub mod Abandoned
 pub mod Drive
 pub mod Converse
+pub mod RecordShapes
 pub mod ChoiceConditions
 pub mod TableConditions
 pub mod HallConditions
 pub mod RunConditions
+pub mod CallConditions
 pub mod Theorems
 pub mod Examples

@@ -1,5 +1,6 @@
 -- The path clause: wherever a run commits, the block's path is the first readable at the counts when that attempt opened,
--- and the first readable at commit too if no channel has gained since.
+-- and the first readable at commit too if no channel has gained since. And every attempt that is open on the way has come from
+-- its block by moves inside it, with the counts at its opening as snapshot.
 -- Assumes nothing.
 use Prim.Native.Nat.{ℕ, zero, suc, _+_, _-_, _≤_, _<_}
 use native.Mathlib.Omega.{arith}
@@ -18,16 +19,16 @@ use Rattle.calculus.proofs.States.{count-without}
 use Rattle.semantics.specs.Basics.{All, firstOf, replaceAt}
 use Rattle.semantics.specs.Terms.{Expression, endT, retryT, rdT, wtT, orElseT}
 use Rattle.semantics.specs.Table.{Table}
-use Rattle.semantics.specs.Logs.{readable, paths, firstReadable, gained, spent}
+use Rattle.semantics.specs.Logs.{emptyLog, readable, paths, firstReadable, gained, spent}
 use Rattle.semantics.specs.Configuration.{Idle, taking, repeating, block, output, Tree, leaf, fork, Component, idle, transaction, Configuration, opens, opening}
 use Rattle.semantics.specs.Moves.{Entry, act, inside, Answer, moved, refused, choose, Local, moves, stays, takes, puts, commits, ends, acts, evolves, inner}
 use Rattle.semantics.specs.Run.{Step, stepsOn, steps}
 use Rattle.semantics.specs.History.{laid, Opened, andThen, openedBy, attemptAt, NoGain}
-use Rattle.semantics.specs.Atomicity.{unbegun, CommitOk, CommitsOk}
+use Rattle.semantics.specs.InnerMoves.{Moves, unmoved, MovesSettleFirstPath}
+use Rattle.semantics.specs.Atomicity.{unbegun, CommitOk, CommitsOk, AttemptsOk, AlwaysAttemptsOk}
 use Rattle.semantics.proofs.Readable.{readable-included, included-readable}
 use Rattle.semantics.proofs.Reading.{true-leb, false-leb}
-use Rattle.semantics.proofs.Outcome.{Faithful, StaysFaithful, faithful-start, faithful-move, faithful-end}
-use Rattle.semantics.proofs.InnerMoves.{replaced-left, replaced-here, replaced-right, InnerRule, ByInnerRule, inner-rule, inside-moved}
+use Rattle.semantics.proofs.InnerMoves.{replaced-left, replaced-here, replaced-right, moves-snoc, moves-settle-first-path, InnerRule, ByInnerRule, inner-rule, inside-moved}
 use Rattle.semantics.proofs.Lists.{found-below, found-map, length-replaceAt, all-at}
 use Rattle.semantics.proofs.Moves.{positionOf, localMove, Accepted, accepted-inverts}
 
@@ -68,7 +69,7 @@ first-now σ s M δ h e f = first-stricter (readable s) (readable σ) (λ π. re
 -- a component laid down: idle, or an attempt that ATST has just opened
 abbrev pub Fresh : State → Rule → Component → Type 0
 Fresh σ r (idle c) = Unit {0}
-Fresh σ r (transaction n M s t) = (r ≡ ATST) × (s ≡ σ) × Faithful s M t
+Fresh σ r (transaction n M s t) = (r ≡ ATST) × (s ≡ σ) × Moves s (leaf M emptyLog) t
 
 -- a commit's log is that of a single end leaf and readable at the present counts
 abbrev pub CommitOf : State → Component → Rule → Type 0
@@ -164,19 +165,19 @@ act-tells : (σ : State) (c : Component) → LocalTells σ c (acts σ c)
 unfolding acts
 act-tells σ (idle (taking n a P)) = takes-tells σ (idle (taking n a P)) a (IN a) (opens P) tt
 act-tells σ (idle (repeating n a P)) = takes-tells σ (idle (repeating n a P)) a (REP a) (opens P ++ (repeating n a P ∷ [])) tt
-act-tells σ (idle (block n M)) = record { ungained = λ _. same-no-more σ; fresh = ((refl, refl, faithful-start σ M), tt); commit = tt }
+act-tells σ (idle (block n M)) = record { ungained = λ _. same-no-more σ; fresh = ((refl, refl, unmoved), tt); commit = tt }
 act-tells σ (idle (output a)) = puts-tells σ (idle (output a)) a
 act-tells σ (transaction n M s t) = ends-tells σ n M s t
 
 -- ---- attempts followed through the past
 
 -- of the attempt at q, its block M, snapshot s and nodes t, after a past that left the counts σ: how it was opened, that it
--- is true to its block, and that without gains since no count is above its snapshot
+-- has come from its block by moves inside it, and that without gains since no count is above its snapshot
 pub record Known (past : List Step) (σ : State) (q : ℕ) (M : Expression) (s : State) (t : Tree) : Type 0 where
   pub opened : Opened
   pub found : attemptAt past q ≡ some opened
   pub snapshot : opened .counts ≡ s
-  pub faithful : Faithful s M t
+  pub evolved : Moves s (leaf M emptyLog) t
   pub ungained : All (λ u. NoGain (u .rule)) (opened .since) → NoMore σ s
 
 -- the same of whatever stands at q
@@ -191,7 +192,7 @@ AllKnown past h = (q : ℕ) → KnownAt past (h .counts) q (getElem? (h .compone
 
 -- a step more, by which no count rises without a gain: an attempt that stood at j stands at q
 known-on : (past : List Step) (st : Step) (σ : State) (q j : ℕ) (M : Expression) (s : State) (t u : Tree) →
-    attemptAt (st ∷ past) q ≡ andThen st (attemptAt past j) → (NoGain (st .rule) → NoMore σ (st .before .counts)) → Faithful s M u →
+    attemptAt (st ∷ past) q ≡ andThen st (attemptAt past j) → (NoGain (st .rule) → NoMore σ (st .before .counts)) → Moves s (leaf M emptyLog) u →
     Known past (st .before .counts) j M s t → Known (st ∷ past) σ q M s u
 unfolding andThen
 known-on past st σ q j M s t u e low f k =
@@ -199,7 +200,7 @@ known-on past st σ q j M s t u e low f k =
       opened = record { counts = k .opened .counts; since = st ∷ k .opened .since };
       found = e ∙ ap (andThen st) (k .found);
       snapshot = k .snapshot;
-      faithful = f;
+      evolved = f;
       ungained = λ g x. let a = low (g .0) x in let b = k .ungained (g .1) x in omega arith;
     }
 
@@ -208,7 +209,7 @@ known-at-on : (past : List Step) (st : Step) (σ : State) (q j : ℕ) → attemp
     (NoGain (st .rule) → NoMore σ (st .before .counts)) → (o : Option Component) → KnownAt past (st .before .counts) j o → KnownAt (st ∷ past) σ q o
 known-at-on past st σ q j e low none k = tt
 known-at-on past st σ q j e low (some (idle c)) k = tt
-known-at-on past st σ q j e low (some (transaction n M s t)) k = known-on past st σ q j M s t t e low (k .faithful) k
+known-at-on past st σ q j e low (some (transaction n M s t)) k = known-on past st σ q j M s t t e low (k .evolved) k
 
 -- ---- a step of kind 1
 
@@ -254,7 +255,7 @@ module _ (past : List Step) (h : Configuration) (p : ℕ) (r : Rule) (g : Config
         opened = record { counts = h .counts; since = [] };
         found = e ∙ ap (λ ρ. openedBy ρ acted) (new .0);
         snapshot = sym (new .1);
-        faithful = new .2;
+        evolved = new .2;
         ungained = λ _. rw (new .1) (low quiet);
       }
 
@@ -285,7 +286,7 @@ module _ (past : List Step) (h : Configuration) (p : ℕ) (r : Rule) (g : Config
 -- a commit at p takes the path that the clause says
 commit-ok : (before : List Step) (h : Configuration) (p : ℕ) (r : Rule) (g : Configuration) (c : Component) → getElem? (h .components) p ≡ some c →
     KnownAt before (h .counts) p (some c) → CommitOf (h .counts) c r → CommitOk before (record { chosen = act p; rule = r; before = h; result = g }) r
-unfolding unbegun
+unfolding unbegun MovesSettleFirstPath
 commit-ok before h p (OUT a) g c e k o = tt
 commit-ok before h p (IN a) g c e k o = tt
 commit-ok before h p (REP a) g c e k o = tt
@@ -294,7 +295,7 @@ commit-ok before h p ATRE g c e k o = tt
 commit-ok before h p ATFAIL g c e k o = tt
 commit-ok before h p (ATOK δ) g c e k (n, M, s, x, same, now) =
     let known : Known before (h .counts) p M s (leaf (endT x) δ) = rw same at k in
-    let first = faithful-end s M x δ (known .faithful) in
+    let first = moves-settle-first-path s M (leaf (endT x) δ) (known .evolved) tt in
     let block-there : getElem? (map unbegun (h .components)) p ≡ some (block n M) =
     found-map unbegun (h .components) p (transaction n M s (leaf (endT x) δ)) (rw (← same) e) in (
       p,
@@ -370,9 +371,8 @@ module _ (past : List Step) (h : Configuration) (p k : ℕ) (r : Rule) (g : Conf
       at-it e =
           let was : getElem? (h .components) q ≡ some (transaction n M s u) = rw e standing in
           let old : Known past (h .counts) q M s u = rw was at (known q) in
-          let now : StaysFaithful s M (evolves r v) = rw evolved at (faithful-move s M u k (old .faithful)) in
           rw (there (some (transaction n M s v)) (replaced-here p q 0 (transaction n M s v ∷ []) (h .components) inhabited (omega arith) (omega arith)))
-          (known-on past within-step (g .counts) q q M s u v refl low now old)
+          (known-on past within-step (g .counts) q q M s u v refl low (moves-snoc k r (old .evolved) evolved) old)
 
 -- ---- a run
 
@@ -414,16 +414,30 @@ step-tells : (before : List Step) (h : Configuration) (e : Entry) (r : Rule) (g 
 step-tells before h (act p) r g known q = act-step before h p r g known (accepted-inverts h (act p) r g q)
 step-tells before h (inside p k) r g known q = inside-step before h p k r g known (accepted-inverts h (inside p k) r g q)
 
--- the path clause over the steps of any entries, from a configuration whose attempts are all known
-pub steps-commit : (es : List Entry) (before : List Step) (h : Configuration) → AllKnown before h → CommitsOk before (steps h es)
+-- every known attempt is as the clause on open attempts says
+known-attempts : (past : List Step) (h : Configuration) → AllKnown past h → AttemptsOk past h
+unfolding AllKnown
+known-attempts past h known q n M s u e =
+    let k : Known past (h .counts) q M s u = rw e at (known q) in (k .opened, k .found, k .snapshot, k .evolved)
+
+-- over the steps of any entries, from a configuration whose attempts are all known: the path clause, and the clause on open
+-- attempts before and after each step
+pub steps-tell : (es : List Entry) (before : List Step) (h : Configuration) → AllKnown before h →
+    CommitsOk before (steps h es) × AlwaysAttemptsOk before h (steps h es)
 unfolding steps
-steps-commit [] before h known = tt
-steps-commit (e ∷ es) before h known = go (choose h e) refl (λ b g k. steps-commit es b g k)
+steps-tell [] before h known = (tt, known-attempts before h known)
+steps-tell (e ∷ es) before h known = go (choose h e) refl (λ b g k. steps-tell es b g k)
   where
-    go : (a : Answer) → choose h e ≡ a → ((b : List Step) (g : Configuration) → AllKnown b g → CommitsOk b (steps g es)) →
-        CommitsOk before (stepsOn a (λ r g. record { chosen = e; rule = r; before = h; result = g } ∷ steps g es))
-    go (moved r g) q rest = let t = step-tells before h e r g known q in (t .0, rest _ g (t .1))
-    go (refused n) q rest = tt
+    next : Rule → Configuration → List Step
+    next r g = record { chosen = e; rule = r; before = h; result = g } ∷ steps g es
+
+    go : (a : Answer) → choose h e ≡ a →
+        ((b : List Step) (g : Configuration) → AllKnown b g → CommitsOk b (steps g es) × AlwaysAttemptsOk b g (steps g es)) →
+        CommitsOk before (stepsOn a next) × AlwaysAttemptsOk before h (stepsOn a next)
+    go (moved r g) q rest =
+        let t = step-tells before h e r g known q in
+        let later = rest _ g (t .1) in ((t .0, later .0), (known-attempts before h known, later .1))
+    go (refused n) q rest = (tt, known-attempts before h known)
 
 -- a hall just opened has no attempts
 pub opening-known : (t : Table) → AllKnown [] (opening t)

@@ -250,4 +250,4 @@ unfolding RunSoundness
 run-soundness accepted bs t a h ok c choices =
     let i = run-chain (accepted bs t (a .1)) (schedule choices) h c 0 0 ok in
     let n = i .0 in
-    (steps h (entries (schedule choices)), omega arith, i .1)
+    (omega arith, i .1)

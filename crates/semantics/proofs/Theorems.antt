@@ -1,10 +1,10 @@
 -- The claims of specs/, each as one named theorem.
 -- Assumes nothing.
-use Rattle.semantics.specs.Correspondence.{Soundness, RunSoundness, Completeness, CompletenessAnyOrder, StillIsStill, KeepsWellFormed}
+use Rattle.semantics.specs.Correspondence.{Soundness, RunSoundness, EveryHallStands, AcceptedIsWithinLimits, Completeness, CompletenessAnyOrder, StillIsStill, KeepsWellFormed}
 use Rattle.semantics.specs.Accounts.{RunAccounts}
 use Rattle.semantics.specs.InnerMoves.{MovesEnd, MovesGoOn, SettledRests, MovesSettleFirstPath}
 use Rattle.semantics.specs.Atomicity.{AtomicityOfCalls}
-use Rattle.semantics.specs.Conditions.{TableNumbers, MissingAtLength, HallNumbers, OpenNumbers, ChoiceNumbers, RunNumbers, OneReason}
+use Rattle.semantics.specs.Conditions.{ReadAsPrinted, TableNumbers, MissingAtLength, HallNumbers, OpenNumbers, ChoiceNumbers, RunNumbers, OneReason, RunCallNumbers}
 use Rattle.semantics.proofs.GoodTable.{accepted-is-good}
 use Rattle.semantics.proofs.RoundTrip.{stored-fits, read-back, read-is-well-formed, opening-is-well-formed}
 use Rattle.semantics.proofs.WellFormedKept as Kept
@@ -21,6 +21,9 @@ use Rattle.semantics.proofs.TableConditions as OnTables
 use Rattle.semantics.proofs.HallConditions as OnHalls
 use Rattle.semantics.proofs.ChoiceConditions as OnChoices
 use Rattle.semantics.proofs.RunConditions as OnRuns
+use Rattle.semantics.proofs.CallConditions as OnCalls
+use Rattle.semantics.proofs.RecordShapes as Shapes
+use Rattle.semantics.proofs.Limits as Bounds
 
 -- ---- demand 2
 
@@ -29,6 +32,12 @@ soundness = Sound.soundness
 
 pub run-soundness : RunSoundness
 run-soundness = Sound.run-soundness accepted-is-good
+
+pub every-hall-stands : EveryHallStands
+every-hall-stands = Bounds.every-hall-stands
+
+pub accepted-is-within-limits : AcceptedIsWithinLimits
+accepted-is-within-limits = Bounds.accepted-is-within-limits
 
 pub keeps-well-formed : KeepsWellFormed
 keeps-well-formed = Kept.keeps-well-formed accepted-is-good stored-fits
@@ -76,19 +85,28 @@ atomicity-of-calls table t accepts buffer size first cs =
       never-turned-down = f .never-turned-down;
       whole = f .whole;
       hall = f .hall;
+      read = f .read;
       counts = f .counts;
       stations = f .stations;
       tally = f .tally;
+      attempts = f .attempts;
       paths = f .paths;
       kept-whole = k .kept-whole;
       kept-hall = k .kept-hall;
       kept-counts = k .kept-counts;
       kept-stations = k .kept-stations;
       kept-commits = k .kept-commits;
+      kept-none = k .kept-none;
+      kept-failed = k .kept-failed;
+      kept-retries = k .kept-retries;
+      kept-effects = k .kept-effects;
       converse = converse-holds accepted-is-good read-back stored-fits opening-is-well-formed step-kept table t accepts buffer size first cs;
     }
 
 -- ---- the numbered conditions
+
+pub read-as-printed : ReadAsPrinted
+read-as-printed = Shapes.read-as-printed
 
 pub table-numbers : TableNumbers
 table-numbers = OnTables.table-numbers
@@ -111,3 +129,6 @@ run-numbers = OnRuns.run-numbers
 
 pub one-reason : OneReason
 one-reason = OnRuns.one-reason
+
+pub run-call-numbers : RunCallNumbers
+run-call-numbers = OnCalls.run-call-numbers hall-numbers

@@ -13,7 +13,7 @@ use Rattle.semantics.specs.Table.{Table}
 use Rattle.semantics.specs.Configuration.{Configuration}
 use Rattle.semantics.specs.Stored.{WellFormed}
 use Rattle.semantics.specs.Moves.{ruleNumber}
-use Rattle.semantics.specs.Run.{Counters, counterTop, Step, steps, RunAnswer, run, schedule, entries}
+use Rattle.semantics.specs.Run.{Counters, counterTop, Step, steps, lastOf, RunAnswer, run, schedule, entries}
 use Rattle.semantics.specs.Correspondence.{Accepts}
 
 -- what a rule adds to a channel: its OUTs
@@ -67,6 +67,8 @@ pub record Accounts (h : Configuration) (c : Counters) (ss : List Step) (a : Run
   -- the net lies in -255 to 255
   pub net-above : (x : Name) → count (a .configuration .counts) x ≤ count (h .counts) x + 255
   pub net-below : (x : Name) → count (h .counts) x ≤ count (a .configuration .counts) x + 255
+  -- the hall is what the steps done lead to
+  pub leaves : lastOf h ss ≡ a .configuration
   -- done is the number of choices that moved
   pub moves : a .done ≡ length ss
   -- each counter is the smaller of its top and its first value plus the number of its rules

@@ -3,6 +3,7 @@
 use Prim.Native.Nat.{ℕ, _≤_}
 use mathlib.Core.Path.{_≡_}
 use mathlib.Core.Logic.{_⊎_}
+use mathlib.Core.Bool.{false}
 use mathlib.Core.Option.{Option, none, some}
 use mathlib.Core.List.{List, [], _∷_, _++_, map}
 use lib.ListN.{length, getElem?}
@@ -11,26 +12,23 @@ use Rattle.calculus.specs.Reduction.{Rule, OUT, IN, REP, ATST, ATRE, ATFAIL, AT
 use Rattle.semantics.specs.Basics.{All}
 use Rattle.semantics.specs.Terms.{Expression}
 use Rattle.semantics.specs.Table.{Table}
-use Rattle.semantics.specs.Logs.{firstReadable}
-use Rattle.semantics.specs.Configuration.{Idle, block, Component, idle, transaction, Configuration, opening}
-use Rattle.semantics.specs.Stored.{hallBytes, bytesOf}
+use Rattle.semantics.specs.Logs.{emptyLog, firstReadable}
+use Rattle.semantics.specs.Configuration.{Idle, block, Tree, leaf, Component, idle, transaction, Configuration, opening}
+use Rattle.semantics.specs.Stored.{hallBytes, bytesOf, configurationOf}
 use Rattle.semantics.specs.Moves.{Entry, act}
 use Rattle.semantics.specs.Run.{Counters, Step, steps}
+pub use Rattle.semantics.specs.Run.{lastOf}
 use Rattle.semantics.specs.AtomicRun.{Noted, Atomic, atomicStart, fedAll}
 use Rattle.semantics.specs.Calls.{Lent, RunCall, Call, called, calls, doneIn, openHall, runCall}
-use Rattle.semantics.specs.History.{Opened, attemptAt, NoGain, kept}
+use Rattle.semantics.specs.History.{Opened, attemptAt, NoGain, abandons, kept, effects}
 use Rattle.semantics.specs.Converse.{Plain, plainStart, StruckAll, choicesFor, scheduleBytes}
+use Rattle.semantics.specs.InnerMoves.{Moves}
 use Rattle.semantics.specs.Correspondence.{Bytes, Accepts}
 
 -- an open attempt read as a block not begun
 unfoldable pub unbegun : Component → Idle
 unbegun (idle c) = c
 unbegun (transaction n M s t) = block n M
-
--- the configuration that a list of steps leads to
-abbrev pub lastOf : Configuration → List Step → Configuration
-lastOf h [] = h
-lastOf h (s ∷ ss) = lastOf (s .result) ss
 
 -- the answers of a list of calls, in order
 unfoldable pub answers : List ℕ → Lent → List Call → List RunCall
@@ -69,6 +67,20 @@ CommitOk past s AOE = Unit {0}
 abbrev pub CommitsOk : (past future : List Step) → Type 0
 CommitsOk past [] = Unit {0}
 CommitsOk past (s ∷ ss) = CommitOk past s (s .rule) × CommitsOk (s ∷ past) ss
+
+-- ---- open attempts
+
+-- every open attempt of a configuration after its past: its snapshot is the counts when it was opened, and it has come from its
+-- block's expression and the empty log by moves inside it
+abbrev pub AttemptsOk : (past : List Step) → Configuration → Type 0
+AttemptsOk past h =
+    (q n : ℕ) (M : Expression) (s : State) (u : Tree) → getElem? (h .components) q ≡ some (transaction n M s u) →
+    (o : Opened) × (attemptAt past q ≡ some o) × (o .counts ≡ s) × Moves s (leaf M emptyLog) u
+
+-- the same after each step to come
+abbrev pub AlwaysAttemptsOk : (past : List Step) → Configuration → (future : List Step) → Type 0
+AlwaysAttemptsOk past h [] = AttemptsOk past h
+AlwaysAttemptsOk past h (s ∷ ss) = AttemptsOk past h × AlwaysAttemptsOk (s ∷ past) (s .result) ss
 
 -- ---- the claim
 
@@ -111,10 +123,13 @@ module _ (table : List ℕ) (t : Table) (buffer : List ℕ) (first : Counters) (
     -- the choices done are accepted as one list, from the opening to the hall that the calls leave
     pub whole : length history ≡ length done
     pub hall : finishes .hall ≡ bytesOf (lastOf (opening t) history)
+    pub read : configurationOf (t .terms) (finishes .hall) ≡ some (lastOf (opening t) history)
     -- counts, stations in order with open attempts read as blocks not begun, and tally are those of the one-step run
     pub counts : lastOf (opening t) history .counts ≡ atomic .counts
     pub stations : map unbegun (lastOf (opening t) history .components) ≡ map (λ x. x .station) (atomic .stations)
     pub tally : finishes .counters ≡ atomic .counters
+    -- every attempt that is open on the way came from its block by moves inside it, with the counts at its opening as snapshot
+    pub attempts : AlwaysAttemptsOk [] (opening t) history
     -- the path clause, over the history
     pub paths : CommitsOk [] history
     -- abandoned attempts never happened: without their choices the list is accepted whole, to the same hall byte for
@@ -124,6 +139,11 @@ module _ (table : List ℕ) (t : Table) (buffer : List ℕ) (first : Counters) (
     pub kept-counts : atomicKept .counts ≡ atomic .counts
     pub kept-stations : map (λ x. x .station) (atomicKept .stations) ≡ map (λ x. x .station) (atomic .stations)
     pub kept-commits : atomicKept .counters .commits ≡ atomic .counters .commits
+    -- no abandoned attempt is left in it, so that failed and retries stay as first lent, and what the others did is all there
+    pub kept-none : All (λ u. abandons (u .rule) ≡ false) historyKept
+    pub kept-failed : atomicKept .counters .failed ≡ first .failed
+    pub kept-retries : atomicKept .counters .retries ≡ first .retries
+    pub kept-effects : effects historyKept ≡ effects history
     -- conversely: for every one-step run within the limits whose blocks take the first path readable at commit, the
     -- choices that `choicesFor` gives are bytes, accepted whole by one call, and end with its counts and stations and no
     -- attempt open

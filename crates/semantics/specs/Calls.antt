@@ -13,7 +13,7 @@ use Rattle.semantics.specs.Table.{Table, TableAnswer, accepted, refusedA
 use Rattle.semantics.specs.Configuration.{Configuration, opening}
 use Rattle.semantics.specs.Stored.{hallBytes, bytesOf, configurationOf}
 use Rattle.semantics.specs.Moves.{Entry, Answer, moved, refused, choose}
-use Rattle.semantics.specs.Run.{Counters, freshCounters, RunAnswer, run, schedule, entries, entryBytes}
+use Rattle.semantics.specs.Run.{Counters, freshCounters, RunAnswer, run, schedule, entries, entryBytes, InBytes}
 
 -- a number, 0 for none, and a place, 0 where nothing is refused
 pub record Verdict : Type 0 where
@@ -184,14 +184,14 @@ abbrev pub IsRefused : Answer → Type 0
 IsRefused (moved r h) = ⊥
 IsRefused (refused n) = Unit {0}
 
--- quiescent ("still"): no choice is accepted
+-- quiescent ("still"): no choice is accepted, with any position and node byte
 unfoldable pub Quiescent : Configuration → Type 0
-Quiescent h = (e : Entry) → IsRefused (choose h e)
+Quiescent h = (e : Entry) → InBytes e → IsRefused (choose h e)
 
 -- the answers that are allowed: "it may be any accepted choice"
 unfoldable pub Suggestable : Configuration → SuggestAnswer → Type 0
 unfolding Quiescent
-Suggestable h (suggested e) = IsMoved (choose h e)
+Suggestable h (suggested e) = InBytes e × IsMoved (choose h e)
 Suggestable h still = Quiescent h
 Suggestable h (notSuggested n p) = ⊥
 

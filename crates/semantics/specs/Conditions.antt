@@ -12,13 +12,13 @@ use Rattle.calculus.specs.Syntax.{Name, Log, State}
 use Rattle.calculus.specs.State.{count, Included}
 use Rattle.calculus.specs.Log.{RD, WT}
 use Rattle.semantics.specs.Basics.{replaceAt}
-use Rattle.semantics.specs.Terms.{Expression, endT, retryT, rdT, wtT, orElseT, Program, Term, process, expression, width, branches, pathLength}
+use Rattle.semantics.specs.Terms.{Expression, endT, retryT, rdT, wtT, orElseT, Program, nilT, putT, takeT, repeatT, parT, atomT, Term, process, expression, width, branches, pathLength}
 use Rattle.semantics.specs.Table.{Kind, kindOf, Field, channelF, programF, expressionF, amountF, fields, Reading, nothingRead, Content, aTerm, someTokens, theStart, said, Table, TableAnswer, accepted, refusedAt, readTable}
 use Rattle.semantics.specs.Configuration.{Idle, taking, repeating, block, output, Tree, leaf, fork, Component, idle, transaction, Configuration, opens, nodes}
 use Rattle.semantics.specs.Stored.{WellFormed, bytesOf, hallBytes}
 use Rattle.semantics.specs.Moves.{Entry, act, inside, Answer, moved, refused, choose}
 use Rattle.semantics.specs.Run.{Counters, RunAnswer, run, schedule, entries}
-use Rattle.semantics.specs.Calls.{Admission, admitted, turnedDown, admission, OpenAnswer, opened, notOpened, openHall, IsMoved}
+use Rattle.semantics.specs.Calls.{Admission, admitted, turnedDown, admission, OpenAnswer, opened, notOpened, openHall, IsMoved, Lent, RunCall, runCall, ranOn}
 use Rattle.semantics.specs.Converse.{NoComponent, EmptyChannel, TooMany, FullChannel, scheduleBytes, entryBytes}
 use Rattle.semantics.specs.InnerMoves.{Settled}
 use Rattle.semantics.specs.Correspondence.{Bytes, Accepts}
@@ -75,6 +75,34 @@ pub data Reached (bs : List ℕ) : ℕ → Reading → Type 0 where
   past-tokens : {p : ℕ} {r : Reading} (k : ℕ) (rest : List ℕ) (K : Kind) (a n : ℕ) → Reached bs p r → drop p bs ≡ k ∷ rest → Passes r (k ∷ rest) →
       kindOf k ≡ some K → said (r .terms) rest K ≡ someTokens a n →
       Reached bs (p + suc (length (fields K))) (record { terms = r .terms; tokens = set (r .tokens) a n })
+
+-- The table of kinds as the paper prints it: the kind and body bytes of a record after the terms ts, how many bytes it has, and
+-- what it says. References are to processes and expressions of ts.
+pub data Printed (ts : List Term) : List ℕ → ℕ → Content → Type 0 where
+  nil1 : {bs : List ℕ} → Printed ts (1 ∷ bs) 1 (aTerm (process (nilT (length ts))))
+  put2 : {a : ℕ} {bs : List ℕ} → Printed ts (2 ∷ a ∷ bs) 2 (aTerm (process (putT (length ts) a)))
+  take3 : {a r : ℕ} {bs : List ℕ} {P : Program} → getElem? ts r ≡ some (process P) → Printed ts (3 ∷ a ∷ r ∷ bs) 3 (aTerm (process (takeT (length ts) a P)))
+  repeat4 : {a r : ℕ} {bs : List ℕ} {P : Program} → getElem? ts r ≡ some (process P) →
+      Printed ts (4 ∷ a ∷ r ∷ bs) 3 (aTerm (process (repeatT (length ts) a P)))
+  par5 : {l r : ℕ} {bs : List ℕ} {P Q : Program} → getElem? ts l ≡ some (process P) → getElem? ts r ≡ some (process Q) →
+      Printed ts (5 ∷ l ∷ r ∷ bs) 3 (aTerm (process (parT (length ts) P Q)))
+  atom6 : {r : ℕ} {bs : List ℕ} {M : Expression} → getElem? ts r ≡ some (expression M) → Printed ts (6 ∷ r ∷ bs) 2 (aTerm (process (atomT (length ts) M)))
+  end7 : {bs : List ℕ} → Printed ts (7 ∷ bs) 1 (aTerm (expression (endT (length ts))))
+  retry8 : {bs : List ℕ} → Printed ts (8 ∷ bs) 1 (aTerm (expression (retryT (length ts))))
+  rd9 : {a r : ℕ} {bs : List ℕ} {M : Expression} → getElem? ts r ≡ some (expression M) → Printed ts (9 ∷ a ∷ r ∷ bs) 3 (aTerm (expression (rdT (length ts) a M)))
+  wt10 : {a r : ℕ} {bs : List ℕ} {M : Expression} → getElem? ts r ≡ some (expression M) →
+      Printed ts (10 ∷ a ∷ r ∷ bs) 3 (aTerm (expression (wtT (length ts) a M)))
+  orElse11 : {l r : ℕ} {bs : List ℕ} {M N : Expression} → getElem? ts l ≡ some (expression M) → getElem? ts r ≡ some (expression N) →
+      Printed ts (11 ∷ l ∷ r ∷ bs) 3 (aTerm (expression (orElseT (length ts) M N)))
+  tokens12 : {a n : ℕ} {bs : List ℕ} → Printed ts (12 ∷ a ∷ n ∷ bs) 3 (someTokens a n)
+  start13 : {r : ℕ} {bs : List ℕ} {P : Program} → getElem? ts r ≡ some (process P) → Printed ts (13 ∷ r ∷ bs) 2 (theStart P)
+
+-- the definitions read a record as it is printed
+unfoldable pub ReadAsPrinted : Type 0
+unfolding said kindOf fields
+ReadAsPrinted =
+    (ts : List Term) (k : ℕ) (bs : List ℕ) (w : ℕ) (c : Content) → Printed ts (k ∷ bs) w c →
+    (K : Kind) × (kindOf k ≡ some K) × (suc (length (fields K)) ≡ w) × (said ts bs K ≡ c)
 
 -- refused at the first record where a condition holds, with the first condition that does
 unfoldable pub TableRefused : List ℕ → (number place : ℕ) → Type 0
@@ -200,3 +228,14 @@ RunNumbers =
 -- and there is never a second reason
 unfoldable pub OneReason : Type 0
 OneReason = (h : Configuration) (bs : List ℕ) (m n : ℕ) → Stops h m bs → Stops h n bs → m ≡ n
+
+-- ---- a run as a call
+
+-- turned down 1 to 11: the number and the place of the condition, nothing done, hall and tally untouched; else the run on the hall
+-- that the bytes store
+unfoldable pub RunCallNumbers : Type 0
+RunCallNumbers =
+    (table : List ℕ) (l : Lent) (bs : List ℕ) → Bytes table → Bytes (l .hall) →
+    ((n p : ℕ) → HallCondition table (l .hall) n p → runCall table l bs ≡ record { number = n; place = p; done = 0; lent = l }) ×
+    ((t : Table) (h : Configuration) → readTable table ≡ accepted t → WellFormed (t .terms) h → bytesOf h ≡ l .hall →
+    runCall table l bs ≡ ranOn (run h (l .counters) bs))

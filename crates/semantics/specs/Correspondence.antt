@@ -11,21 +11,17 @@ use Rattle.calculus.specs.Log.{RD}
 use Rattle.calculus.specs.Reduction.{Rule, OUT, IN, REP, ATST, ATRE, ATFAIL, ATOK, ARDOK, ARDF, AWR, AOI, AOF, AOE, Label, by, COM, Reduces, LogOrder, AnyOrder, outputs}
 pub use Rattle.semantics.specs.Basics.{Bytes}
 use Rattle.semantics.specs.Table.{Table, accepted, readTable}
-use Rattle.semantics.specs.Configuration.{Configuration}
+use Rattle.semantics.specs.Configuration.{Component, Configuration}
 use Rattle.semantics.specs.Stored.{WellFormed, bytesOf, hallBytes}
 use Rattle.semantics.specs.Moves.{Entry, act, inside, moved, choose}
-use Rattle.semantics.specs.Run.{Counters, Step, RunAnswer, run}
+use Rattle.semantics.specs.Run.{Counters, Step, RunAnswer, run, steps, schedule, entries}
+unfoldable pub use Rattle.semantics.specs.Run.{InBytes}
 use Rattle.semantics.specs.Calls.{Quiescent}
 use Rattle.semantics.specs.Standing.{Stands, WithinLimits}
 
 -- the bytes are those of an accepted table
 abbrev pub Accepts : List ℕ → Table → Type 0
 Accepts bs t = Bytes bs × (readTable bs ≡ accepted t)
-
--- an entry whose position and node are bytes
-unfoldable pub InBytes : Entry → Type 0
-InBytes (act p) = p ≤ 255
-InBytes (inside p k) = (p ≤ 255) × (k ≤ 255)
 
 -- ---- soundness
 
@@ -47,12 +43,26 @@ abbrev pub Chain : Configuration → List Step → Configuration → Type 0
 Chain h [] g = h ≡ g
 Chain h (s ∷ ss) g = (s .before ≡ h) × (choose (s .before) (s .chosen) ≡ moved (s .rule) (s .result)) × Reduction (s .before) (s .rule) (s .result) × Chain (s .result) ss g
 
--- the same of a run on a call's bytes: as many reductions as "done" says lead from the hall to what the run leaves
+-- the same of a run on a call's bytes: the steps of its choices, as many as "done" says, lead from the hall to what the run
+-- leaves, one reduction each
 unfoldable pub RunSoundness : Type 0
-unfolding run
+unfolding run steps schedule entries
 RunSoundness =
     (bs : List ℕ) (t : Table) → Accepts bs t → (h : Configuration) → WellFormed (t .terms) h → (c : Counters) (choices : List ℕ) →
-    (ss : List Step) × (length ss ≡ (run h c choices) .done) × Chain h ss ((run h c choices) .configuration)
+    (length (steps h (entries (schedule choices))) ≡ (run h c choices) .done) ×
+    Chain h (steps h (entries (schedule choices))) ((run h c choices) .configuration)
+
+-- every list of components stands for some process, so that the above is never said of none
+unfoldable pub EveryHallStands : Type 0
+EveryHallStands = (cs : List Component) → (P : Process) × Stands P cs
+
+-- what an accepted choice does is within the limits
+unfoldable pub AcceptedIsWithinLimits : Type 0
+unfolding WithinLimits
+AcceptedIsWithinLimits =
+    (bs : List ℕ) (t : Table) → Accepts bs t → (h : Configuration) → WellFormed (t .terms) h →
+    (e : Entry) (r : Rule) (g : Configuration) → choose h e ≡ moved r g →
+    (P′ : Process) → Stands P′ (g .components) → WithinLimits (by r) (h .counts) P′ (g .counts)
 
 -- ---- completeness
 
@@ -102,7 +112,8 @@ unfolding Answered WithinLimits
 CompletenessAnyOrder =
     (bs : List ℕ) (t : Table) → Accepts bs t → (h : Configuration) → WellFormed (t .terms) h →
     (P : Process) → Stands P (h .components) → (l : Label) (P′ : Process) (σ′ : State) →
-    Reduces AnyOrder l P (h .counts) P′ σ′ → WithinLimits l (h .counts) P′ σ′ → (P″ : Process) × Reordered P′ P″ × Answered l h P″ σ′
+    Reduces AnyOrder l P (h .counts) P′ σ′ → WithinLimits l (h .counts) P′ σ′ →
+    (P″ : Process) × Reordered P′ P″ × Reduces LogOrder l P (h .counts) P″ σ′ × Answered l h P″ σ′
 
 -- ---- still
 

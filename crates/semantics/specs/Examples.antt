@@ -11,10 +11,11 @@ use Prim.Native.String.{String}
 use mathlib.Core.Path.{_≡_}
 use mathlib.Core.List.{List, [], _∷_, _++_, map}
 use lib.ListN.{take, replicate}
-use Rattle.calculus.specs.Syntax.{rd, wt}
-use Rattle.calculus.specs.Reduction.{Rule, OUT, ATST, ATFAIL, ATOK, ARDOK, ARDF, AWR, AOI, AOF}
+use Rattle.calculus.specs.Syntax.{rd, wt, Log}
+use Rattle.calculus.specs.Reduction.{Rule, OUT, IN, REP, ATST, ATRE, ATFAIL, ATOK, ARDOK, ARDF, AWR, AOI, AOF, AOE}
 use Rattle.semantics.specs.Table.{TableAnswer, accepted, refusedAt, readTable}
 use Rattle.semantics.specs.Configuration.{opening}
+use Rattle.semantics.specs.Moves.{ruleNumber}
 use Rattle.semantics.specs.Run.{Counters, freshCounters, schedule, entries, steps}
 use Rattle.semantics.specs.Calls.{Verdict, checkTable, OpenAnswer, opened, notOpened, openHall, openVerdict, runCall}
 use Rattle.semantics.specs.Report.{printed}
@@ -249,9 +250,29 @@ examples =
           (stored [] (attempt 4 [] (22 ∷ (leafOf 1 0 [] ++ leafOf 2 0 []))))
           (ascii "R 17 5 2\nC 0 0 0\nA 4 3\n");
     } ∷
+    -- beyond the ten, for the kinds and rules that they do not meet: take 1.nil, repeated take 2 of nil, atom retry,
+    -- atom (end orElse rd 3.end) and atom (rd 3.end) side by side. ARDF writes 255 although the table has a retry; 18 at the end
+    record {
+      table =
+          1 ∷ 3 ∷ 1 ∷ 0 ∷ 4 ∷ 2 ∷ 0 ∷ 8 ∷ 6 ∷ 3 ∷ 7 ∷ 9 ∷ 3 ∷ 5 ∷ 11 ∷ 5 ∷ 6 ∷ 6 ∷ 7 ∷ 6 ∷ 6 ∷ 5 ∷ 1 ∷ 2 ∷ 5 ∷ 4 ∷ 8 ∷ 5 ∷ 10 ∷ 11 ∷ 5 ∷ 12 ∷ 9 ∷
+          12 ∷ 1 ∷ 1 ∷ 12 ∷ 2 ∷ 1 ∷ 13 ∷ 13 ∷ [];
+      choices = 1 ∷ 0 ∷ 1 ∷ 0 ∷ 1 ∷ 1 ∷ 1 ∷ 1 ∷ 1 ∷ 2 ∷ 2 ∷ 2 ∷ 0 ∷ 2 ∷ 2 ∷ 0 ∷ 1 ∷ 2 ∷ 1 ∷ 2 ∷ 2 ∷ 2 ∷ 0 ∷ 1 ∷ 0 ∷ [];
+      expected =
+          ran (IN 1 ∷ REP 2 ∷ ATST ∷ ATRE ∷ ATST ∷ AOI ∷ AOE ∷ ATOK [] ∷ ATST ∷ ARDF ∷ []) 18 23 10 (tally 1 0 1)
+          (stored [] (20 ∷ 2 ∷ 20 ∷ 4 ∷ attempt 9 [] (leafOf 255 0 [])))
+          (ascii "R 18 23 10\nC 1 0 1\nT 1 1 -1 0\nT 2 1 -1 0\nW 2\nW 4\nA 9 1\n");
+    } ∷
     []
 
 -- the claim: in every row the definitions give what is expected
 unfoldable pub Examples : Type 0
 unfolding outcome examples
 Examples = map (λ e. outcome (e .table) (e .choices)) examples ≡ map (λ e. e .expected) examples
+
+-- the rules' numbers as document 01 lists them, 1 to 13
+unfoldable pub RulesNumbered : Type 0
+unfolding ruleNumber
+RulesNumbered =
+    (a : ℕ) (δ : Log) →
+    map ruleNumber (OUT a ∷ IN a ∷ REP a ∷ ATST ∷ ATRE ∷ ATFAIL ∷ ATOK δ ∷ ARDOK ∷ ARDF ∷ AWR ∷ AOI ∷ AOF ∷ AOE ∷ [])
+    ≡ 1 ∷ 2 ∷ 3 ∷ 4 ∷ 5 ∷ 6 ∷ 7 ∷ 8 ∷ 9 ∷ 10 ∷ 11 ∷ 12 ∷ 13 ∷ []

@@ -152,3 +152,24 @@ unfoldable pub kept : List Step → List Entry
 unfolding abandonedBy
 kept [] = []
 kept (s ∷ ss) = cond (abandonedBy (s .rule) (s .chosen) ss) (kept ss) (s .chosen ∷ kept ss)
+
+-- the rules that change the counts or what stands in the hall, in order: OUT, IN, REP and ATOK
+unfoldable pub effect : Rule → List Rule
+effect (OUT a) = OUT a ∷ []
+effect (IN a) = IN a ∷ []
+effect (REP a) = REP a ∷ []
+effect ATST = []
+effect ATRE = []
+effect ATFAIL = []
+effect (ATOK δ) = ATOK δ ∷ []
+effect ARDOK = []
+effect ARDF = []
+effect AWR = []
+effect AOI = []
+effect AOF = []
+effect AOE = []
+
+unfoldable pub effects : List Step → List Rule
+unfolding effect
+effects [] = []
+effects (s ∷ ss) = effect (s .rule) ++ effects ss

@@ -1,6 +1,6 @@
 -- A run over the bytes of a schedule (list of choices), with its counters (tally): document 01, "Choices and moves".
 -- Assumes nothing.
-use Prim.Native.Nat.{ℕ, zero, suc, _+_, min}
+use Prim.Native.Nat.{ℕ, zero, suc, _+_, _≤_, min}
 use mathlib.Core.List.{List, [], _∷_, _++_}
 use Rattle.calculus.specs.Reduction.{Rule, OUT, IN, REP, ATST, ATRE, ATFAIL, ATOK, ARDOK, ARDF, AWR, AOI, AOF, AOE}
 use Rattle.semantics.specs.Configuration.{Configuration}
@@ -28,6 +28,11 @@ schedule (suc (suc (suc k)) ∷ bs) = malformed 12 ∷ []
 unfoldable pub entryBytes : Entry → List ℕ
 entryBytes (act p) = 1 ∷ p ∷ []
 entryBytes (inside p k) = 2 ∷ p ∷ k ∷ []
+
+-- an entry whose position and node are bytes
+unfoldable pub InBytes : Entry → Type 0
+InBytes (act p) = p ≤ 255
+InBytes (inside p k) = (p ≤ 255) × (k ≤ 255)
 
 unfoldable pub scheduleBytes : List Entry → List ℕ
 unfolding entryBytes
@@ -135,3 +140,8 @@ unfoldable pub steps : Configuration → List Entry → List Step
 unfolding stepsOn choose
 steps h [] = []
 steps h (e ∷ es) = stepsOn (choose h e) (λ r h′. record { chosen = e; rule = r; before = h; result = h′ } ∷ steps h′ es)
+
+-- the configuration that a list of steps leads to
+abbrev pub lastOf : Configuration → List Step → Configuration
+lastOf h [] = h
+lastOf h (s ∷ ss) = lastOf (s .result) ss
