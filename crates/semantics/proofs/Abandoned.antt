@@ -12,6 +12,7 @@ use mathlib.Core.List.{List, [], _∷_, _++_, map}
 use native.Mathlib.Omega.{arith}
 use lib.ListN.{length, getElem?}
 use lib.Dec.{leb, eqb}
+use borrow.Author.Tests.{le-leb, lt-leb, ne-eqb, eq-eqb}
 use Rattle.calculus.specs.Syntax.{Name, Log, State}
 use Rattle.calculus.specs.Reduction.{Rule, OUT, IN, REP, ATST, ATRE, ATFAIL, ATOK, ARDOK, ARDF, AWR, AOI, AOF, AOE}
 use Rattle.calculus.specs.State.{count, without}
@@ -24,14 +25,16 @@ use Rattle.semantics.specs.Logs.{emptyLog, readable, gained, spent}
 use Rattle.semantics.specs.Configuration.{Idle, taking, repeating, block, output, Tree, leaf, fork, Component, idle, transaction, Configuration, opens, opening}
 use Rattle.semantics.specs.Moves.{Entry, act, inside, moves, stays, takes, puts, commits, acts, Inner, evolves, resting, past, inner, innerLocal, actsInside, Answer, moved, refused, settles, at, choose}
 use Rattle.semantics.specs.Run.{Counters, counted, Step, steps, stepsOn}
-use Rattle.semantics.specs.AtomicRun.{Atomic, atomicStart, fed, fedAll}
+use Rattle.semantics.specs.AtomicRun.{atomicStart}
 use Rattle.semantics.specs.Calls.{Call}
 use Rattle.semantics.specs.History.{laid, doomed, abandons, opensOne, abandonedBy, kept, effect, effects}
-use Rattle.semantics.specs.Atomicity.{unbegun, lastOf, finishes, done, history, atomic, atomicKept, historyKept}
-use Rattle.semantics.proofs.Reading.{true-leb, false-leb, true-eqb, false-eqb}
-use Rattle.semantics.proofs.Lists.{found-below, length-replaceAt}
-use Rattle.semantics.proofs.HistoryLists.{replaceAt-same}
+use Rattle.semantics.specs.Atomicity.{lastOf, finishes, done, history, atomic, atomicKept, historyKept}
+use Rattle.semantics.proofs.Lists.{found-below, length-replaceAt, replaceAt-same}
+use Rattle.semantics.proofs.Moves.{positionOf, localMove, chosen-at}
 use Rattle.semantics.proofs.InnerMoves.{InnerRule, ByInnerRule, inner-rule}
+use Rattle.semantics.proofs.Simulation.{related-stations, opening-related}
+use Rattle.semantics.proofs.Runs.{Runs, rested, ran, runs-steps, tallied, runs-related}
+use Rattle.semantics.proofs.CallsAsOne.{Forward}
 
 -- ---- attempts read as not begun
 
@@ -59,16 +62,11 @@ unfolding cleared
 cleared-none [] = refl
 cleared-none (c ∷ cs) = ap (_∷_ c) (cleared-none cs)
 
--- idle components stay, outputs among them
-cleared-idle : (d : ℕ → Bool) (cs : List Idle) → cleared d (map idle cs) ≡ map idle cs
+-- idle components stay
+cleared-idle : {A : Type 0} (d : ℕ → Bool) (f : A → Idle) (xs : List A) → cleared d (map (λ x. idle (f x)) xs) ≡ map (λ x. idle (f x)) xs
 unfolding cleared
-cleared-idle d [] = refl
-cleared-idle d (c ∷ cs) = ap₂ _∷_ (clear-idle (d 0) c) (cleared-idle (λ j. d (suc j)) cs)
-
-cleared-outputs : (d : ℕ → Bool) (f : Name → Idle) (bs : List Name) → cleared d (map (λ a. idle (f a)) bs) ≡ map (λ a. idle (f a)) bs
-unfolding cleared
-cleared-outputs d f [] = refl
-cleared-outputs d f (b ∷ bs) = ap₂ _∷_ (clear-idle (d 0) (f b)) (cleared-outputs (λ j. d (suc j)) f bs)
+cleared-idle d f [] = refl
+cleared-idle d f (x ∷ xs) = ap₂ _∷_ (clear-idle (d 0) (f x)) (cleared-idle (λ j. d (suc j)) f xs)
 
 -- how many they are, and which one stands at a position
 cleared-length : (d : ℕ → Bool) (cs : List Component) → length (cleared d cs) ≡ length cs
@@ -133,29 +131,19 @@ clearedBy future h = record { counts = h .counts; components = cleared (λ q. do
 -- what is said of a position before a step, against what is said of the position that its component has afterwards
 doomed-before : (s : Step) (future : List Step) (p q : ℕ) → s .chosen ≡ act p → q < p → doomed q (s ∷ future) ≡ doomed q future
 unfolding doomed
-doomed-before s future p q e h = rw (e, true-leb (suc q) p h)
+doomed-before s future p q e h = rw (e, le-leb (suc q) p h)
 
 doomed-here : (s : Step) (future : List Step) (p : ℕ) → s .chosen ≡ act p → doomed p (s ∷ future) ≡ abandons (s .rule)
 unfolding doomed
-doomed-here s future p e = rw (e, false-leb (suc p) p (omega arith), true-eqb p)
+doomed-here s future p e = rw (e, lt-leb (suc p) p (omega arith), eq-eqb p p refl)
 
 doomed-behind : (s : Step) (future : List Step) (p q : ℕ) → s .chosen ≡ act p → p < q → doomed q (s ∷ future) ≡ doomed (q + laid s - 1) future
 unfolding doomed
-doomed-behind s future p q e h = rw (e, false-leb (suc q) p (omega arith), false-eqb q p (λ k. omega arith))
+doomed-behind s future p q e h = rw (e, lt-leb (suc q) p (omega arith), ne-eqb q p (λ k. omega arith))
 
 -- the step by a rule at an entry
 abbrev stepBy : Configuration → Entry → Rule → Configuration → Step
 stepBy h e r f = record { chosen = e; rule = r; before = h; result = f }
-
--- a choice at a component that is there
-act-chosen : (g : Configuration) (p : ℕ) (c : Component) → getElem? (g .components) p ≡ some c → choose g (act p) ≡ settles p (acts (g .counts) c) g
-unfolding choose
-act-chosen g p c e = rw e
-
-inside-chosen : (g : Configuration) (p k : ℕ) (c : Component) → getElem? (g .components) p ≡ some c →
-    choose g (inside p k) ≡ settles p (actsInside (g .counts) c k) g
-unfolding choose
-inside-chosen g p k c e = rw e
 
 -- what a step is in the run without abandoned attempts: nothing, where it belongs to one, else the same step, by a rule that
 -- abandons nothing
@@ -298,6 +286,7 @@ module _ (h : Configuration) (p : ℕ) (c : Component) (found : getElem? (h .com
   -- both for an act, which abandons the component's attempt exactly where its rule does
   same-act : (r : Rule) (σ : State) (ys : List Component) → acts (h .counts) c ≡ moves r σ ys → abandonedBy r (act p) future ≡ false →
       cleared (λ j. doomed (p + j) future) ys ≡ ys → clear (abandons r) c ≡ c → Shadows h (act p) future (settles p (moves r σ ys) h)
+  unfolding positionOf localMove
   same-act r σ ys move lasts ys-stay c-stays =
       same-step
       (act p)
@@ -306,7 +295,7 @@ module _ (h : Configuration) (p : ℕ) (c : Component) (found : getElem? (h .com
       ys
       lasts
       (kept-abandons-none r p future lasts)
-      (λ g counts there. act-chosen g p c there ∙ rw (counts, move))
+      (λ g counts there. chosen-at g (act p) c there ∙ rw (counts, move))
       ys-stay
       (rw (doomed-here (stepBy h (act p) r (leaves σ ys)) future p refl) c-stays)
       (act-cleared r σ ys)
@@ -328,7 +317,7 @@ module _ (h : Configuration) (p : ℕ) (future : List Step) where
   idle-act : (x : Idle) → getElem? (h .components) p ≡ some (idle x) → (r : Rule) (σ : State) (cs : List Idle) →
       acts (h .counts) (idle x) ≡ moves r σ (map idle cs) → abandonedBy r (act p) future ≡ false → Shadows h (act p) future (settles p (moves r σ (map idle cs)) h)
   idle-act x found r σ cs e lasts =
-      same-act h p (idle x) found future r σ (map idle cs) e lasts (cleared-idle (λ j. doomed (p + j) future) cs) (clear-idle (abandons r) x)
+      same-act h p (idle x) found future r σ (map idle cs) e lasts (cleared-idle (λ j. doomed (p + j) future) (λ x. x) cs) (clear-idle (abandons r) x)
 
   -- a take, an output
   takes-act : (x : Idle) → getElem? (h .components) p ≡ some (idle x) → (a : Name) (r : Rule) (cs : List Idle) →
@@ -389,7 +378,7 @@ module _ (h : Configuration) (p : ℕ) (future : List Step) where
 
       go : (b : Bool) → readable (h .counts) δ ≡ b →
           Shadows h (act p) future (settles p (cond b (moves (ATOK δ) σ ys) (moves ATFAIL (h .counts) (idle (block n M) ∷ []))) h)
-      go true t = same-act h p c found future (ATOK δ) σ ys (rw t) refl (cleared-outputs (λ j. doomed (p + j) future) output (WT δ)) refl
+      go true t = same-act h p c found future (ATOK δ) σ ys (rw t) refl (cleared-idle (λ j. doomed (p + j) future) output (WT δ)) refl
       go false t = abandons-act n M s (leaf (endT e) δ) found ATFAIL refl refl refl
 
   -- every act
@@ -410,7 +399,7 @@ module _ (h : Configuration) (p k : ℕ) (future : List Step) where
   -- a move inside an attempt: nothing where it will be abandoned, else the same move
   evolves-inside : (n : ℕ) (M : Expression) (s : State) (t u : Tree) (r : Rule) → getElem? (h .components) p ≡ some (transaction n M s t) →
       inner s t k ≡ evolves r u → InnerRule r → Shadows h (inside p k) future (settles p (moves r (h .counts) (transaction n M s u ∷ [])) h)
-  unfolding abandonedBy cleared clear actsInside innerLocal doomed
+  unfolding abandonedBy cleared clear positionOf localMove innerLocal doomed
   evolves-inside n M s t u r found evolved ruled = go (doomed p future) refl
     where
       go : (b : Bool) → doomed p future ≡ b → Shadows h (inside p k) future (settles p (moves r (h .counts) (transaction n M s u ∷ [])) h)
@@ -441,7 +430,7 @@ module _ (h : Configuration) (p k : ℕ) (future : List Step) where
           (transaction n M s u ∷ [])
           d
           (inner-plain r ruled .1)
-          (λ g counts there. inside-chosen g p k (transaction n M s t) there ∙ rw (evolved, counts))
+          (λ g counts there. chosen-at g (inside p k) (transaction n M s t) there ∙ rw (evolved, counts))
           (let i : p + 0 ≡ p = omega arith in rw (i, d))
           (rw d)
           (inside-cleared h p (transaction n M s t) found future k r (h .counts) (transaction n M s u))
@@ -452,7 +441,7 @@ module _ (h : Configuration) (p k : ℕ) (future : List Step) where
   inside-shadows (idle c) found = tt
   inside-shadows (transaction n M s t) found = go (inner s t k) refl (inner-rule s t k)
     where
-      go : (i : Inner) → inner s t k ≡ i → ByInnerRule i → Shadows h (inside p k) future (settles p (innerLocal (h .counts) n M s i) h)
+      go : (i : Inner) → inner s t k ≡ i → ByInnerRule t i → Shadows h (inside p k) future (settles p (innerLocal (h .counts) n M s i) h)
       go (evolves r u) e ruled = evolves-inside n M s t u r found e ruled
       go resting e ruled = tt
       go (past j) e ruled = tt
@@ -476,8 +465,7 @@ shadows h (inside p k) future = go (getElem? (h .components) p) refl
 -- the kept choices of a history are all accepted from g, to the same last configuration, with the same effects, and abandon
 -- nothing
 pub record KeptFrom (g h : Configuration) (history : List Step) : Type 0 where
-  pub whole : length (steps g (kept history)) ≡ length (kept history)
-  pub last : lastOf g (steps g (kept history)) ≡ lastOf h history
+  pub runs : Runs g (kept history) (lastOf h history)
   pub same-effects : effects (steps g (kept history)) ≡ effects history
   pub no-abandoned : All (λ u. abandons (u .rule) ≡ false) (steps g (kept history))
 
@@ -486,8 +474,7 @@ nothing-done : (h : Configuration) → KeptFrom (clearedBy [] h) h []
 unfolding steps kept clearedBy doomed effects
 nothing-done h =
     record {
-      whole = refl;
-      last = λ i. record { counts = h .counts; components = cleared-none (h .components) i };
+      runs = subst (λ g. Runs g [] h) (λ i. record { counts = h .counts; components = sym (cleared-none (h .components)) i }) rested;
       same-effects = refl;
       no-abandoned = tt;
     }
@@ -501,15 +488,13 @@ step-done h e r f future = go (abandonedBy r e future) refl
         KeptFrom (clearedBy (stepBy h e r f ∷ future) h) h (stepBy h e r f ∷ future)
     go true b s k =
         record {
-          whole = rw (b, s .0) (k .whole);
-          last = rw (b, s .0) (k .last);
+          runs = rw (b, s .0) (k .runs);
           same-effects = rw (b, s .0, s .1) (k .same-effects);
           no-abandoned = rw (b, s .0) (k .no-abandoned);
         }
     go false b s k =
         record {
-          whole = rw (b, s .0) (ap suc (k .whole));
-          last = rw (b, s .0) (k .last);
+          runs = rw b (ran r (s .0) (k .runs));
           same-effects = rw (b, s .0) (ap (_++_ (effect r)) (k .same-effects));
           no-abandoned = rw (b, s .0) (s .1, k .no-abandoned);
         }
@@ -528,31 +513,13 @@ kept-from-cleared h (e ∷ es) = go (choose h e) (λ future. shadows h e future)
     go (moved r f) s rest = step-done h e r f (steps f es) (s (steps f es)) (rest f)
     go (refused n) s rest = nothing-done h
 
--- where nothing that has begun will be abandoned, clearing changes nothing
-cleared-all : (d : ℕ → Bool) (cs : List Component) →
-    ((q n : ℕ) (M : Expression) (s : State) (t : Tree) → getElem? cs q ≡ some (transaction n M s t) → d q ≡ false) → cleared d cs ≡ cs
-unfolding cleared clear
-cleared-all d [] h = refl
-cleared-all d (idle c ∷ cs) h = ap₂ _∷_ (clear-idle (d 0) c) (cleared-all (λ j. d (suc j)) cs (λ q. h (suc q)))
-cleared-all d (transaction n M s t ∷ cs) h = ap₂ _∷_ (rw (h 0 n M s t refl)) (cleared-all (λ j. d (suc j)) cs (λ q. h (suc q)))
-
--- From a configuration with no attempt that will be abandoned: the kept choices are all accepted, to the same end.
-pub kept-runs : (h : Configuration) (es : List Entry) →
-    ((q n : ℕ) (M : Expression) (s : State) (t : Tree) → getElem? (h .components) q ≡ some (transaction n M s t) → doomed q (steps h es) ≡ false) →
-    KeptFrom h h (steps h es)
-unfolding clearedBy
-kept-runs h es spared =
-    let same : clearedBy (steps h es) h ≡ h =
-    λ i. record { counts = h .counts; components = cleared-all (λ q. doomed q (steps h es)) (h .components) spared i } in
-    subst (λ g. KeptFrom g h (steps h es)) same (kept-from-cleared h es)
-
 -- From a configuration with no attempt at all.
 pub kept-runs-idle : (σ : State) (cs : List Idle) (es : List Entry) →
     let h : Configuration = record { counts = σ; components = map idle cs } in KeptFrom h h (steps h es)
 unfolding clearedBy
 kept-runs-idle σ cs es =
     let h : Configuration = record { counts = σ; components = map idle cs } in
-    let same : clearedBy (steps h es) h ≡ h = λ i. record { counts = σ; components = cleared-idle (λ q. doomed q (steps h es)) cs i } in
+    let same : clearedBy (steps h es) h ≡ h = λ i. record { counts = σ; components = cleared-idle (λ q. doomed q (steps h es)) (λ x. x) cs i } in
     subst (λ g. KeptFrom g h (steps h es)) same (kept-from-cleared h es)
 
 -- From the opening.
@@ -561,12 +528,6 @@ unfolding opening
 kept-runs-opening t es = kept-runs-idle (t .tokens) (opens (t .start)) es
 
 -- ---- the counters
-
--- the counters after the rules of some steps
-unfoldable pub tallied : Counters → List Step → Counters
-unfolding counted
-tallied c [] = c
-tallied c (s ∷ ss) = tallied (counted (s .rule) c) ss
 
 -- a count of commits after some rules
 raised : Rule → ℕ → ℕ
@@ -634,48 +595,6 @@ tallied-abandons-none (s ∷ ss) c spared =
 
 -- ---- in the claim's terms
 
--- The one-step run over accepted choices follows the run: its counts, its stations not begun, the counters of its rules.
-pub record AtomicFollows (t : Table) (first : Counters) (es : List Entry) : Type 0 where
-  pub counts : fedAll (atomicStart t first) es .counts ≡ lastOf (opening t) (steps (opening t) es) .counts
-  pub stations : map (λ x. x .station) (fedAll (atomicStart t first) es .stations) ≡ map unbegun (lastOf (opening t) (steps (opening t) es) .components)
-  pub tally : fedAll (atomicStart t first) es .counters ≡ tallied first (steps (opening t) es)
-
--- It does, where some relation between configurations and one-step runs holds at the start, is kept by each accepted choice with
--- its rule counted, and says that counts and stations agree.
-module _
-    (Agrees : Configuration → Atomic → Type 0)
-    (step-agrees : (h : Configuration) (a : Atomic) (e : Entry) (r : Rule) (g : Configuration) → Agrees h a → choose h e ≡ moved r g →
-    Agrees g (fed a e) × ((fed a e) .counters ≡ counted r (a .counters)))
-  where
-    steps-agree : (es : List Entry) (h : Configuration) (a : Atomic) → Agrees h a → length (steps h es) ≡ length es →
-        Agrees (lastOf h (steps h es)) (fedAll a es) × (fedAll a es .counters ≡ tallied (a .counters) (steps h es))
-    unfolding steps stepsOn fedAll tallied
-    steps-agree [] h a agrees whole = (agrees, refl)
-    steps-agree (e ∷ es) h a agrees whole = go (choose h e) refl whole (λ g b. steps-agree es g b)
-      where
-        next : Rule → Configuration → List Step
-        next r g = stepBy h e r g ∷ steps g es
-
-        go : (answer : Answer) → choose h e ≡ answer → length (stepsOn answer next) ≡ suc (length es) →
-            ((g : Configuration) (b : Atomic) → Agrees g b → length (steps g es) ≡ length es →
-            Agrees (lastOf g (steps g es)) (fedAll b es) × (fedAll b es .counters ≡ tallied (b .counters) (steps g es))) →
-            Agrees (lastOf h (stepsOn answer next)) (fedAll (fed a e) es) × (fedAll (fed a e) es .counters ≡ tallied (a .counters) (stepsOn answer next))
-        go (moved r g) q w rest =
-            let k = step-agrees h a e r g agrees q in
-            let m = rest g (fed a e) (k .0) (omega arith) in (m .0, m .1 ∙ ap (λ c. tallied c (steps g es)) (k .1))
-        go (refused n) q w rest = absurd (omega arith)
-
-    pub atomic-follows : (t : Table) (first : Counters) → Agrees (opening t) (atomicStart t first) →
-        ((h : Configuration) (a : Atomic) → Agrees h a → h .counts ≡ a .counts) →
-        ((h : Configuration) (a : Atomic) → Agrees h a → map unbegun (h .components) ≡ map (λ x. x .station) (a .stations)) →
-        (es : List Entry) → length (steps (opening t) es) ≡ length es → AtomicFollows t first es
-    unfolding atomicStart
-    atomic-follows t first start same-counts same-stations es whole =
-        let k = steps-agree es (opening t) (atomicStart t first) start whole in
-        let last = lastOf (opening t) (steps (opening t) es) in
-        let end = fedAll (atomicStart t first) es in
-        record { counts = sym (same-counts last end (k .0)); stations = sym (same-stations last end (k .0)); tally = k .1 }
-
 module _ (table : List ℕ) (t : Table) (buffer : List ℕ) (first : Counters) (cs : List Call) where
   -- the claims about the run without abandoned attempts
   pub record KeptClaims : Type 0 where
@@ -690,28 +609,26 @@ module _ (table : List ℕ) (t : Table) (buffer : List ℕ) (first : Counters) (
     pub kept-retries : atomicKept table t buffer first cs .counters .retries ≡ first .retries
     pub kept-effects : effects (historyKept table t buffer first cs) ≡ effects (history table t buffer first cs)
 
-  -- Abandoned attempts never happened, where the one-step run follows every list of accepted choices.
-  pub kept-claims : ((es : List Entry) → length (steps (opening t) es) ≡ length es → AtomicFollows t first es) →
-      length (history table t buffer first cs) ≡ length (done table t buffer first cs) →
-      finishes table t buffer first cs .hall ≡ bytesOf (lastOf (opening t) (history table t buffer first cs)) → KeptClaims
-  unfolding history historyKept atomic atomicKept
-  kept-claims follows whole hall =
-      let es = done table t buffer first cs in
-      let k = kept-runs-opening t es in
-      let before = follows es whole in
-      let after = follows (kept (steps (opening t) es)) (k .whole) in
-      let same = tallied-abandons-none (steps (opening t) (kept (steps (opening t) es))) first (k .no-abandoned) in
+  -- Abandoned attempts never happened.
+  pub kept-claims : Forward table t buffer first cs → KeptClaims
+  unfolding history historyKept atomic atomicKept atomicStart
+  kept-claims f =
+      let es = kept (steps (opening t) (done table t buffer first cs)) in
+      let k = kept-runs-opening t (done table t buffer first cs) in
+      let stepped = runs-steps (k .runs) in
+      let paced = runs-related (k .runs) (atomicStart t first) (opening-related t first) in
+      let same = tallied-abandons-none (steps (opening t) es) first (k .no-abandoned) in
       record {
-        kept-whole = k .whole;
-        kept-hall = ap bytesOf (k .last) ∙ sym hall;
-        kept-counts = after .counts ∙ ap (λ h. h .counts) (k .last) ∙ sym (before .counts);
-        kept-stations = after .stations ∙ ap (λ h. map unbegun (h .components)) (k .last) ∙ sym (before .stations);
+        kept-whole = stepped .0;
+        kept-hall = ap bytesOf (stepped .1) ∙ sym (f .hall);
+        kept-counts = sym (paced .0 .counts) ∙ f .counts;
+        kept-stations = sym (related-stations _ _ (paced .0)) ∙ f .stations;
         kept-commits =
-            ap (λ c. c .commits) (after .tally)
-            ∙ same-commits first (steps (opening t) (kept (steps (opening t) es))) (steps (opening t) es) (k .same-effects)
-            ∙ sym (ap (λ c. c .commits) (before .tally));
+            ap (λ c. c .commits) (paced .1)
+            ∙ same-commits first (steps (opening t) es) (steps (opening t) (done table t buffer first cs)) (k .same-effects)
+            ∙ sym (ap (λ c. c .commits) (f .counted-rules));
         kept-none = k .no-abandoned;
-        kept-failed = ap (λ c. c .failed) (after .tally) ∙ same .0;
-        kept-retries = ap (λ c. c .retries) (after .tally) ∙ same .1;
+        kept-failed = ap (λ c. c .failed) (paced .1) ∙ same .0;
+        kept-retries = ap (λ c. c .retries) (paced .1) ∙ same .1;
         kept-effects = k .same-effects;
       }

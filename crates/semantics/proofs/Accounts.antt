@@ -18,10 +18,10 @@ use Rattle.semantics.specs.Standing.{componentProcess, Stands, nothing, 
 use Rattle.semantics.specs.GoodTable.{GoodTable}
 use Rattle.semantics.specs.Moves.{Entry, moved, choose, ruleNumber}
 use Rattle.semantics.specs.Run.{entries, Counters, counterTop, counted, RunAnswer, run, schedule, Step, steps, lastOf}
-use Rattle.semantics.specs.StoredClaims.{AcceptedIsGood}
 use Rattle.semantics.specs.Correspondence.{Reduction}
 use Rattle.semantics.specs.Accounts.{adds, removes, total, byRule, RunAccounts}
 use Rattle.semantics.proofs.Moves.{run-induction}
+use Rattle.semantics.proofs.GoodTable.{accepted-is-good}
 use Rattle.semantics.proofs.WellFormedKept.{count-byte, well-formed-step}
 use Rattle.semantics.proofs.Soundness.{reduction-step}
 
@@ -154,10 +154,10 @@ kept-one good e r h g c d ss a q rest ok top =
     }
 
 -- the claim, for the bytes of every accepted table
-pub run-accounts : AcceptedIsGood → RunAccounts
+pub run-accounts : RunAccounts
 unfolding RunAccounts
-run-accounts accepted bs t a h ok c top-commits top-failed top-retries choices =
-    let good = accepted bs t (a .1) in
+run-accounts bs t a h ok c top-commits top-failed top-retries choices =
+    let good = accepted-is-good bs t (a .1) in
     let i : Kept h c 0 (steps h (entries (schedule choices))) (run h c choices) =
     run-induction
     (λ h c d ss a. WellFormed (t .terms) h → WithinTop c → Kept h c d ss a)

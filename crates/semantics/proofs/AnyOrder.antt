@@ -1,6 +1,6 @@
 -- ATOK's outputs in any order: such a reduction is one with the outputs in log order, up to the order of those outputs.
 -- Hence completeness for that reading too, and that a configuration with no accepted choice has no reduction within the limits.
--- Rests on one claim that is proved elsewhere and taken as an argument: an accepted choice keeps the configuration well formed.
+-- Assumes nothing.
 use Prim.Native.Nat.{_≤_}
 use native.Mathlib.Omega.{arith}
 use native.Mathlib.Decide.{ℕ-discrete}
@@ -14,7 +14,7 @@ use Rattle.calculus.specs.Reduction.{Label, by, COM, Reduces, OUTr, INr, REPr, 
 use Rattle.calculus.proofs.States.{same-self, same-other, occurrences-append}
 use Rattle.semantics.specs.Configuration.{Configuration}
 use Rattle.semantics.specs.Calls.{Quiescent}
-use Rattle.semantics.specs.Correspondence.{Answered, Completeness, Reordered, unchanged, shuffled, within, CompletenessAnyOrder, StillIsStill, KeepsWellFormed}
+use Rattle.semantics.specs.Correspondence.{Answered, Completeness, Reordered, unchanged, shuffled, within, CompletenessAnyOrder, StillIsStill}
 use Rattle.semantics.specs.Standing.{parallel, WithinLimits}
 use Rattle.semantics.proofs.Communication.{none-occurs}
 use Rattle.semantics.proofs.Completeness.{completeness}
@@ -88,11 +88,11 @@ in-log-order (ATOKr {δ = δ} {bs = bs} d o) = (outputs (WT δ), shuffled bs (WT
 -- ---- the claims
 
 -- completeness with ATOK's outputs in any order, up to the order of those outputs
-pub completeness-any-order : KeepsWellFormed → CompletenessAnyOrder
+pub completeness-any-order : CompletenessAnyOrder
 unfolding CompletenessAnyOrder Completeness
-completeness-any-order keeps bs t acc h ok P s l P′ σ′ d b =
+completeness-any-order bs t acc h ok P s l P′ σ′ d b =
     let (P″, same, e) = in-log-order d in
-    (P″, same, e, completeness keeps bs t acc h ok P s l P″ σ′ e (reordered-within l (h .counts) σ′ same b))
+    (P″, same, e, completeness bs t acc h ok P s l P″ σ′ e (reordered-within l (h .counts) σ′ same b))
 
 -- where a reduction is answered some choice is accepted
 answered-moves : (l : Label) (h : Configuration) (P : Process) (σ : State) → Answered l h P σ → Quiescent h → ⊥
@@ -101,8 +101,8 @@ answered-moves (by r) h P σ x still = rw (x .3) at (still (x .0) (x .2))
 answered-moves (COM a) h P σ x still = rw (x .7) at (still (x .0) (x .5))
 
 -- where no choice is accepted no reduction within the limits exists
-pub still-is-still : KeepsWellFormed → StillIsStill
+pub still-is-still : StillIsStill
 unfolding StillIsStill CompletenessAnyOrder
-still-is-still keeps bs t acc h ok still P s l P′ σ′ d b =
-    let (P″, same, e, x) = completeness-any-order keeps bs t acc h ok P s l P′ σ′ d b in
+still-is-still bs t acc h ok still P s l P′ σ′ d b =
+    let (P″, same, e, x) = completeness-any-order bs t acc h ok P s l P′ σ′ d b in
     answered-moves l h P″ σ′ x still

@@ -9,11 +9,12 @@ use Rattle.semantics.specs.Calls.{runAdmitted, runCall}
 use Rattle.semantics.specs.Conditions.{HallNumbers, RunCallNumbers}
 use Rattle.semantics.proofs.GoodTable.{accepted-is-good}
 use Rattle.semantics.proofs.RoundTrip.{stored-fits}
+use Rattle.semantics.proofs.HallConditions.{hall-numbers}
 
-pub run-call-numbers : HallNumbers → RunCallNumbers
+pub run-call-numbers : RunCallNumbers
 unfolding RunCallNumbers HallNumbers runCall
-run-call-numbers numbers table l bs table-bytes hall-bytes =
-    let n = numbers table (l .hall) table-bytes hall-bytes in (
+run-call-numbers table l bs table-bytes hall-bytes =
+    let n = hall-numbers table (l .hall) table-bytes hall-bytes in (
       λ k p c. ap (runAdmitted l bs) ((n .0 k p) .1 c),
       λ t h reads ok same.
           let size : length (l .hall) ≡ hallBytes = ap length (sym same) ∙ (stored-fits (t .terms) h (accepted-is-good table t reads) ok) .1 in

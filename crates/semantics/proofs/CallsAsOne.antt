@@ -1,6 +1,6 @@
 -- The forward half of demand 3: a list of calls, whatever it refuses on the way, is one run of the choices done from the
 -- opening, and that run keeps pace with the atomic run.
--- Assumes nothing; what other files prove of tables and stored halls stands in the signatures.
+-- Assumes nothing.
 use Prim.Native.Nat.{ℕ, zero, suc, _+_, _≤_}
 use native.Mathlib.Omega.{arith}
 use mathlib.Core.Path.{_≡_, refl, sym, ap, _∙_}
@@ -10,26 +10,29 @@ use mathlib.Core.Option.{Option, none, some}
 use mathlib.Core.List.{List, [], _∷_, _++_, map}
 use lib.ListN.{length, take, getElem?}
 use lib.Dec.{leb, eqb}
+use borrow.Author.Tests.{eq-eqb}
 use Rattle.calculus.specs.Syntax.{Name, State}
 use Rattle.calculus.specs.State.{count, without}
 use Rattle.calculus.specs.Log.{RD, WT}
 use Rattle.calculus.specs.Reduction.{Rule, OUT, ATFAIL, ATOK}
 use Rattle.semantics.specs.Basics.{All, replaceAt}
-use Rattle.semantics.specs.Terms.{Expression, endT, retryT, rdT, wtT, orElseT, Term}
+use Rattle.semantics.specs.Terms.{Expression, endT, retryT, rdT, wtT, orElseT}
 use Rattle.semantics.specs.Table.{Table, accepted, readTable}
 use Rattle.semantics.specs.Logs.{readable, gained, spent}
 use Rattle.semantics.specs.Configuration.{Idle, taking, repeating, block, output, Tree, leaf, fork, Component, idle, transaction, Configuration, opening, opens}
 use Rattle.semantics.specs.Stored.{WellFormed, hallBytes, bytesOf, configurationOf}
 use Rattle.semantics.specs.Moves.{Entry, act, inside, Answer, moved, refused, settles, at, choose, Local, moves, stays, takes, puts, ends, acts, actsInside, Inner, evolves, resting, past, inner, innerLocal}
 use Rattle.semantics.specs.Run.{Item, entry, malformed, schedule, entries, Counters, counted, RunAnswer, goesOn, runFrom, run, steps}
-use Rattle.semantics.specs.AtomicRun.{Atomic, atomicStart, fed, fedAll}
+use Rattle.semantics.specs.AtomicRun.{atomicStart}
 use Rattle.semantics.specs.Calls.{admitted, formTested, sizeTested, tableTested, admission, openSized, openTested, Lent, RunCall, ranOn, runAdmitted, runCall, Call, runChoices, called, calls, callEntries, doneIn}
 use Rattle.semantics.specs.Correspondence.{Accepts}
 use Rattle.semantics.specs.Atomicity.{unbegun, lastOf, answers, firstLent, CommitsOk, AlwaysAttemptsOk, begins, finishes, done, history, atomic}
 use Rattle.semantics.specs.GoodTable.{GoodTable}
-use Rattle.semantics.specs.StoredClaims.{AcceptedIsGood, ReadBack, StoredFits, OpeningIsWellFormed}
-use Rattle.semantics.proofs.Reading.{true-eqb}
-use Rattle.semantics.proofs.Simulation.{Related, related-stations, opening-related, step-related}
+use Rattle.semantics.proofs.GoodTable.{accepted-is-good}
+use Rattle.semantics.proofs.RoundTrip.{stored-fits, read-back, opening-is-well-formed}
+use Rattle.semantics.proofs.WellFormedKept.{well-formed-step}
+use Rattle.semantics.proofs.Simulation.{related-stations, opening-related}
+use Rattle.semantics.proofs.Runs.{Runs, rested, ran, runs-append, runs-keep, runs-steps, tallied, tallied-append, runs-related}
 use Rattle.semantics.proofs.PathClause.{steps-tell, opening-known}
 
 -- ---- refusals of choices are 12 and above
@@ -140,38 +143,6 @@ schedule-high (suc (suc (suc k)) ∷ bs) = (omega arith, tt)
 
 -- ---- entries done
 
--- entries accepted one after another, from one configuration and counters to others
-pub data Runs : Configuration → Counters → List Entry → Configuration → Counters → Type 0 where
-  rested : {h : Configuration} {c : Counters} → Runs h c [] h c
-  ran : {h g k : Configuration} {c d : Counters} {e : Entry} {es : List Entry} {r : Rule} →
-      choose h e ≡ moved r g → Runs g (counted r c) es k d → Runs h c (e ∷ es) k d
-
--- entries done behind entries done
-pub runs-append : {h g k : Configuration} {c d f : Counters} {es fs : List Entry} → Runs h c es g d → Runs g d fs k f → Runs h c (es ++ fs) k f
-runs-append rested y = y
-runs-append (ran q x) y = ran q (runs-append x y)
-
--- the steps of accepted entries are all of them, and lead where they lead
-pub runs-steps : {h g : Configuration} {c d : Counters} {es : List Entry} → Runs h c es g d →
-    (length (steps h es) ≡ length es) × (lastOf h (steps h es) ≡ g)
-unfolding steps
-runs-steps rested = (refl, refl)
-runs-steps (ran q x) = let i = runs-steps x in rw q (ap suc (i .0), i .1)
-
--- the atomic run keeps pace
-pub runs-related : {h g : Configuration} {c d : Counters} {es : List Entry} → Runs h c es g d → (a : Atomic) → Related h a → a .counters ≡ c →
-    Related g (fedAll a es) × ((fedAll a es) .counters ≡ d)
-unfolding fedAll
-runs-related rested a rel e = (rel, e)
-runs-related (ran {e = x} {r = r} q y) a rel e =
-    let s = step-related _ a x r _ rel q in runs-related y (fed a x) (s .0) (s .1 ∙ ap (counted r) e)
-
--- what every accepted choice keeps, the entries done keep
-pub runs-keep : (P : Configuration → Type 0) → ((h : Configuration) (e : Entry) (r : Rule) (g : Configuration) → P h → choose h e ≡ moved r g → P g) →
-    {h g : Configuration} {c d : Counters} {es : List Entry} → Runs h c es g d → P h → P g
-runs-keep P step rested p = p
-runs-keep P step (ran {h = h} {g = g} {e = e} {r = r} q x) p = runs-keep P step x (step h e r g p q)
-
 -- a call's answer is no refusal of 1 to 11
 abbrev pub NotTurnedDown : ℕ → Type 0
 NotTurnedDown n = (n ≡ 0) ⊎ (12 ≤ n)
@@ -180,14 +151,15 @@ NotTurnedDown n = (n ≡ 0) ⊎ (12 ≤ n)
 pub record RunTells (h : Configuration) (c : Counters) (before : ℕ) (items : List Item) (a : RunAnswer) : Type 0 where
   pub more : ℕ
   pub done : a .done ≡ before + more
-  pub runs : Runs h c (take more (entries items)) (a .configuration) (a .counters)
+  pub runs : Runs h (take more (entries items)) (a .configuration)
+  pub tally : a .counters ≡ tallied c (steps h (take more (entries items)))
   pub number : NotTurnedDown (a .number)
 
 -- the rest of a run does the entries that it counts, and refuses with 0 or with 12 and above
 run-from-tells : (items : List Item) → All ItemHigh items → (h : Configuration) (c : Counters) (p d : ℕ) → RunTells h c d items (runFrom h c p d items)
-unfolding runFrom entries
-run-from-tells [] high h c p d = record { more = 0; done = omega arith; runs = rested; number = inl refl }
-run-from-tells (malformed n ∷ items) high h c p d = record { more = 0; done = omega arith; runs = rested; number = inr (high .0) }
+unfolding runFrom entries steps tallied
+run-from-tells [] high h c p d = record { more = 0; done = omega arith; runs = rested; tally = refl; number = inl refl }
+run-from-tells (malformed n ∷ items) high h c p d = record { more = 0; done = omega arith; runs = rested; tally = refl; number = inr (high .0) }
 run-from-tells (entry e w ∷ items) high h c p d = go (choose h e) refl (choose-high h e) (λ g k. run-from-tells items (high .1) g k (p + w) (suc d))
   where
     go : (a : Answer) → choose h e ≡ a → AnswerHigh a → ((g : Configuration) (k : Counters) → RunTells g k (suc d) items (runFrom g k (p + w) (suc d) items)) →
@@ -195,38 +167,37 @@ run-from-tells (entry e w ∷ items) high h c p d = go (choose h e) refl (choose
         (goesOn a (λ n. record { number = n; place = p; done = d; configuration = h; counters = c }) (λ r g. runFrom g (counted r c) (p + w) (suc d) items))
     go (moved r g) q i rest =
         let t = rest g (counted r c) in
-        record { more = suc (t .more); done = t .done ∙ omega arith; runs = ran q (t .runs); number = t .number }
-    go (refused n) q i rest = record { more = 0; done = omega arith; runs = rested; number = inr i }
+        record { more = suc (t .more); done = t .done ∙ omega arith; runs = ran r q (t .runs); tally = rw q (t .tally); number = t .number }
+    go (refused n) q i rest = record { more = 0; done = omega arith; runs = rested; tally = refl; number = inr i }
 
 -- a run over choice bytes
 pub run-tells : (h : Configuration) (c : Counters) (bs : List ℕ) →
-    Runs h c (take ((run h c bs) .done) (entries (schedule bs))) ((run h c bs) .configuration) ((run h c bs) .counters) × NotTurnedDown ((run h c bs) .number)
+    let a : RunAnswer = run h c bs in
+    let es : List Entry = take (a .done) (entries (schedule bs)) in
+    Runs h es (a .configuration) × (a .counters ≡ tallied c (steps h es)) × NotTurnedDown (a .number)
 unfolding run
 run-tells h c bs =
     let t = run-from-tells (schedule bs) (schedule-high bs) h c 0 0 in
     let e : t .more ≡ (run h c bs) .done = let d = t .done in omega arith in
-    (rw (← e) (t .runs), t .number)
+    (rw (← e) (t .runs), rw (← e) (t .tally), t .number)
 
 -- ---- calls
 
--- an accepted choice keeps a configuration well formed
-abbrev pub StepKept : Type 0
-StepKept =
-    (ts : List Term) (h : Configuration) (e : Entry) (r : Rule) (g : Configuration) → GoodTable ts → WellFormed ts h → choose h e ≡ moved r g →
-    WellFormed ts g
+module _ (table : List ℕ) (t : Table) (reads : readTable table ≡ accepted t) where
+  -- the table's terms
+  good : GoodTable (t .terms)
+  good = accepted-is-good table t reads
 
-module _ (back : ReadBack) (fits : StoredFits) (step-kept : StepKept) (table : List ℕ) (t : Table) (reads : readTable table ≡ accepted t)
-    (good : GoodTable (t .terms)) where
   -- the stored bytes of a well-formed configuration are admitted
   stored-admitted : (h : Configuration) → WellFormed (t .terms) h → admission table (bytesOf h) ≡ admitted t h
   unfolding admission
   stored-admitted h w =
       ap (tableTested (bytesOf h)) reads ∙
-      ap (sizeTested t (bytesOf h)) (ap (λ n. eqb n hallBytes) (fits (t .terms) h good w .1) ∙ true-eqb hallBytes) ∙
-      ap (formTested t) (back (t .terms) h good w)
+      ap (sizeTested t (bytesOf h)) (ap (λ n. eqb n hallBytes) (stored-fits (t .terms) h good w .1) ∙ eq-eqb hallBytes hallBytes refl) ∙
+      ap (formTested t) (read-back (t .terms) h good w)
 
   -- a call on them is a run
-  stored-run : (l : Lent) (h : Configuration) → l .hall ≡ bytesOf h → WellFormed (t .terms) h → (bs : List ℕ) →
+  pub stored-run : (l : Lent) (h : Configuration) → l .hall ≡ bytesOf h → WellFormed (t .terms) h → (bs : List ℕ) →
       runCall table l bs ≡ ranOn (run h (l .counters) bs)
   unfolding runCall
   stored-run l h e w bs = ap (runAdmitted l bs) (ap (admission table) e ∙ stored-admitted h w)
@@ -236,7 +207,8 @@ module _ (back : ReadBack) (fits : StoredFits) (step-kept : StepKept) (table : L
     after : Configuration
     well-formed : WellFormed (t .terms) after
     hall : a .lent .hall ≡ bytesOf after
-    runs : Runs h (l .counters) (take (a .done) (callEntries c)) after (a .lent .counters)
+    runs : Runs h (take (a .done) (callEntries c)) after
+    tally : a .lent .counters ≡ tallied (l .counters) (steps h (take (a .done) (callEntries c)))
     number : NotTurnedDown (a .number)
 
   -- each call does the choices that it counts, to the hall that it leaves
@@ -250,44 +222,49 @@ module _ (back : ReadBack) (fits : StoredFits) (step-kept : StepKept) (table : L
       told : CallTells l h (runChoices bs) (ranOn a)
       told =
           let r = run-tells h (l .counters) bs in
-          let w′ = runs-keep (WellFormed (t .terms)) (λ h e r g w q. step-kept (t .terms) h e r g good w q) (r .0) w in
-          record { after = a .configuration; well-formed = w′; hall = refl; runs = r .0; number = r .1 }
+          let w′ = runs-keep (WellFormed (t .terms)) (λ h e r g w q. well-formed-step e good w q) (r .0) w in
+          record { after = a .configuration; well-formed = w′; hall = refl; runs = r .0; tally = r .1; number = r .2 }
 
   -- what a list of calls does: the entries done are one run
   pub record CallsTell (l : Lent) (h : Configuration) (cs : List Call) : Type 0 where
     pub after : Configuration
     pub well-formed : WellFormed (t .terms) after
     pub hall : (calls table l cs) .hall ≡ bytesOf after
-    pub runs : Runs h (l .counters) (doneIn table l cs) after ((calls table l cs) .counters)
+    pub runs : Runs h (doneIn table l cs) after
+    pub tally : (calls table l cs) .counters ≡ tallied (l .counters) (steps h (doneIn table l cs))
     pub numbers : All (λ a. NotTurnedDown (a .number)) (answers table l cs)
 
   -- the calls, one after another, are one run of the choices done
   pub calls-tell : (l : Lent) (h : Configuration) → l .hall ≡ bytesOf h → WellFormed (t .terms) h → (cs : List Call) → CallsTell l h cs
-  unfolding calls doneIn answers
-  calls-tell l h e w [] = record { after = h; well-formed = w; hall = e; runs = rested; numbers = tt }
+  unfolding calls doneIn answers steps tallied
+  calls-tell l h e w [] = record { after = h; well-formed = w; hall = e; runs = rested; tally = refl; numbers = tt }
   calls-tell l h e w (c ∷ cs) =
       let one = call-tells l h e w c in
+      let later = doneIn table ((called table l c) .lent) cs in
       let rest = calls-tell ((called table l c) .lent) (one .after) (one .hall) (one .well-formed) cs in
       record {
         after = rest .after;
         well-formed = rest .well-formed;
         hall = rest .hall;
         runs = runs-append (one .runs) (rest .runs);
+        tally =
+            rest .tally ∙ ap (λ n. tallied n (steps (one .after) later)) (one .tally)
+            ∙ sym (tallied-append (one .runs) (l .counters) later);
         numbers = (one .number, rest .numbers);
       }
 
 -- ---- the forward half of demand 3
 
 -- the hall that opening gives
-opened-hall : (table : List ℕ) (t : Table) → readTable table ≡ accepted t → (buffer : List ℕ) → length buffer ≡ hallBytes → (first : Counters) →
+pub opened-hall : (table : List ℕ) (t : Table) → readTable table ≡ accepted t → (buffer : List ℕ) → length buffer ≡ hallBytes → (first : Counters) →
     (firstLent table buffer first) .hall ≡ bytesOf (opening t)
 unfolding firstLent openTested
 opened-hall table t reads buffer size first =
     ap (λ a. (openTested buffer a) .hall) reads ∙
-    ap (λ b. (openSized t buffer b) .hall) (ap (λ n. eqb n hallBytes) size ∙ true-eqb hallBytes)
+    ap (λ b. (openSized t buffer b) .hall) (ap (λ n. eqb n hallBytes) size ∙ eq-eqb hallBytes hallBytes refl)
 
 module _ (table : List ℕ) (t : Table) (buffer : List ℕ) (first : Counters) (cs : List Call) where
-  -- those fields of demand 3 that speak of the calls themselves
+  -- those fields of demand 3 that speak of the calls themselves, and that the one-step run counts the rules of the history
   pub record Forward : Type 0 where
     pub never-turned-down : All (λ a. NotTurnedDown (a .number)) (answers table (begins table t buffer first cs) cs)
     pub whole : length (history table t buffer first cs) ≡ length (done table t buffer first cs)
@@ -299,30 +276,32 @@ module _ (table : List ℕ) (t : Table) (buffer : List ℕ) (first : Counters) (
         map unbegun (lastOf (opening t) (history table t buffer first cs) .components)
         ≡ map (λ x. x .station) ((atomic table t buffer first cs) .stations)
     pub tally : (finishes table t buffer first cs) .counters ≡ (atomic table t buffer first cs) .counters
+    pub counted-rules : (atomic table t buffer first cs) .counters ≡ tallied first (history table t buffer first cs)
     pub attempts : AlwaysAttemptsOk [] (opening t) (history table t buffer first cs)
     pub paths : CommitsOk [] (history table t buffer first cs)
 
 -- of every accepted table, buffer of a hall's size, first tally and list of calls
-pub forward : AcceptedIsGood → ReadBack → StoredFits → OpeningIsWellFormed → StepKept →
-    (table : List ℕ) (t : Table) → Accepts table t → (buffer : List ℕ) → length buffer ≡ hallBytes → (first : Counters) (cs : List Call) →
+pub forward : (table : List ℕ) (t : Table) → Accepts table t → (buffer : List ℕ) → length buffer ≡ hallBytes → (first : Counters) (cs : List Call) →
     Forward table t buffer first cs
 unfolding begins finishes done history atomic
-forward good back fits opening-kept step-kept table t accepts buffer size first cs =
-    let all = calls-tell back fits step-kept table t (accepts .1) (good table t (accepts .1)) (firstLent table buffer first) (opening t)
-    (opened-hall table t (accepts .1) buffer size first) (opening-kept table t (accepts .0) (accepts .1)) cs in
+forward table t accepts buffer size first cs =
+    let reads = accepts .1 in
+    let all = calls-tell table t reads (firstLent table buffer first) (opening t) (opened-hall table t reads buffer size first)
+    (opening-is-well-formed table t (accepts .0) reads) cs in
     let stepped = runs-steps (all .runs) in
     let told = steps-tell (doneIn table (firstLent table buffer first) cs) [] (opening t) (opening-known t) in
-    let paced = runs-related (all .runs) (atomicStart t first) (opening-related t first) refl in
+    let paced = runs-related (all .runs) (atomicStart t first) (opening-related t first) in
     record {
       never-turned-down = all .numbers;
       whole = stepped .0;
       hall = all .hall ∙ ap bytesOf (sym (stepped .1));
       read =
-          ap (configurationOf (t .terms)) (all .hall) ∙ back (t .terms) (all .after) (good table t (accepts .1)) (all .well-formed)
+          ap (configurationOf (t .terms)) (all .hall) ∙ read-back (t .terms) (all .after) (accepted-is-good table t reads) (all .well-formed)
           ∙ ap some (sym (stepped .1));
       counts = ap (λ h. h .counts) (stepped .1) ∙ paced .0 .counts;
       stations = ap (λ h. map unbegun (h .components)) (stepped .1) ∙ related-stations _ _ (paced .0);
-      tally = sym (paced .1);
+      tally = all .tally ∙ sym (paced .1);
+      counted-rules = paced .1;
       attempts = told .1;
       paths = told .0;
     }

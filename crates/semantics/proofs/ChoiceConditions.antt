@@ -10,6 +10,7 @@ use mathlib.Core.Option.{Option, none, some}
 use mathlib.Core.List.{List, [], _∷_, _++_, map}
 use lib.ListN.{length, getElem?, length-append}
 use lib.Dec.{leb, eqb}
+use borrow.Author.Tests.{leb-true, leb-false, eqb-true, eqb-false}
 use Rattle.calculus.specs.Syntax.{Name, rd, Log, State}
 use Rattle.calculus.specs.State.{count, Included, without}
 use Rattle.calculus.specs.Log.{RD, WT}
@@ -23,8 +24,9 @@ use Rattle.semantics.specs.Calls.{IsMoved}
 use Rattle.semantics.specs.Converse.{NoComponent, EmptyChannel, TooMany, FullChannel}
 use Rattle.semantics.specs.InnerMoves.{Settled}
 use Rattle.semantics.specs.Conditions.{First, preorder, AtRest, ChoiceCondition, no-station, no-station-inside, unsettled, no-attempt, no-node, at-rest, in-empty, rep-empty, in-many, rep-many, commit-many, out-full, ChoiceNumbers}
-use Rattle.semantics.proofs.Lists.{found-below, found-left, found-right, length-replaceAt}
-use Rattle.semantics.proofs.Readable.{by-cases, leb-holds, leb-fails, eqb-holds, eqb-fails, readable-included, unreadable-not-included}
+use Rattle.semantics.proofs.Lists.{none-past, found-below, found-left, found-right, length-replaceAt}
+use Rattle.semantics.proofs.Readable.{readable-included, unreadable-not-included}
+use Rattle.semantics.proofs.Reading.{by-cases}
 
 -- ---- an answer with its reason
 
@@ -50,12 +52,6 @@ module _ (C : ℕ → Type 0) where
 same-component : {o : Option Component} {c d : Component} → o ≡ some c → o ≡ some d → d ≡ c
 same-component e f = cc
 
--- where no element is found, the position is past them
-pub none-past {ℓ} : {A : Type ℓ} (xs : List A) (p : ℕ) → getElem? xs p ≡ none → length xs ≤ p
-none-past [] p e = omega arith
-none-past (x ∷ xs) zero e = absurd (let z : _≡_ {A = ℕ} 0 1 = cc in omega arith)
-none-past (x ∷ xs) (suc p) e = let h = none-past xs p e in omega arith
-
 -- ---- where a move settles
 
 module _ (C : ℕ → Type 0) (h : Configuration) (p : ℕ) (few : length (h .components) ≤ 64) where
@@ -66,7 +62,7 @@ module _ (C : ℕ → Type 0) (h : Configuration) (p : ℕ) (few : length (h .co
   room-reason r σ cs fits over =
       let left = replaceAt p cs (h .components) in
       by-cases (Reason C) (leb (length left) 64) (moved r (record { counts = σ; components = left })) (refused 19)
-      (λ e. fits (leb-holds (length left) 64 e)) (λ e. over (leb-fails (length left) 64 e))
+      (λ e. fits (leb-true (length left) 64 e)) (λ e. over (leb-false (length left) 64 e))
 
   -- a component that gives way to at most one is never refused 19
   kept-reason : (r : Rule) (σ : State) (cs : List Component) → length cs ≤ 1 → p < length (h .components) → ((n : ℕ) → C n → ⊥) →
@@ -83,8 +79,8 @@ module _ (C : ℕ → Type 0) (h : Configuration) (p : ℕ) (few : length (h .co
   unfolding takes settles
   takes-reason a r cs empty many only =
       by-cases (λ l. Reason C (settles p l h)) (eqb (count (h .counts) a) 0) (stays 18) (moves r (spent (h .counts) a) (map idle cs))
-      (λ e. (empty (eqb-holds (count (h .counts) a) 0 e), λ m l k. elim (only m k) [ inl q ↦ omega arith | inr q ↦ omega arith ]))
-      (λ e. let filled = eqb-fails (count (h .counts) a) 0 e in
+      (λ e. (empty (eqb-true (count (h .counts) a) 0 e), λ m l k. elim (only m k) [ inl q ↦ omega arith | inr q ↦ omega arith ]))
+      (λ e. let filled = eqb-false (count (h .counts) a) 0 e in
       room-reason r (spent (h .counts) a) (map idle cs) (λ fits m k. elim (only m k) [ inl q ↦ filled (q .1) | inr q ↦ omega arith ])
       (λ over. (many over, λ m l k. elim (only m k) [ inl q ↦ filled (q .1) | inr q ↦ omega arith ])))
 
@@ -135,9 +131,9 @@ module _ (h : Configuration) (p : ℕ) where
     unfolding puts settles
     puts-reason a e =
         by-cases (λ l. Reason Acting (settles p l h)) (leb 255 (count (h .counts) a)) (stays 20) (moves (OUT a) (gained (h .counts) a) [])
-        (λ f. (out-full a e (leb-holds 255 (count (h .counts) a) f), λ m l k. let q = barred (idle (output a)) e m k in omega arith))
+        (λ f. (out-full a e (leb-true 255 (count (h .counts) a) f), λ m l k. let q = barred (idle (output a)) e m k in omega arith))
         (λ f. kept-reason Acting h p few (OUT a) (gained (h .counts) a) [] (omega arith) (found-below (h .components) p (idle (output a)) e)
-        (λ m k. let q = barred (idle (output a)) e m k in let g = leb-fails 255 (count (h .counts) a) f in omega arith))
+        (λ m k. let q = barred (idle (output a)) e m k in let g = leb-false 255 (count (h .counts) a) f in omega arith))
 
     -- at a single end leaf: an ATOK is refused 19 where too many would be left, an ATFAIL never is
     commits-reason : (n : ℕ) (M : Expression) (s : State) (i : ℕ) (δ : Log) → getElem? (h .components) p ≡ some (transaction n M s (leaf (endT i) δ)) →

@@ -1,6 +1,6 @@
 -- Completeness: each reduction of a process that a well-formed configuration stands for, within the limits, has its choices.
 -- First one rule: where in the process the rule acts there is a component, and its move is the rule's. Then COM, as two moves.
--- Rests on one claim that is proved elsewhere and taken as an argument: an accepted choice keeps the configuration well formed.
+-- Assumes nothing.
 use Prim.Native.Nat.{ℕ, suc, _+_, _-_, _≤_, _<_}
 use native.Mathlib.Omega.{arith}
 use mathlib.Core.Path.{_≡_, refl, sym, ap, _∙_, subst}
@@ -10,23 +10,26 @@ use mathlib.Core.List.{List, [], _∷_, _++_, map, append-nil, map-append}
 use lib.ListN.{length, getElem?, length-append}
 use lib.Seq.{set-set, set-getD}
 use lib.Dec.{leb}
+use borrow.Author.Tests.{lt-leb, ne-eqb}
 use Rattle.calculus.specs.Syntax.{Name, rd, wt, Log, State, Expr, end, retry, prefix, orElse, Ongoing, running, orElse′, Process, nil, out, inp, rep, par, atom, ongoing}
 use Rattle.calculus.specs.State.{count, Plus}
 use Rattle.calculus.specs.Log.{WT}
 use Rattle.calculus.specs.Reduction.{Rule, OUT, IN, REP, by, COM, Evolves, ardok, ardf, awr, aoi, aof, aoe, aol, aor, outputs, LogOrder, Reduces, OUTr, INr, REPr, PARL, PARR, ATSTr, ATPASS, ATREr, ATFAILr, ATOKr}
 use Rattle.semantics.specs.Basics.{replaceAt, All}
-use Rattle.semantics.specs.Terms.{Expression, endT, retryT, rdT, wtT, orElseT, Program, Term, branches}
+use Rattle.semantics.specs.Terms.{Expression, endT, retryT, rdT, wtT, orElseT, Program, Term}
 use Rattle.semantics.specs.Table.{Table}
 use Rattle.semantics.specs.Logs.{emptyLog, gained, spent}
 use Rattle.semantics.specs.Configuration.{Idle, taking, repeating, block, output, Tree, leaf, fork, Component, idle, transaction, Configuration, branchesOf, nodes, opens}
 use Rattle.semantics.specs.Stored.{ComponentOk, WellFormed}
 use Rattle.semantics.specs.Moves.{Entry, act, inside, moves, takes, puts, acts, evolves, past, inner}
-use Rattle.semantics.specs.Correspondence.{Accepts, InBytes, Answered, Completeness, KeepsWellFormed}
+use Rattle.semantics.specs.Correspondence.{Accepts, InBytes, Answered, Completeness}
 use Rattle.semantics.specs.Standing.{expr, proc, ongoingOf, componentProcess, Stands, nothing, alone, beside, parallel, Bounded, WithinLimits}
 use Rattle.semantics.proofs.Lists.{found-below, found-left, found-right, replaceAt-left, replaceAt-right, all-at, all-getD}
-use Rattle.semantics.proofs.Reading.{false-leb, false-eqb}
 use Rattle.semantics.proofs.Readable.{included-readable, not-included-unreadable}
 use Rattle.semantics.proofs.Moves.{positionOf, localMove, accepted-made}
+use Rattle.semantics.proofs.Measures.{branches-positive}
+use Rattle.semantics.proofs.GoodTable.{accepted-is-good}
+use Rattle.semantics.proofs.WellFormedKept.{well-formed-step}
 use Rattle.semantics.proofs.Soundness.{opens-stand, outputs-stand}
 use Rattle.semantics.proofs.Communication.{grown, TwoMoves, communication}
 
@@ -262,14 +265,14 @@ spent-back σ a σ′ p =
 -- IN and REP take a token that is there
 takes-made : (σ : State) (a : Name) (σ′ : State) (r : Rule) (cs : List Idle) → Plus σ′ a σ → takes σ a r cs ≡ moves r σ′ (map idle cs)
 unfolding takes
-takes-made σ a σ′ r cs p = rw (false-eqb (count σ a) 0 (λ e. let z = grown σ′ a σ p in omega arith)) (ap (λ x. moves r x (map idle cs)) (spent-back σ a σ′ p))
+takes-made σ a σ′ r cs p = rw (ne-eqb (count σ a) 0 (λ e. let z = grown σ′ a σ p in omega arith)) (ap (λ x. moves r x (map idle cs)) (spent-back σ a σ′ p))
 
 -- OUT puts a token where the count stays a byte
 puts-made : (σ : State) (a : Name) (σ′ : State) → Plus σ a σ′ → All (λ c. c ≤ 255) σ′ → puts σ a ≡ moves (OUT a) σ′ []
 unfolding puts
 puts-made σ a σ′ p h =
     let below = all-getD (λ c. c ≤ 255) σ′ a 0 h (omega arith) in
-    let test : leb 255 (count σ a) ≡ false = false-leb 255 (count σ a) (let z = grown σ a σ′ p in omega arith) in
+    let test : leb 255 (count σ a) ≡ false = lt-leb 255 (count σ a) (let z = grown σ a σ′ p in omega arith) in
     rw test (ap (λ x. moves (OUT a) x []) (sym (p .added)))
 
 -- ---- one rule
@@ -329,18 +332,10 @@ redex (ATOKr {M} {σ} {σ′} {δ} {bs} d o) (alone c e) h =
 
 -- ---- one choice
 
-branch-at-least : (M : Expression) → 1 ≤ branches M
-unfolding branches
-branch-at-least (endT n) = omega arith
-branch-at-least (retryT n) = omega arith
-branch-at-least (rdT n a M) = branch-at-least M
-branch-at-least (wtT n a M) = branch-at-least M
-branch-at-least (orElseT n M N) = let h = branch-at-least M in omega arith
-
 -- each leaf has a branch, so a tree with at most 8 branches has at most 15 nodes
 few-nodes : (t : Tree) → suc (nodes t) ≤ branchesOf t + branchesOf t
 unfolding nodes branchesOf
-few-nodes (leaf M δ) = let h = branch-at-least M in omega arith
+few-nodes (leaf M δ) = let h = branches-positive M in omega arith
 few-nodes (fork l r) = let h = few-nodes l in let g = few-nodes r in omega arith
 
 -- an entry at a component of a well-formed configuration is of bytes
@@ -378,11 +373,11 @@ out-leaves-no-more (PARR d) = let h = out-leaves-no-more d in omega arith
 out-leaves-no-more (ATPASS d) = omega arith
 
 -- a communication within the limits has its two choices; the configuration between them is well formed
-two-moves : KeepsWellFormed → (bs : List ℕ) (t : Table) → Accepts bs t → (h : Configuration) → WellFormed (t .terms) h →
+two-moves : (bs : List ℕ) (t : Table) → Accepts bs t → (h : Configuration) → WellFormed (t .terms) h →
     (P : Process) → Stands P (h .components) → (a : Name) (P′ : Process) → TwoMoves LogOrder a P (h .counts) P′ → Bounded P′ (h .counts) → All (λ c. c ≤ 255) (gained (h .counts) a) →
     Answered (COM a) h P′ (h .counts)
-unfolding KeepsWellFormed Answered Bounded gained
-two-moves keeps bs t acc h ok P s a P′ m b g =
+unfolding Answered Bounded gained
+two-moves bs t acc h ok P s a P′ m b g =
     next (one-rule (t .terms) h ok P s (OUT a) (m .between) (m .gaining) (m .puts) (rw (m .adds .added) g, few))
   where
     few : parallel (m .between) ≤ 64
@@ -391,15 +386,15 @@ two-moves keeps bs t acc h ok P s a P′ m b g =
     next : Answered (by (OUT a)) h (m .between) (m .gaining) → Answered (COM a) h P′ (h .counts)
     next x =
         let (e, f, small, first, reached, between) = x in
-        let kept = keeps bs t acc h ok e (OUT a) f first .0 in
+        let kept = well-formed-step e (accepted-is-good bs t (acc .1)) ok first in
         let two = one-rule (t .terms) f kept (m .between) between (m .second) P′ (h .counts) (rw reached (m .takes)) b in
         let (d, g′, small′, then, left, result) = two in
         (e, f, d, m .second, g′, small, small′, first, then, m .one, left, result)
 
 -- each reduction within the limits has its choices, with ATOK's outputs in log order
-pub completeness : KeepsWellFormed → Completeness
+pub completeness : Completeness
 unfolding Completeness WithinLimits
-completeness keeps bs t acc h ok P s (by r) P′ σ′ d b = one-rule (t .terms) h ok P s r P′ σ′ d b
-completeness keeps bs t acc h ok P s (COM a) P′ σ′ d b =
+completeness bs t acc h ok P s (by r) P′ σ′ d b = one-rule (t .terms) h ok P s r P′ σ′ d b
+completeness bs t acc h ok P s (COM a) P′ σ′ d b =
     let (two, same) = communication LogOrder d in
-    rw same (two-moves keeps bs t acc h ok P s a P′ two (rw same at (b .0)) (b .1))
+    rw same (two-moves bs t acc h ok P s a P′ two (rw same at (b .0)) (b .1))

@@ -1,7 +1,7 @@
 -- The converse of demand 3 (document 01, "The one-step run"): for every one-step run within the limits whose blocks take the first
 -- path readable at commit, the choices that `choicesFor` gives are bytes, are accepted whole by one call, and end with its counts
 -- and stations and no attempt open.
--- Assumes nothing: what is said of stored halls elsewhere is taken as an argument.
+-- Assumes nothing.
 use Prim.Native.Nat.{ℕ, suc, _+_, _≤_, _<_}
 use native.Mathlib.Omega.{arith}
 use mathlib.Core.Path.{_≡_, refl, sym, ap, _∙_}
@@ -9,40 +9,32 @@ use mathlib.Core.Bool.{Bool, true, false}
 use mathlib.Core.Option.{some}
 use mathlib.Core.List.{List, [], _∷_, _++_, map, map-map}
 use lib.ListN.{length, getElem?, length-map}
+use borrow.Author.Tests.{lt-leb, ne-eqb}
 use Rattle.calculus.specs.Syntax.{Name, Log, State}
 use Rattle.calculus.specs.State.{count, without}
 use Rattle.calculus.specs.Log.{RD, WT}
 use Rattle.calculus.specs.Reduction.{Rule, OUT, IN, REP, ATST, ATOK}
 use Rattle.semantics.specs.Basics.{replaceAt, firstOf, All}
 use Rattle.semantics.specs.Terms.{Expression, endT, atomT, Term, process, expression, number, branches}
-use Rattle.semantics.specs.Table.{Table, TableAnswer, accepted, readTable}
+use Rattle.semantics.specs.Table.{Table}
 use Rattle.semantics.specs.Logs.{emptyLog, readable, paths, firstReadable, gained, spent}
 use Rattle.semantics.specs.Configuration.{Idle, taking, repeating, block, output, Tree, leaf, Component, idle, transaction, Configuration, opens, opening}
 use Rattle.semantics.specs.Moves.{Entry, act, inside, moves, takes, puts, commits, ends, acts, evolves, inner, innerLocal, actsInside, moved, choose}
 use Rattle.semantics.specs.Run.{Counters, schedule, counted, RunAnswer, goesOn, runFrom, run}
 use Rattle.semantics.specs.GoodTable.{GoodTable}
-use Rattle.semantics.specs.Stored.{hallBytes, ComponentOk, WellFormed, bytesOf, configurationOf}
-use Rattle.semantics.specs.StoredClaims.{AcceptedIsGood, ReadBack, StoredFits, OpeningIsWellFormed}
-use Rattle.semantics.specs.Calls.{Call, admitted, formTested, sizeTested, tableTested, admission, openSized, openTested, openHall, ranOn, runAdmitted, runCall}
+use Rattle.semantics.specs.Stored.{hallBytes, ComponentOk, WellFormed, bytesOf}
+use Rattle.semantics.specs.Calls.{Call, ranOn, runCall}
 use Rattle.semantics.specs.Atomicity.{firstLent, begins}
 use Rattle.semantics.specs.Correspondence.{Bytes, Accepts, InBytes}
 use Rattle.semantics.specs.Converse.{Plain, plainStart, laidDown, Strikes, strikeOut, strikeIn, strikeRep, strikeCommit, StruckAll, struckNone, struckMore, nodesFor, choicesAt, struck, choicesFor, entryBytes, scheduleBytes}
-use Rattle.semantics.proofs.Reading.{false-leb, false-eqb}
-use Rattle.semantics.proofs.Lists.{found-below, found-map, length-replaceAt, map-replaceAt, all-append, all-at}
+use Rattle.semantics.proofs.Lists.{found-below, found-map, length-replaceAt, map-replaceAt, all-append, all-at, replaced-here, replaceAt-twice}
 use Rattle.semantics.proofs.Moves.{positionOf, localMove, accepted-made}
-use Rattle.semantics.proofs.HistoryLists.{found-replaced, replaceAt-twice}
+use Rattle.semantics.proofs.GoodTable.{accepted-is-good}
+use Rattle.semantics.proofs.RoundTrip.{opening-is-well-formed}
+use Rattle.semantics.proofs.WellFormedKept.{well-formed-step}
+use Rattle.semantics.proofs.Runs.{Runs, rested, ran, runs-append, runs-keep}
+use Rattle.semantics.proofs.CallsAsOne.{opened-hall, stored-run}
 use Rattle.semantics.proofs.Drive.{Driven, arrived, driven, drives-commit, nodes-few}
-
--- ---- accepted choices, one after another
-
-pub data Runs : Configuration → List Entry → Configuration → Type 0 where
-  runsNone : {h : Configuration} → Runs h [] h
-  runsMore : {h f g : Configuration} {e : Entry} {es : List Entry} (r : Rule) → choose h e ≡ moved r f → Runs f es g → Runs h (e ∷ es) g
-
--- one list of choices after another
-runs-append : {h f g : Configuration} {es ds : List Entry} → Runs h es f → Runs f ds g → Runs h (es ++ ds) g
-runs-append runsNone k = k
-runs-append (runsMore r e m) k = runsMore r e (runs-append m k)
 
 -- ---- one step at a position
 
@@ -64,11 +56,11 @@ plain-moves u p c r σ cs found move few =
 -- a take where the channel is not empty, an output where it is not full
 taken : (σ : State) (a : Name) (r : Rule) (cs : List Idle) → ¬ (count σ a ≡ 0) → takes σ a r cs ≡ moves r (spent σ a) (map idle cs)
 unfolding takes
-taken σ a r cs some-there = rw (false-eqb (count σ a) 0 some-there)
+taken σ a r cs some-there = rw (ne-eqb (count σ a) 0 some-there)
 
 put-down : (σ : State) (a : Name) → ¬ (255 ≤ count σ a) → puts σ a ≡ moves (OUT a) (gained σ a) []
 unfolding puts
-put-down σ a room = rw (false-leb 255 (count σ a) (omega arith))
+put-down σ a room = rw (lt-leb 255 (count σ a) (omega arith))
 
 -- the first element that passes a test passes it
 first-passes : (p : Log → Bool) (xs : List Log) (x : Log) → firstOf p xs ≡ some x → p x ≡ true
@@ -116,7 +108,7 @@ module _ (u : Plain) (p n : ℕ) (M : Expression) (found : getElem? (u .stations
   moved-there e at t r σ cs move fits =
       let c : Component = transaction n M (u .counts) t in
       let twice = replaceAt-twice (map idle (u .stations)) cs p c in
-      accepted-made (attempting t) e r σ c cs (rw at (found-replaced (map idle (u .stations)) p c below)) move (rw (at, twice) fits)
+      accepted-made (attempting t) e r σ c cs (rw at (replaced-here p p 0 (c ∷ []) (map idle (u .stations)) below (omega arith) (omega arith))) move (rw (at, twice) fits)
       ∙ rw at (λ i. moved r (record { counts = σ; components = twice i }))
 
   -- it moves inside, at one node and at a list of nodes
@@ -126,8 +118,8 @@ module _ (u : Plain) (p n : ℕ) (M : Expression) (found : getElem? (u .stations
       let c : Component = transaction n M (u .counts) v in moved-there (inside p k) refl t r (u .counts) (c ∷ []) (rw e) (length-attempting c)
 
   drive-runs : {t v : Tree} {ks : List ℕ} → Driven (u .counts) t ks v → Runs (attempting t) (map (inside p) ks) (attempting v)
-  drive-runs arrived = runsNone
-  drive-runs (driven r e d) = runsMore r (evolved _ _ _ r e) (drive-runs d)
+  drive-runs arrived = rested
+  drive-runs (driven r e d) = ran r (evolved _ _ _ r e) (drive-runs d)
 
   -- it commits at an end leaf whose log is readable at the present counts
   committed : (e : ℕ) (δ : Log) → readable (u .counts) δ ≡ true → length (replaceAt p (map output (WT δ)) (u .stations)) ≤ 64 →
@@ -155,7 +147,7 @@ module _ (u : Plain) (p n : ℕ) (M : Expression) (found : getElem? (u .stations
   block-runs δ first fits =
       let d = drives-commit (u .counts) M δ first in
       let c = committed (d .0) δ (first-passes (readable (u .counts)) (paths M) δ first) fits in
-      runsMore ATST opened (runs-append (drive-runs (d .1)) (runsMore (ATOK δ) c runsNone))
+      ran ATST opened (runs-append (drive-runs (d .1)) (ran (ATOK δ) c rested))
 
 -- the choices of one step are accepted, its result is the function's, and its stations stay few
 pub record Struck (u : Plain) (p : ℕ) (v : Plain) : Type 0 where
@@ -170,7 +162,7 @@ strikes-run u p few (strikeOut a found room) =
     let small : length (replaceAt p [] (u .stations)) ≤ 64 =
     let k = length-replaceAt (u .stations) [] p (found-below (u .stations) p (output a) found) in omega arith in
     record {
-      runs = rw found (runsMore (OUT a) (plain-moves u p (output a) (OUT a) (gained (u .counts) a) [] found (put-down (u .counts) a room) small) runsNone);
+      runs = rw found (ran (OUT a) (plain-moves u p (output a) (OUT a) (gained (u .counts) a) [] found (put-down (u .counts) a room) small) rested);
       result = rw found;
       few = small;
     }
@@ -179,7 +171,7 @@ strikes-run u p few (strikeIn n a P found there fits) =
     record {
       runs =
           rw found
-          (runsMore (IN a) (plain-moves u p (taking n a P) (IN a) (spent (u .counts) a) (opens P) found (taken (u .counts) a (IN a) (opens P) there) small) runsNone);
+          (ran (IN a) (plain-moves u p (taking n a P) (IN a) (spent (u .counts) a) (opens P) found (taken (u .counts) a (IN a) (opens P) there) small) rested);
       result = rw found;
       few = small;
     }
@@ -189,7 +181,7 @@ strikes-run u p few (strikeRep n a P found there fits) =
     record {
       runs =
           rw found
-          (runsMore (REP a) (plain-moves u p (repeating n a P) (REP a) (spent (u .counts) a) cs found (taken (u .counts) a (REP a) cs there) small) runsNone);
+          (ran (REP a) (plain-moves u p (repeating n a P) (REP a) (spent (u .counts) a) cs found (taken (u .counts) a (REP a) cs there) small) rested);
       result = rw found;
       few = small;
     }
@@ -200,7 +192,7 @@ strikes-run u p few (strikeCommit n M δ found first fits) =
 -- From a state with at most 64 stations, the choices for a run without notes are accepted, to its last state with no attempt open.
 pub struck-runs : {u : Plain} {ps : List ℕ} {v : Plain} → length (u .stations) ≤ 64 → StruckAll u ps v → Runs (resting u) (choicesFor u ps) (resting v)
 unfolding choicesFor
-struck-runs few struckNone = runsNone
+struck-runs few struckNone = rested
 struck-runs {u} few (struckMore {u = w} {p = p} one more) =
     let k = strikes-run u p few one in runs-append (k .runs) (rw (k .result) (struck-runs (k .few) more))
 
@@ -223,8 +215,8 @@ entry-runs h f r (inside p k) es c place before chosen = (3, rw chosen)
 runs-answer : {h g : Configuration} {es : List Entry} → Runs h es g → (c : Counters) (place before : ℕ) →
     Ran (runFrom h c place before (schedule (scheduleBytes es))) (before + length es) g
 unfolding runFrom schedule scheduleBytes
-runs-answer runsNone c place before = record { number = refl; done = omega arith; configuration = refl }
-runs-answer {h} (runsMore {f = f} {e = e} {es = es} r chosen rest) c place before =
+runs-answer rested c place before = record { number = refl; done = omega arith; configuration = refl }
+runs-answer {h} (ran {f = f} {e = e} {es = es} r chosen rest) c place before =
     let step = entry-runs h f r e es c place before chosen in
     let k = runs-answer rest (counted r c) (place + step .0) (suc before) in
     let total : before + suc (length es) ≡ suc before + length es = omega arith in
@@ -248,18 +240,7 @@ unfolding InBytes
 inside-in-bytes p [] h few = tt
 inside-in-bytes p (k ∷ ks) h few = ((h, omega arith), inside-in-bytes p ks h (few .1))
 
--- an accepted choice keeps a configuration well formed
-abbrev pub StepKept : Type 0
-StepKept =
-    (ts : List Term) (h : Configuration) (e : Entry) (r : Rule) (g : Configuration) → GoodTable ts → WellFormed ts h → choose h e ≡ moved r g →
-    WellFormed ts g
-
-module _ (step-kept : StepKept) (ts : List Term) (good : GoodTable ts) where
-  -- accepted choices keep a configuration well formed
-  runs-kept : {h g : Configuration} {es : List Entry} → Runs h es g → WellFormed ts h → WellFormed ts g
-  runs-kept runsNone ok = ok
-  runs-kept (runsMore r chosen rest) ok = runs-kept rest (step-kept ts _ _ r _ good ok chosen)
-
+module _ (ts : List Term) (good : GoodTable ts) where
   -- a block's expression is the table's, so it has few branches
   block-branches : (u : Plain) (p n : ℕ) (M : Expression) → getElem? (u .stations) p ≡ some (block n M) → WellFormed ts (resting u) → branches M ≤ 8
   unfolding resting ComponentOk
@@ -310,57 +291,33 @@ module _ (step-kept : StepKept) (ts : List Term) (good : GoodTable ts) where
       (choicesAt (u .counts) p (getElem? (u .stations) p))
       (choicesFor (struck u p (getElem? (u .stations) p)) ps)
       here
-      (rw (k .result) (struck-in-bytes (runs-kept (k .runs) ok) more))
+      (rw (k .result) (struck-in-bytes (runs-keep (WellFormed ts) (λ h e r g w q. well-formed-step e good w q) (k .runs) ok) more))
 
 -- ---- on an opened hall
 
--- what opening writes, and which bytes are admitted, once the table is accepted
-opened-hall : (t : Table) (buffer : List ℕ) → length buffer ≡ hallBytes → (a : TableAnswer) → a ≡ accepted t →
-    openTested buffer a .hall ≡ bytesOf (opening t)
-unfolding openTested openSized
-opened-hall t buffer size a e = rw (e, size)
-
-hall-admitted : (t : Table) (hall : List ℕ) (h : Configuration) → length hall ≡ hallBytes → configurationOf (t .terms) hall ≡ some h →
-    (a : TableAnswer) → a ≡ accepted t → tableTested hall a ≡ admitted t h
-unfolding tableTested sizeTested formTested
-hall-admitted t hall h size reads a e = rw (e, size, reads)
-
-module _ (good : AcceptedIsGood) (back : ReadBack) (fits : StoredFits) (well : OpeningIsWellFormed) where
+module _ (table : List ℕ) (t : Table) (accepts : Accepts table t) (buffer : List ℕ) (size : length buffer ≡ hallBytes) (first : Counters) (cs : List Call) where
   -- a run on a hall just opened is a run from the opening
-  opened-runs : (table : List ℕ) (t : Table) → Accepts table t → (buffer : List ℕ) → length buffer ≡ hallBytes → (first : Counters) (cs : List Call) →
-      (choices : List ℕ) → runCall table (begins table t buffer first cs) choices ≡ ranOn (run (opening t) first choices)
-  unfolding begins firstLent runCall runAdmitted admission openHall
-  opened-runs table t accepts buffer size first cs choices =
-      let g = good table t (accepts .1) in
-      let ok = well table t (accepts .0) (accepts .1) in
-      rw (
-        opened-hall t buffer size (readTable table) (accepts .1),
-        hall-admitted
-            t
-            (bytesOf (opening t))
-            (opening t)
-            (fits (t .terms) (opening t) g ok .1)
-            (back (t .terms) (opening t) g ok)
-            (readTable table)
-            (accepts .1),
-      )
+  opened-runs : (choices : List ℕ) → runCall table (begins table t buffer first cs) choices ≡ ranOn (run (opening t) first choices)
+  unfolding begins firstLent
+  opened-runs choices =
+      stored-run table t (accepts .1) (firstLent table buffer first) (opening t) (opened-hall table t (accepts .1) buffer size first)
+      (opening-is-well-formed table t (accepts .0) (accepts .1)) choices
 
   -- The converse, as demand 3 asks for it.
-  pub converse-holds : StepKept → (table : List ℕ) (t : Table) → Accepts table t → (buffer : List ℕ) → length buffer ≡ hallBytes →
-      (first : Counters) (cs : List Call) (ps : List ℕ) (s : Plain) → StruckAll (plainStart t) ps s →
+  pub converse-holds : (ps : List ℕ) (s : Plain) → StruckAll (plainStart t) ps s →
       Bytes (scheduleBytes (choicesFor (plainStart t) ps)) ×
       ((runCall table (begins table t buffer first cs) (scheduleBytes (choicesFor (plainStart t) ps))) .number ≡ 0) ×
       ((runCall table (begins table t buffer first cs) (scheduleBytes (choicesFor (plainStart t) ps))) .done ≡ length (choicesFor (plainStart t) ps)) ×
       ((runCall table (begins table t buffer first cs) (scheduleBytes (choicesFor (plainStart t) ps))) .lent .hall
       ≡ bytesOf (record { counts = s .counts; components = map idle (s .stations) }))
   unfolding resting plainStart opening ranOn
-  converse-holds step-kept table t accepts buffer size first cs ps s run-of =
-      let g = good table t (accepts .1) in
-      let ok : WellFormed (t .terms) (resting (plainStart t)) = well table t (accepts .0) (accepts .1) in
+  converse-holds ps s run-of =
+      let good = accepted-is-good table t (accepts .1) in
+      let ok : WellFormed (t .terms) (resting (plainStart t)) = opening-is-well-formed table t (accepts .0) (accepts .1) in
       let es = choicesFor (plainStart t) ps in
-      let a = runs-whole (struck-runs (few-stations step-kept (t .terms) g (plainStart t) ok) run-of) first in
-      let same = opened-runs table t accepts buffer size first cs (scheduleBytes es) in (
-        in-bytes es (struck-in-bytes step-kept (t .terms) g ok run-of),
+      let a = runs-whole (struck-runs (few-stations (t .terms) good (plainStart t) ok) run-of) first in
+      let same = opened-runs (scheduleBytes es) in (
+        in-bytes es (struck-in-bytes (t .terms) good ok run-of),
         ap (λ c. c .number) same ∙ a .number,
         ap (λ c. c .done) same ∙ a .done,
         ap (λ c. c .lent .hall) same ∙ ap bytesOf (a .configuration),

@@ -17,6 +17,7 @@ use Rattle.semantics.specs.Logs.{emptyLog, readable, firstReadable}
 use Rattle.semantics.specs.Configuration.{Tree, leaf, fork}
 use Rattle.semantics.specs.Moves.{evolves, inner, inLeft, atLeaf, reads, atFork}
 use Rattle.semantics.specs.Converse.{firstFrom, nodesFor}
+use Rattle.semantics.proofs.Measures.{branches-positive}
 use Rattle.semantics.proofs.Lists.{all-append}
 use Rattle.semantics.proofs.Outcome.{readable-empty, readable-write, orElseOf, first-from-empty, first-from-end, first-from-retry, first-from-rd, first-from-wt, first-from-orElse, first-from-unreadable}
 
@@ -160,35 +161,26 @@ drives-commit s M π found =
 
 -- ---- the nodes are few
 
--- an expression has a branch
-branches-some : (M : Expression) → 0 < branches M
-unfolding branches
-branches-some (endT n) = omega arith
-branches-some (retryT n) = omega arith
-branches-some (rdT n a M) = branches-some M
-branches-some (wtT n a M) = branches-some M
-branches-some (orElseT n M N) = let h = branches-some M in omega arith
-
 -- every node that is moved at lies less than the expression's branches behind the first
 pub nodes-few : (s : State) (M : Expression) (δ : Log) (k b : ℕ) → k + branches M ≤ b → All (λ j. j < b) (nodesFor s M δ k)
 unfolding branches
 nodes-few s (endT n) δ k b h = rw nodes-end tt
 nodes-few s (retryT n) δ k b h = rw nodes-retry tt
-nodes-few s (rdT n a M) δ k b h = rw nodes-rd (let z = branches-some M in omega arith, go (readable s (δ ++ (rd a ∷ []))) (nodes-few s M (δ ++ (rd a ∷ [])) k b h))
+nodes-few s (rdT n a M) δ k b h = rw nodes-rd (let z = branches-positive M in omega arith, go (readable s (δ ++ (rd a ∷ []))) (nodes-few s M (δ ++ (rd a ∷ [])) k b h))
   where
     go : (c : Bool) → All (λ j. j < b) (nodesFor s M (δ ++ (rd a ∷ [])) k) → All (λ j. j < b) (cond c (nodesFor s M (δ ++ (rd a ∷ [])) k) [])
     go true z = z
     go false z = tt
-nodes-few s (wtT n a M) δ k b h = rw nodes-wt (let z = branches-some M in omega arith, nodes-few s M (δ ++ (wt a ∷ [])) k b h)
+nodes-few s (wtT n a M) δ k b h = rw nodes-wt (let z = branches-positive M in omega arith, nodes-few s M (δ ++ (wt a ∷ [])) k b h)
 nodes-few s (orElseT n M N) δ k b h =
     go
     (firstFrom s M δ)
     refl
-    (let z = branches-some N in nodes-few s M δ (suc k) b (omega arith))
-    (let z = branches-some M in nodes-few s N δ k b (omega arith))
+    (let z = branches-positive N in nodes-few s M δ (suc k) b (omega arith))
+    (let z = branches-positive M in nodes-few s N δ k b (omega arith))
   where
     below : k < b
-    below = let z = branches-some M in omega arith
+    below = let z = branches-positive M in omega arith
 
     go : (o : Option Log) → firstFrom s M δ ≡ o → All (λ j. j < b) (nodesFor s M δ (suc k)) → All (λ j. j < b) (nodesFor s N δ k) →
         All (λ j. j < b) (nodesFor s (orElseT n M N) δ k)

@@ -10,13 +10,15 @@ use mathlib.Core.Option.{Option, none, some}
 use mathlib.Core.List.{List, [], _∷_, _++_}
 use lib.ListN.{length, drop, getElem?, length-append, length-set}
 use lib.Dec.{ltb}
+use borrow.Author.Tests.{leb-false, not-false}
 use Rattle.calculus.specs.Syntax.{State}
 use Rattle.semantics.specs.Basics.{firstOf, All}
 use Rattle.semantics.specs.Terms.{endT, retryT, rdT, wtT, orElseT, Program, nilT, putT, takeT, repeatT, parT, atomT, Term, process, expression, number, width, branches, pathLength}
 use Rattle.semantics.specs.Table.{Kind, nilK, putK, takeK, repeatK, parK, atomK, endK, retryK, rdK, wtK, orElseK, tokensK, startK, kindOf, Reading, Table, TableAnswer, accepted, refusedAt, isProgram, isExpression, asProgram, asExpression, Content, aTerm, someTokens, theStart, said, fields, anyField, tooMany, strayChannel, wrongClass, overLimit, Test, tests, Turn, stop, more, closed, passed, tested, kindRead, turn, after, readFrom, nothingRead, readTable}
 use Rattle.semantics.specs.GoodTable.{programNumber, termNumber, ProgramIn, ExpressionIn, SubtermsIn, ChannelBelow, WithinLimits, GoodTable}
 use Rattle.semantics.specs.StoredClaims.{AcceptedIsGood, StartIsEntry, TokensAreCounts}
-use Rattle.semantics.proofs.Reading.{leb-false, not-false, or-false, all-drop, all-replicate, all-set, all-every, entry-stays, entry-snoc}
+use Rattle.semantics.proofs.Reading.{or-false}
+use Rattle.semantics.proofs.Lists.{none-found, all-drop, all-replicate, all-set, all-every, found-stays, found-snoc}
 
 -- ---- one term more
 
@@ -24,17 +26,17 @@ use Rattle.semantics.proofs.Reading.{leb-false, not-false, or-false, al
 subterms-stay : (ts us : List Term) (t : Term) → SubtermsIn ts t → SubtermsIn (ts ++ us) t
 subterms-stay ts us (process (nilT n)) h = tt
 subterms-stay ts us (process (putT n a)) h = tt
-subterms-stay ts us (process (takeT n a P)) h = entry-stays ts us (programNumber P) (process P) h
-subterms-stay ts us (process (repeatT n a P)) h = entry-stays ts us (programNumber P) (process P) h
+subterms-stay ts us (process (takeT n a P)) h = found-stays ts us (programNumber P) (process P) h
+subterms-stay ts us (process (repeatT n a P)) h = found-stays ts us (programNumber P) (process P) h
 subterms-stay ts us (process (parT n P Q)) h =
-    (entry-stays ts us (programNumber P) (process P) (h .0), entry-stays ts us (programNumber Q) (process Q) (h .1))
-subterms-stay ts us (process (atomT n M)) h = entry-stays ts us (number M) (expression M) h
+    (found-stays ts us (programNumber P) (process P) (h .0), found-stays ts us (programNumber Q) (process Q) (h .1))
+subterms-stay ts us (process (atomT n M)) h = found-stays ts us (number M) (expression M) h
 subterms-stay ts us (expression (endT n)) h = tt
 subterms-stay ts us (expression (retryT n)) h = tt
-subterms-stay ts us (expression (rdT n a M)) h = entry-stays ts us (number M) (expression M) h
-subterms-stay ts us (expression (wtT n a M)) h = entry-stays ts us (number M) (expression M) h
+subterms-stay ts us (expression (rdT n a M)) h = found-stays ts us (number M) (expression M) h
+subterms-stay ts us (expression (wtT n a M)) h = found-stays ts us (number M) (expression M) h
 subterms-stay ts us (expression (orElseT n M N)) h =
-    (entry-stays ts us (number M) (expression M) (h .0), entry-stays ts us (number N) (expression N) (h .1))
+    (found-stays ts us (number M) (expression M) (h .0), found-stays ts us (number N) (expression N) (h .1))
 
 -- what a term needs to come behind the terms ts
 record NextTerm (ts : List Term) (u : Term) : Type 0 where
@@ -58,13 +60,16 @@ good-snoc ts u g x = record {
     -- a property of places and terms that the old entries and the new one have
     each : (p : ℕ → Term → Type 0) → ((n : ℕ) (t : Term) → getElem? ts n ≡ some t → p n t) → p (length ts) u →
         (n : ℕ) (t : Term) → getElem? (ts ++ (u ∷ [])) n ≡ some t → p n t
-    each p old new n t e = elim (entry-snoc ts u n t e) [ inl h ↦ old n t h | inr h ↦ rw (← (h .0), ← (h .1)) new ]
+    each p old new n t e = elim (found-snoc ts u n t e) [ inl h ↦ old n t h | inr h ↦ rw (← (h .0), ← (h .1)) new ]
 
 empty-good : GoodTable []
-empty-good = record { few = omega arith; numbered = λ n t e. no-entry n t e; subterms = λ n t e. no-entry n t e; channel = λ n t e. no-entry n t e; limits = λ n t e. no-entry n t e }
-  where
-    no-entry : {C : Type 0} (n : ℕ) (t : Term) → getElem? [] n ≡ some t → C
-    no-entry n t e = let z : _≡_ {A = ℕ} 0 1 = cc in absurd (omega arith)
+empty-good = record {
+  few = omega arith;
+  numbered = λ n t e. absurd (none-found n t e);
+  subterms = λ n t e. absurd (none-found n t e);
+  channel = λ n t e. absurd (none-found n t e);
+  limits = λ n t e. absurd (none-found n t e);
+}
 
 -- ---- what the tests on a record give
 
@@ -87,18 +92,14 @@ expression-in ts g n e = go (getElem? ts n) refl (not-false (isExpression (getEl
     go (some (process P)) p q = let z : _≡_ {A = ℕ} 0 1 = cc in absurd (omega arith)
     go (some (expression M)) p q = rw (g .numbered n (expression M) p) p
 
--- no test of a list holds
-AllFail : List Test → Type 0
-AllFail [] = Unit {0}
-AllFail (t ∷ ts) = (t .holds ≡ false) × AllFail ts
-
-none-holds : (ts : List Test) → firstOf (λ t. t .holds) ts ≡ none → AllFail ts
-unfolding firstOf AllFail
+-- where no test of a list is found to hold, each fails
+none-holds : (ts : List Test) → firstOf (λ t. t .holds) ts ≡ none → All (λ t. t .holds ≡ false) ts
+unfolding firstOf
 none-holds [] e = tt
 none-holds (t ∷ ts) e = go (t .holds) refl e (none-holds ts)
   where
     go : (b : Bool) → t .holds ≡ b → cond b (some t) (firstOf (λ t. t .holds) ts) ≡ none →
-        (firstOf (λ t. t .holds) ts ≡ none → AllFail ts) → (t .holds ≡ false) × AllFail ts
+        (firstOf (λ t. t .holds) ts ≡ none → All (λ t. t .holds ≡ false) ts) → All (λ t. t .holds ≡ false) (t ∷ ts)
     go true p q k = let z : _≡_ {A = ℕ} 0 1 = cc in absurd (omega arith)
     go false p q k = (p, k q)
 
@@ -111,7 +112,7 @@ record Passing (r : Reading) (K : Kind) (bs : List ℕ) : Type 0 where
   limits : overLimit (said (r .terms) bs K) ≡ false
 
 passing : (r : Reading) (K : Kind) (bs : List ℕ) → firstOf (λ t. t .holds) (tests r K bs) ≡ none → Passing r K bs
-unfolding tests AllFail
+unfolding tests
 passing r K bs e =
     let h = none-holds (tests r K bs) e in
     record { whole = h .0; room = h .1 .0; channels = h .1 .1 .0; classes = h .1 .1 .1 .1 .0; limits = h .1 .1 .1 .1 .1 .0 }
@@ -224,7 +225,7 @@ module _ (B : ℕ → Type 0) where
   unfolding passed TurnGood Sound
   passed-good r (aTerm u) w next bs g s = record { terms = good-snoc (r .terms) u (g .terms) s; sixteen = g .sixteen; counts = g .counts }
   passed-good r (someTokens a n) w next bs g s =
-      record { terms = g .terms; sixteen = length-set (r .tokens) a n ∙ g .sixteen; counts = all-set B (r .tokens) a n s (g .counts) }
+      record { terms = g .terms; sixteen = length-set (r .tokens) a n ∙ g .sixteen; counts = all-set B (r .tokens) a n (g .counts) s }
   passed-good r (theStart P) w next bs g s = closed-good r P next bs g s
 
   tested-good : (r : Reading) (at : ℕ) (K : Kind) (bs : List ℕ) (o : Option Test) → firstOf (λ t. t .holds) (tests r K bs) ≡ o →

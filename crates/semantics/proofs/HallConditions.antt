@@ -1,6 +1,5 @@
 -- Which number a call on a hall is turned down with: its table's, else 10 by its size, else 11 by its form; and which number
--- opening is refused with, which looks at the table and the size alone. What is said of 11 rests on three claims about the
--- stored form (specs/StoredClaims), which are taken as arguments.
+-- opening is refused with, which looks at the table and the size alone.
 -- Assumes nothing.
 use Prim.Native.Nat.{ℕ}
 use native.Mathlib.Omega.{arith}
@@ -11,14 +10,15 @@ use mathlib.Core.Option.{Option, none, some}
 use mathlib.Core.List.{List}
 use lib.ListN.{length}
 use lib.Dec.{eqb}
+use borrow.Author.Tests.{eq-eqb, eqb-true, eqb-false, ne-eqb}
 use Rattle.semantics.specs.Basics.{Bytes}
 use Rattle.semantics.specs.Table.{Table, TableAnswer, accepted, refusedAt, readTable}
 use Rattle.semantics.specs.Configuration.{Configuration}
 use Rattle.semantics.specs.Stored.{hallBytes, WellFormed, bytesOf, configurationOf}
 use Rattle.semantics.specs.Calls.{Admission, admitted, turnedDown, formTested, sizeTested, tableTested, admission, OpenAnswer, opened, notOpened, openSized, openTested, openHall}
-use Rattle.semantics.specs.StoredClaims.{AcceptedIsGood, ReadBack, ReadIsWellFormed}
 use Rattle.semantics.specs.Conditions.{HallCondition, by-table, size-wrong, form-wrong, HallNumbers, OpenNumbers}
-use Rattle.semantics.proofs.Readable.{eqb-of, eqb-holds, eqb-fails, eqb-not}
+use Rattle.semantics.proofs.GoodTable.{accepted-is-good}
+use Rattle.semantics.proofs.RoundTrip.{read-back, read-is-well-formed}
 
 -- ---- a call on a hall
 
@@ -32,20 +32,20 @@ module _ (table hall : List ℕ) where
   AdmissionReason (admitted t h) = Admits t h
   AdmissionReason (turnedDown n p) = HallCondition table hall n p
 
-  module _ (good : AcceptedIsGood) (back : ReadBack) (form : ReadIsWellFormed) (bytes : Bytes hall) where
+  module _ (bytes : Bytes hall) where
     form-reason : (t : Table) → readTable table ≡ accepted t → length hall ≡ hallBytes → (o : Option Configuration) → configurationOf (t .terms) hall ≡ o →
         AdmissionReason (formTested t o)
     unfolding formTested
     form-reason t e l none f = form-wrong t e l (λ w. lost (w .0) (w .1) (w .2))
       where
         lost : (h : Configuration) → WellFormed (t .terms) h → bytesOf h ≡ hall → ⊥
-        lost h w q = let r = rw q at (back (t .terms) h (good table t e) w) in let z : _≡_ {A = ℕ} 0 1 = cc in omega arith
-    form-reason t e l (some h) f = let w = form (t .terms) hall h (good table t e) bytes l f in (e, l, w .0, w .1)
+        lost h w q = let r = rw q at (read-back (t .terms) h (accepted-is-good table t e) w) in let z : _≡_ {A = ℕ} 0 1 = cc in omega arith
+    form-reason t e l (some h) f = let w = read-is-well-formed (t .terms) hall h (accepted-is-good table t e) bytes l f in (e, l, w .0, w .1)
 
     size-reason : (t : Table) → readTable table ≡ accepted t → (b : Bool) → eqb (length hall) hallBytes ≡ b → AdmissionReason (sizeTested t hall b)
     unfolding sizeTested
-    size-reason t e true f = form-reason t e (eqb-holds (length hall) hallBytes f) (configurationOf (t .terms) hall) refl
-    size-reason t e false f = size-wrong t e (eqb-fails (length hall) hallBytes f)
+    size-reason t e true f = form-reason t e (eqb-true (length hall) hallBytes f) (configurationOf (t .terms) hall) refl
+    size-reason t e false f = size-wrong t e (eqb-false (length hall) hallBytes f)
 
     table-reason : (o : TableAnswer) → readTable table ≡ o → AdmissionReason (tableTested hall o)
     unfolding tableTested
@@ -59,18 +59,18 @@ module _ (table hall : List ℕ) where
     -- each condition decides the answer
     size-refuses : (t : Table) → readTable table ≡ accepted t → length hall ≢ hallBytes → admission table hall ≡ turnedDown 10 0
     unfolding admission tableTested sizeTested
-    size-refuses t e l = rw (e, eqb-not (length hall) hallBytes l)
+    size-refuses t e l = rw (e, ne-eqb (length hall) hallBytes l)
 
     size-passes : (t : Table) → readTable table ≡ accepted t → length hall ≡ hallBytes → admission table hall ≡ formTested t (configurationOf (t .terms) hall)
     unfolding admission tableTested sizeTested
-    size-passes t e l = rw (e, eqb-of (length hall) hallBytes l)
+    size-passes t e l = rw (e, eq-eqb (length hall) hallBytes l)
 
     form-refuses : (t : Table) → readTable table ≡ accepted t → length hall ≡ hallBytes →
         (((h : Configuration) × WellFormed (t .terms) h × (bytesOf h ≡ hall)) → ⊥) → (o : Option Configuration) → configurationOf (t .terms) hall ≡ o →
         formTested t o ≡ turnedDown 11 0
     unfolding formTested
     form-refuses t e l w none f = refl
-    form-refuses t e l w (some h) f = let q = form (t .terms) hall h (good table t e) bytes l f in absurd (w (h, q .0, q .1))
+    form-refuses t e l w (some h) f = let q = read-is-well-formed (t .terms) hall h (accepted-is-good table t e) bytes l f in absurd (w (h, q .0, q .1))
 
     turned-down : (n p : ℕ) → HallCondition table hall n p → admission table hall ≡ turnedDown n p
     unfolding admission tableTested
@@ -81,15 +81,15 @@ module _ (table hall : List ℕ) where
     admits : (t : Table) (h : Configuration) → Admits t h → admission table hall ≡ admitted t h
     unfolding formTested
     admits t h a =
-        let read : configurationOf (t .terms) hall ≡ some h = rw (a .3) at (back (t .terms) h (good table t (a .0)) (a .2)) in
+        let read : configurationOf (t .terms) hall ≡ some h = rw (a .3) at (read-back (t .terms) h (accepted-is-good table t (a .0)) (a .2)) in
         size-passes t (a .0) (a .1) ∙ ap (formTested t) read
 
-pub hall-numbers : AcceptedIsGood → ReadBack → ReadIsWellFormed → HallNumbers
+pub hall-numbers : HallNumbers
 unfolding HallNumbers
-hall-numbers good back form table hall _ bytes =
-    let reason = admission-reason table hall good back form bytes in (
-      λ n p. (λ e. subst (AdmissionReason table hall) e reason, turned-down table hall good back form bytes n p),
-      λ t h. (λ e. subst (AdmissionReason table hall) e reason, admits table hall good back form bytes t h),
+hall-numbers table hall _ bytes =
+    let reason = admission-reason table hall bytes in (
+      λ n p. (λ e. subst (AdmissionReason table hall) e reason, turned-down table hall bytes n p),
+      λ t h. (λ e. subst (AdmissionReason table hall) e reason, admits table hall bytes t h),
     )
 
 -- ---- opening
@@ -106,7 +106,7 @@ module _ (table hall : List ℕ) where
   open-size-reason : (t : Table) → readTable table ≡ accepted t → (b : Bool) → eqb (length hall) hallBytes ≡ b → OpenReason ((openSized t hall b) .answer)
   unfolding openSized
   open-size-reason t e true f = tt
-  open-size-reason t e false f = inr (t, e, (eqb-fails (length hall) hallBytes f), refl, refl)
+  open-size-reason t e false f = inr (t, e, (eqb-false (length hall) hallBytes f), refl, refl)
 
   open-table-reason : (o : TableAnswer) → readTable table ≡ o → OpenReason ((openTested hall o) .answer)
   unfolding openTested
@@ -120,7 +120,7 @@ module _ (table hall : List ℕ) where
   not-opened : (n p : ℕ) → OpenRefused n p → (openHall table hall) .answer ≡ notOpened n p
   unfolding openHall openTested openSized
   not-opened n p (inl e) = rw e
-  not-opened n p (inr q) = rw (q .1, eqb-not (length hall) hallBytes (q .2), q .3, q .4)
+  not-opened n p (inr q) = rw (q .1, ne-eqb (length hall) hallBytes (q .2), q .3, q .4)
 
 -- a refused opening leaves every byte of the lent hall
 pub refused-untouched : (table hall : List ℕ) (n p : ℕ) → (openHall table hall) .answer ≡ notOpened n p → (openHall table hall) .hall ≡ hall

@@ -1,10 +1,11 @@
 -- The proofs of the claims in specs/, and the laws they rest on.
+pub mod Lists
 pub mod Reading
+pub mod Readable
+pub mod Measures
 pub mod GoodTable
 pub mod Trees
 pub mod RoundTrip
-pub mod Lists
-pub mod Readable
 pub mod Moves
 pub mod WellFormedKept
 pub mod Soundness
@@ -13,11 +14,11 @@ pub mod Communication
 pub mod Completeness
 pub mod AnyOrder
 pub mod Limits
-pub mod HistoryLists
 pub mod Outcome
 pub mod InnerMoves
 pub mod Simulation
 pub mod PathClause
+pub mod Runs
 pub mod CallsAsOne
 pub mod Abandoned
 pub mod Drive

@@ -1,12 +1,13 @@
 -- Small laws of lists: the element at a position, replacing one element by several, and a property of every element.
 -- Assumes nothing.
-use Prim.Native.Nat.{ℕ, zero, suc, _+_, _<_}
+use Prim.Native.Nat.{ℕ, zero, suc, _+_, _≤_, _<_}
 use native.Mathlib.Nat.{le-of-suc-le-suc, not-suc-le-zero, zero-add, suc-add}
 use native.Mathlib.Omega.{arith}
-use mathlib.Core.Path.{_≡_, refl, sym, ap}
-use mathlib.Core.Option.{some}
-use mathlib.Core.List.{List, [], _∷_, _++_, map, append-assoc}
-use lib.ListN.{length, getD, set, getElem?, length-append}
+use mathlib.Core.Path.{_≡_, refl, sym, ap, _∙_}
+use mathlib.Core.Logic.{_⊎_, inl, inr}
+use mathlib.Core.Option.{none, some}
+use mathlib.Core.List.{List, [], _∷_, _++_, map, append-assoc, map-append}
+use lib.ListN.{length, getD, drop, set, replicate, getElem?, length-append}
 use Rattle.semantics.specs.Basics.{replaceAt, All}
 
 -- ---- the element at a position
@@ -28,6 +29,12 @@ module _ {ℓ} {A : Type ℓ} where
   found-at (y ∷ ys) zero h = (y, refl)
   found-at (y ∷ ys) (suc p) h = found-at ys p (le-of-suc-le-suc h)
 
+  -- where there is none, the position is past them
+  pub none-past : (xs : List A) (p : ℕ) → getElem? xs p ≡ none → length xs ≤ p
+  none-past [] p e = omega arith
+  none-past (x ∷ xs) zero e = absurd (let z : _≡_ {A = ℕ} 0 1 = cc in omega arith)
+  none-past (x ∷ xs) (suc p) e = let h = none-past xs p e in omega arith
+
   -- the element at a position of the first of two lists
   pub found-left : (xs ys : List A) (p : ℕ) → p < length xs → getElem? (xs ++ ys) p ≡ getElem? xs p
   found-left [] ys p h = absurd (not-suc-le-zero h)
@@ -38,6 +45,17 @@ module _ {ℓ} {A : Type ℓ} where
   pub found-right : (xs ys : List A) (p : ℕ) → getElem? (xs ++ ys) (length xs + p) ≡ getElem? ys p
   found-right [] ys p = rw zero-add
   found-right (x ∷ xs) ys p = rw suc-add (found-right xs ys p)
+
+  -- it stays where more elements follow
+  pub found-stays : (xs ys : List A) (p : ℕ) (x : A) → getElem? xs p ≡ some x → getElem? (xs ++ ys) p ≡ some x
+  found-stays xs ys p x e = found-left xs ys p (found-below xs p x e) ∙ e
+
+  -- an element of a list with one more behind it is one of the list or that one
+  pub found-snoc : (xs : List A) (y : A) (p : ℕ) (x : A) → getElem? (xs ++ (y ∷ [])) p ≡ some x → (getElem? xs p ≡ some x) ⊎ ((length xs ≡ p) × (y ≡ x))
+  found-snoc [] y zero x e = inr (refl, cc)
+  found-snoc [] y (suc p) x e = absurd (none-found p x e)
+  found-snoc (z ∷ xs) y zero x e = inl e
+  found-snoc (z ∷ xs) y (suc p) x e = elim (found-snoc xs y p x e) [ inl h ↦ inl h | inr h ↦ inr (ap suc (h .0), h .1) ]
 
   -- the element at a position, where a default stands in for none
   pub found-getD : (xs : List A) (p : ℕ) (x d : A) → getElem? xs p ≡ some x → getD xs p d ≡ x
@@ -74,10 +92,46 @@ module _ {ℓ} {A : Type ℓ} where
   length-replaceAt (x ∷ xs) ys zero h = let l = length-append ys xs in omega arith
   length-replaceAt (x ∷ xs) ys (suc p) h = let l = length-replaceAt xs ys p (le-of-suc-le-suc h) in omega arith
 
--- the image of two lists
-pub map-append {ℓ κ} : {A : Type ℓ} {B : Type κ} (f : A → B) (xs ys : List A) → map f (xs ++ ys) ≡ map f xs ++ map f ys
-map-append f [] ys = refl
-map-append f (x ∷ xs) ys = ap (_∷_ (f x)) (map-append f xs ys)
+  -- what stands before it stays
+  pub replaced-left : (p q : ℕ) (ys xs : List A) → q < p → getElem? (replaceAt p ys xs) q ≡ getElem? xs q
+  unfolding replaceAt
+  replaced-left p q ys [] h = refl
+  replaced-left zero q ys (x ∷ xs) h = absurd (omega arith)
+  replaced-left (suc p) zero ys (x ∷ xs) h = refl
+  replaced-left (suc p) (suc q) ys (x ∷ xs) h = replaced-left p q ys xs (omega arith)
+
+  -- in its place stand the others
+  pub replaced-here : (p q j : ℕ) (ys xs : List A) → p < length xs → q ≡ p + j → j < length ys → getElem? (replaceAt p ys xs) q ≡ getElem? ys j
+  unfolding replaceAt
+  replaced-here p q j ys [] e h g = absurd (omega arith)
+  replaced-here zero q j ys (y ∷ xs) e h g = let z : q ≡ j = omega arith in rw z (found-left ys xs j g)
+  replaced-here (suc p) zero j ys (y ∷ xs) e h g = absurd (omega arith)
+  replaced-here (suc p) (suc q) j ys (y ∷ xs) e h g = replaced-here p q j ys xs (omega arith) (omega arith) g
+
+  -- what stands behind it is moved
+  pub replaced-right : (p q i : ℕ) (ys xs : List A) → p < length xs → p + length ys ≤ q → i + length ys ≡ suc q →
+      getElem? (replaceAt p ys xs) q ≡ getElem? xs i
+  unfolding replaceAt
+  replaced-right p q i ys [] e h g = absurd (omega arith)
+  replaced-right zero q zero ys (y ∷ xs) e h g = absurd (omega arith)
+  replaced-right zero q (suc i) ys (y ∷ xs) e h g = let z : q ≡ length ys + i = omega arith in rw z (found-right ys xs i)
+  replaced-right (suc p) zero i ys (y ∷ xs) e h g = absurd (omega arith)
+  replaced-right (suc p) (suc q) zero ys (y ∷ xs) e h g = absurd (omega arith)
+  replaced-right (suc p) (suc q) (suc i) ys (y ∷ xs) e h g = replaced-right p q i ys xs (omega arith) (omega arith) (omega arith)
+
+  -- an element replaced by itself
+  pub replaceAt-same : (xs : List A) (p : ℕ) (x : A) → getElem? xs p ≡ some x → replaceAt p (x ∷ []) xs ≡ xs
+  unfolding replaceAt
+  replaceAt-same [] p x e = refl
+  replaceAt-same (y ∷ ys) zero x e = let k : y ≡ x = cc in rw k
+  replaceAt-same (y ∷ ys) (suc p) x e = ap (_∷_ y) (replaceAt-same ys p x e)
+
+  -- of two replacements at one position the second counts
+  pub replaceAt-twice : (xs ys : List A) (p : ℕ) (x : A) → replaceAt p ys (replaceAt p (x ∷ []) xs) ≡ replaceAt p ys xs
+  unfolding replaceAt
+  replaceAt-twice [] ys p x = refl
+  replaceAt-twice (z ∷ zs) ys zero x = refl
+  replaceAt-twice (z ∷ zs) ys (suc p) x = ap (_∷_ z) (replaceAt-twice zs ys p x)
 
 -- a list's image after a replacement
 pub map-replaceAt {ℓ κ} : {A : Type ℓ} {B : Type κ} (f : A → B) (xs ys : List A) (p : ℕ) → map f (replaceAt p ys xs) ≡ replaceAt p (map f ys) (map f xs)
@@ -93,6 +147,31 @@ module _ {ℓ} {A : Type ℓ} (P : A → Type 0) where
   pub all-append : (xs ys : List A) → All P xs → All P ys → All P (xs ++ ys)
   all-append [] ys h k = k
   all-append (x ∷ xs) ys h k = (h .0, all-append xs ys (h .1) k)
+
+  -- and back
+  pub all-left : (xs ys : List A) → All P (xs ++ ys) → All P xs
+  all-left [] ys h = tt
+  all-left (x ∷ xs) ys h = (h .0, all-left xs ys (h .1))
+
+  pub all-right : (xs ys : List A) → All P (xs ++ ys) → All P ys
+  all-right [] ys h = h
+  all-right (x ∷ xs) ys h = all-right xs ys (h .1)
+
+  -- of what is left of a list
+  pub all-drop : (n : ℕ) (xs : List A) → All P xs → All P (drop n xs)
+  all-drop zero xs h = h
+  all-drop (suc n) [] h = h
+  all-drop (suc n) (x ∷ xs) h = all-drop n xs (h .1)
+
+  -- of one element again and again
+  pub all-replicate : (n : ℕ) (x : A) → P x → All P (replicate n x)
+  all-replicate zero x h = tt
+  all-replicate (suc n) x h = (h, all-replicate n x h)
+
+  -- a property that everything has
+  pub all-every : ((x : A) → P x) → (xs : List A) → All P xs
+  all-every h [] = tt
+  all-every h (x ∷ xs) = (h x, all-every h xs)
 
   -- of the element at a position
   pub all-at : (xs : List A) (p : ℕ) (x : A) → All P xs → getElem? xs p ≡ some x → P x

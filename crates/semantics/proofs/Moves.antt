@@ -1,20 +1,24 @@
 -- What an accepted choice does, taken apart: the component at its position, that component's own move, and what it leaves there.
+-- And two inductions: over the moves inside a transaction, and over the choices of a run.
 -- Assumes nothing.
-use Prim.Native.Nat.{ℕ, suc, _+_, _≤_}
+use Prim.Native.Nat.{ℕ, zero, suc, _+_, _≤_}
 use native.Mathlib.Omega.{arith}
 use mathlib.Core.Path.{_≡_, refl, _∙_}
 use mathlib.Core.Bool.{Bool, true, false}
 use mathlib.Core.Option.{Option, none, some}
-use mathlib.Core.List.{List, [], _∷_}
+use mathlib.Core.List.{List, [], _∷_, _++_}
 use lib.ListN.{length, getElem?}
 use lib.Dec.{leb}
-use Rattle.calculus.specs.Syntax.{State}
-use Rattle.calculus.specs.Reduction.{Rule}
+use borrow.Author.Tests.{leb-true, le-leb}
+use Rattle.calculus.specs.Syntax.{Name, rd, wt, Log, State}
+use Rattle.calculus.specs.Reduction.{Rule, ARDOK, ARDF, AWR, AOI, AOF, AOE}
 use Rattle.semantics.specs.Basics.{replaceAt}
-use Rattle.semantics.specs.Configuration.{Component, Configuration}
-use Rattle.semantics.specs.Moves.{Entry, act, inside, Local, moves, stays, acts, actsInside, Answer, moved, refused, settles, at, choose}
+use Rattle.semantics.specs.Terms.{Expression, endT, retryT, rdT, wtT, orElseT}
+use Rattle.semantics.specs.Logs.{readable}
+use Rattle.semantics.specs.Configuration.{Tree, leaf, fork, Component, Configuration}
+use Rattle.semantics.specs.Moves.{Entry, act, inside, Local, moves, stays, acts, Inner, evolves, resting, past, atLeaf, atFork, inRight, inLeft, inner, actsInside, Answer, moved, refused, settles, at, choose}
 use Rattle.semantics.specs.Run.{Item, entry, malformed, entries, Counters, counted, RunAnswer, goesOn, runFrom, Step, stepsOn, steps}
-use Rattle.semantics.proofs.Readable.{leb-holds, leb-of}
+use Rattle.semantics.proofs.Reading.{by-cases}
 
 -- the position that an entry names
 unfoldable pub positionOf : Entry → ℕ
@@ -44,6 +48,12 @@ unfolding choose positionOf localMove
 choose-at h (act p) = refl
 choose-at h (inside p k) = refl
 
+-- where a component is there
+pub chosen-at : (h : Configuration) (e : Entry) (c : Component) → getElem? (h .components) (positionOf e) ≡ some c →
+    choose h e ≡ settles (positionOf e) (localMove (h .counts) c e) h
+unfolding at
+chosen-at h e c f = choose-at h e ∙ rw f
+
 -- a local move that is accepted at a position
 settled-inverts : (p : ℕ) (l : Local) (h : Configuration) (r : Rule) (g : Configuration) → settles p l h ≡ moved r g →
     (cs : List Component) × (l ≡ moves r (g .counts) cs) × (g .components ≡ replaceAt p cs (h .components)) × (length (g .components) ≤ 64)
@@ -60,7 +70,7 @@ settled-inverts p (moves q σ cs) h r g e = go (leb (length (replaceAt p cs (h .
 
     go : (b : Bool) → leb (length (replaceAt p cs (h .components))) 64 ≡ b →
         (ds : List Component) × (moves q σ cs ≡ moves r (g .counts) ds) × (g .components ≡ replaceAt p ds (h .components)) × (length (g .components) ≤ 64)
-    go true t = let f : moved q laidDown ≡ moved r g = rw t at e in left (cc) (cc) (leb-holds _ _ t)
+    go true t = let f : moved q laidDown ≡ moved r g = rw t at e in left (cc) (cc) (leb-true _ _ t)
     go false t = let f : refused 19 ≡ moved r g = rw t at e in absurd (let z : _≡_ {A = ℕ} 0 1 = cc in omega arith)
 
 -- every accepted choice comes apart so
@@ -80,8 +90,71 @@ pub accepted-made : (h : Configuration) (e : Entry) (r : Rule) (σ : State) (c :
     getElem? (h .components) (positionOf e) ≡ some c → localMove (h .counts) c e ≡ moves r σ cs →
     length (replaceAt (positionOf e) cs (h .components)) ≤ 64 →
     choose h e ≡ moved r (record { counts = σ; components = replaceAt (positionOf e) cs (h .components) })
-unfolding at settles
-accepted-made h e r σ c cs f l k = choose-at h e ∙ rw (f, l) (rw (leb-of _ 64 k))
+unfolding settles
+accepted-made h e r σ c cs f l k = chosen-at h e c f ∙ rw (l, le-leb _ 64 k)
+
+-- ---- a move inside a transaction
+
+-- a property of the tree, the rule and the tree afterwards, of an answer that is a move
+abbrev pub Moving : (Tree → Rule → Tree → Type 0) → Tree → Inner → Type 0
+Moving Q t (evolves r u) = Q t r u
+Moving Q t resting = Unit {0}
+Moving Q t (past k) = Unit {0}
+
+-- it holds of each of the six rules, and of a fork where it holds of the side that moves
+pub record EachRule (s : State) (Q : Tree → Rule → Tree → Type 0) : Type 0 where
+  pub ardok : (n : ℕ) (a : Name) (M : Expression) (δ : Log) → readable s (δ ++ (rd a ∷ [])) ≡ true → Q (leaf (rdT n a M) δ) ARDOK (leaf M (δ ++ (rd a ∷ [])))
+  pub ardf : (n : ℕ) (a : Name) (M : Expression) (δ : Log) → readable s (δ ++ (rd a ∷ [])) ≡ false → Q (leaf (rdT n a M) δ) ARDF (leaf (retryT 255) δ)
+  pub awr : (n : ℕ) (a : Name) (M : Expression) (δ : Log) → Q (leaf (wtT n a M) δ) AWR (leaf M (δ ++ (wt a ∷ [])))
+  pub aoi : (n : ℕ) (M N : Expression) (δ : Log) → Q (leaf (orElseT n M N) δ) AOI (fork (leaf M δ) (leaf N δ))
+  pub aof : (n : ℕ) (δ : Log) (r : Tree) → Q (fork (leaf (retryT n) δ) r) AOF r
+  pub aoe : (n : ℕ) (δ : Log) (r : Tree) → Q (fork (leaf (endT n) δ) r) AOE (leaf (endT n) δ)
+  pub aol : (l r u : Tree) (e : Rule) → Q l e u → Q (fork l r) e (fork u r)
+  pub aor : (l r u : Tree) (e : Rule) → Q r e u → Q (fork l r) e (fork l u)
+
+module _ {s : State} {Q : Tree → Rule → Tree → Type 0} (each : EachRule s Q) where
+  -- at a leaf
+  leaf-moving : (M : Expression) (δ : Log) → Moving Q (leaf M δ) (atLeaf s M δ)
+  unfolding atLeaf
+  leaf-moving (endT n) δ = tt
+  leaf-moving (retryT n) δ = tt
+  leaf-moving (rdT n a M) δ = by-cases (Moving Q (leaf (rdT n a M) δ)) (readable s (δ ++ (rd a ∷ []))) _ _ (each .ardok n a M δ) (each .ardf n a M δ)
+  leaf-moving (wtT n a M) δ = each .awr n a M δ
+  leaf-moving (orElseT n M N) δ = each .aoi n M N δ
+
+  -- at a fork
+  fork-moving : (l r : Tree) → Moving Q (fork l r) (atFork l r)
+  unfolding atFork
+  fork-moving (leaf (endT n) δ) r = each .aoe n δ r
+  fork-moving (leaf (retryT n) δ) r = each .aof n δ r
+  fork-moving (leaf (rdT n a M) δ) r = tt
+  fork-moving (leaf (wtT n a M) δ) r = tt
+  fork-moving (leaf (orElseT n M N) δ) r = tt
+  fork-moving (fork l m) r = tt
+
+  -- in a fork's right side
+  right-moving : (l r : Tree) (i : Inner) → Moving Q r i → Moving Q (fork l r) (inRight l i)
+  unfolding inRight
+  right-moving l r (evolves e u) h = each .aor l r u e h
+  right-moving l r resting h = tt
+  right-moving l r (past k) h = tt
+
+  -- in its left side, or past it
+  left-moving : (l r : Tree) (i : Inner) (next : ℕ → Inner) → Moving Q l i → ((j : ℕ) → Moving Q (fork l r) (next j)) → Moving Q (fork l r) (inLeft r i next)
+  unfolding inLeft
+  left-moving l r (evolves e u) next h f = each .aol l r u e h
+  left-moving l r resting next h f = tt
+  left-moving l r (past j) next h f = f j
+
+  -- it holds of every move inside
+  pub inner-induction : (t : Tree) (k : ℕ) → Moving Q t (inner s t k)
+  unfolding inner
+  inner-induction (leaf M δ) zero = leaf-moving M δ
+  inner-induction (leaf M δ) (suc k) = tt
+  inner-induction (fork l r) zero = fork-moving l r
+  inner-induction (fork l r) (suc k) =
+      left-moving l r (inner s l k) (λ j. inRight l (inner s r j)) (inner-induction l k)
+      (λ j. right-moving l r (inner s r j) (inner-induction r j))
 
 -- ---- a run
 

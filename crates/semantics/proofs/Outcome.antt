@@ -1,23 +1,23 @@
 -- What a transaction's nodes come to at its snapshot: the log that a leaf would end with, and of a fork the left outcome or
 -- else the right. Every move inside keeps the outcome and keeps every leaf's log readable at the snapshot.
 -- Assumes nothing.
-use Prim.Native.Nat.{ℕ, zero, suc}
+use Prim.Native.Nat.{ℕ}
 use native.Mathlib.Omega.{arith}
 use mathlib.Core.Path.{_≡_, refl, sym, ap, ap₂, _∙_}
 use mathlib.Core.Bool.{Bool, true, false, cond}
 use mathlib.Core.Option.{Option, none, some}
-use mathlib.Core.List.{List, [], _∷_, _++_, map, append-nil, append-assoc}
+use mathlib.Core.List.{List, [], _∷_, _++_, map, append-nil, append-assoc, map-append}
 use Rattle.calculus.specs.Syntax.{Name, Action, rd, wt, Log, State}
-use Rattle.calculus.specs.Reduction.{ARDOK, ARDF}
+use Rattle.calculus.specs.Reduction.{Rule}
 use Rattle.calculus.proofs.Logs.{empty-included, prefix-included, write-included}
 use Rattle.semantics.specs.Basics.{firstOf}
 use Rattle.semantics.specs.Terms.{Expression, endT, retryT, rdT, wtT, orElseT}
 use Rattle.semantics.specs.Logs.{emptyLog, readable, paths, firstReadable}
 use Rattle.semantics.specs.Configuration.{Tree, leaf, fork}
-use Rattle.semantics.specs.Moves.{Inner, evolves, resting, past, reads, atLeaf, atFork, inLeft, inRight, inner}
+use Rattle.semantics.specs.Moves.{Inner, evolves, resting, past, inner}
 use Rattle.semantics.specs.Converse.{firstFrom}
-use Rattle.semantics.proofs.Lists.{map-append}
 use Rattle.semantics.proofs.Readable.{readable-included, included-readable}
+use Rattle.semantics.proofs.Moves.{Moving, inner-induction}
 
 -- ---- the three facts of readable that the moves inside rest on
 
@@ -121,65 +121,23 @@ unfoldable pub LogsReadable : State → Tree → Type 0
 LogsReadable s (leaf M δ) = readable s δ ≡ true
 LogsReadable s (fork l r) = LogsReadable s l × LogsReadable s r
 
--- what a move inside keeps, of what the tree t came to
-abbrev pub KeepsOutcome : State → Tree → Inner → Type 0
-KeepsOutcome s t (evolves r u) = (outcome s u ≡ outcome s t) × LogsReadable s u
-KeepsOutcome s t resting = Unit {0}
-KeepsOutcome s t (past k) = Unit {0}
+-- what a move inside keeps of a tree whose logs are readable: its outcome, and that they are
+abbrev pub Keeps : State → Tree → Rule → Tree → Type 0
+Keeps s t r u = LogsReadable s t → (outcome s u ≡ outcome s t) × LogsReadable s u
 
--- ARDOK and ARDF
-read-keeps : (s : State) (n : ℕ) (a : Name) (M : Expression) (δ : Log) → readable s δ ≡ true →
-    KeepsOutcome s (leaf (rdT n a M) δ) (reads s a M δ)
-unfolding reads outcome LogsReadable
-read-keeps s n a M δ h = go (readable s (δ ++ (rd a ∷ []))) refl
-  where
-    go : (b : Bool) → readable s (δ ++ (rd a ∷ [])) ≡ b → KeepsOutcome s (leaf (rdT n a M) δ)
-        (cond b (evolves ARDOK (leaf M (δ ++ (rd a ∷ [])))) (evolves ARDF (leaf (retryT 255) δ)))
-    go true e = (sym (first-from-rd s n a M δ), e)
-    go false e = (sym (first-from-rd s n a M δ ∙ first-from-unreadable s M (δ ++ (rd a ∷ [])) e), h)
-
--- a move at a leaf
-leaf-keeps : (s : State) (M : Expression) (δ : Log) → readable s δ ≡ true → KeepsOutcome s (leaf M δ) (atLeaf s M δ)
-unfolding atLeaf outcome LogsReadable
-leaf-keeps s (endT n) δ h = tt
-leaf-keeps s (retryT n) δ h = tt
-leaf-keeps s (rdT n a M) δ h = read-keeps s n a M δ h
-leaf-keeps s (wtT n a M) δ h = (sym (first-from-wt s n a M δ), readable-write s δ a h)
-leaf-keeps s (orElseT n M N) δ h = (sym (first-from-orElse s n M N δ), (h, h))
-
--- AOE and AOF
-fork-keeps : (s : State) (l r : Tree) → LogsReadable s l → LogsReadable s r → KeepsOutcome s (fork l r) (atFork l r)
-unfolding atFork outcome LogsReadable
-fork-keeps s (leaf (endT n) δ) r h g = (rw (first-from-end s n δ h), h)
-fork-keeps s (leaf (retryT n) δ) r h g = (refl, g)
-fork-keeps s (leaf (rdT n a M) δ) r h g = tt
-fork-keeps s (leaf (wtT n a M) δ) r h g = tt
-fork-keeps s (leaf (orElseT n M N) δ) r h g = tt
-fork-keeps s (fork l m) r h g = tt
-
--- a move in the right side of a fork
-right-keeps : (s : State) (l r : Tree) → LogsReadable s l → (i : Inner) → KeepsOutcome s r i → KeepsOutcome s (fork l r) (inRight l i)
-unfolding inRight outcome LogsReadable
-right-keeps s l r h (evolves e u) k = (ap (orElseOf (outcome s l)) (k .0), (h, k .1))
-right-keeps s l r h resting k = tt
-right-keeps s l r h (past j) k = tt
-
--- a move in the left side, or past it in the right side
-left-keeps : (s : State) (l r : Tree) → LogsReadable s l → LogsReadable s r → (i : Inner) → KeepsOutcome s l i →
-    (right : ℕ → Inner) → ((j : ℕ) → KeepsOutcome s r (right j)) → KeepsOutcome s (fork l r) (inLeft r i (λ j. inRight l (right j)))
-unfolding inLeft outcome LogsReadable
-left-keeps s l r h g (evolves e u) k right f = (ap (λ x. orElseOf x (outcome s r)) (k .0), (k .1, g))
-left-keeps s l r h g resting k right f = tt
-left-keeps s l r h g (past j) k right f = right-keeps s l r h (right j) (f j)
-
--- every move inside keeps the outcome, and every leaf's log readable
-pub inner-keeps : (s : State) (t : Tree) → LogsReadable s t → (k : ℕ) → KeepsOutcome s t (inner s t k)
-unfolding inner LogsReadable
-inner-keeps s (leaf M δ) h zero = leaf-keeps s M δ h
-inner-keeps s (leaf M δ) h (suc k) = tt
-inner-keeps s (fork l r) h zero = fork-keeps s l r (h .0) (h .1)
-inner-keeps s (fork l r) h (suc k) =
-    left-keeps s l r (h .0) (h .1) (inner s l k) (inner-keeps s l (h .0) k) (λ j. inner s r j) (λ j. inner-keeps s r (h .1) j)
+-- every move inside keeps both
+pub inner-keeps : (s : State) (t : Tree) (k : ℕ) → Moving (Keeps s) t (inner s t k)
+unfolding outcome LogsReadable
+inner-keeps s = inner-induction (record {
+  ardok = λ n a M δ e h. (sym (first-from-rd s n a M δ), e);
+  ardf = λ n a M δ e h. (sym (first-from-rd s n a M δ ∙ first-from-unreadable s M (δ ++ (rd a ∷ [])) e), h);
+  awr = λ n a M δ h. (sym (first-from-wt s n a M δ), readable-write s δ a h);
+  aoi = λ n M N δ h. (sym (first-from-orElse s n M N δ), (h, h));
+  aof = λ n δ r h. (refl, h .1);
+  aoe = λ n δ r h. (rw (first-from-end s n δ (h .0)), h .0);
+  aol = λ l r u e k h. let i = k (h .0) in (ap (λ x. orElseOf x (outcome s r)) (i .0), (i .1, h .1));
+  aor = λ l r u e k h. let i = k (h .1) in (ap (orElseOf (outcome s l)) (i .0), (h .0, i .1));
+})
 
 -- at the start of an attempt
 pub outcome-start : (s : State) (M : Expression) → outcome s (leaf M emptyLog) ≡ firstReadable s M
@@ -220,10 +178,10 @@ StaysFaithful s M (past k) = Unit {0}
 
 -- every move inside keeps it so
 pub faithful-move : (s : State) (M : Expression) (t : Tree) (k : ℕ) → Faithful s M t → StaysFaithful s M (inner s t k)
-faithful-move s M t k f = go (inner s t k) (inner-keeps s t (f .logs) k)
+faithful-move s M t k f = go (inner s t k) (inner-keeps s t k)
   where
-    go : (i : Inner) → KeepsOutcome s t i → StaysFaithful s M i
-    go (evolves r u) h = record { comes = h .0 ∙ f .comes; logs = h .1 }
+    go : (i : Inner) → Moving (Keeps s) t i → StaysFaithful s M i
+    go (evolves r u) h = let k = h (f .logs) in record { comes = k .0 ∙ f .comes; logs = k .1 }
     go resting h = tt
     go (past j) h = tt
 

@@ -11,6 +11,7 @@ use mathlib.Core.Option.{Option, none, some}
 use mathlib.Core.List.{List, [], _∷_, _++_, map}
 use lib.ListN.{length, getElem?}
 use lib.Dec.{leb, eqb}
+use borrow.Author.Tests.{le-leb, lt-leb}
 use Rattle.calculus.specs.Syntax.{Name, Log, State}
 use Rattle.calculus.specs.State.{count, Included, without}
 use Rattle.calculus.specs.Log.{RD, WT}
@@ -27,9 +28,8 @@ use Rattle.semantics.specs.History.{laid, Opened, andThen, openedBy, att
 use Rattle.semantics.specs.InnerMoves.{Moves, unmoved, MovesSettleFirstPath}
 use Rattle.semantics.specs.Atomicity.{unbegun, CommitOk, CommitsOk, AttemptsOk, AlwaysAttemptsOk}
 use Rattle.semantics.proofs.Readable.{readable-included, included-readable}
-use Rattle.semantics.proofs.Reading.{true-leb, false-leb}
-use Rattle.semantics.proofs.InnerMoves.{replaced-left, replaced-here, replaced-right, moves-snoc, moves-settle-first-path, InnerRule, ByInnerRule, inner-rule, inside-moved}
-use Rattle.semantics.proofs.Lists.{found-below, found-map, length-replaceAt, all-at}
+use Rattle.semantics.proofs.InnerMoves.{moves-snoc, moves-settle-first-path, InnerRule, inner-rule, inside-moved}
+use Rattle.semantics.proofs.Lists.{found-below, found-map, length-replaceAt, all-at, replaced-left, replaced-here, replaced-right}
 use Rattle.semantics.proofs.Moves.{positionOf, localMove, Accepted, accepted-inverts}
 
 -- ---- readable at fewer tokens
@@ -99,14 +99,9 @@ LocalTells σ c (moves r σ′ cs) = ActTells σ c r σ′ cs
 LocalTells σ c (stays n) = Unit {0}
 
 -- idle components are fresh
-idle-fresh : (σ : State) (r : Rule) (cs : List Idle) → All (Fresh σ r) (map idle cs)
-idle-fresh σ r [] = tt
-idle-fresh σ r (c ∷ cs) = (tt, idle-fresh σ r cs)
-
--- and so are outputs
-outputs-fresh : (σ : State) (r : Rule) (ws : List Name) → All (Fresh σ r) (map (λ a. idle (output a)) ws)
-outputs-fresh σ r [] = tt
-outputs-fresh σ r (w ∷ ws) = (tt, outputs-fresh σ r ws)
+idle-fresh : {A : Type 0} (σ : State) (r : Rule) (f : A → Idle) (xs : List A) → All (Fresh σ r) (map (λ x. idle (f x)) xs)
+idle-fresh σ r f [] = tt
+idle-fresh σ r f (x ∷ xs) = (tt, idle-fresh σ r f xs)
 
 -- taking away raises no count
 without-no-more : (bs : List Name) (σ : State) → NoMore (without σ bs) σ
@@ -124,7 +119,7 @@ takes-tells σ c a r cs k = go (eqb (count σ a) 0)
   where
     go : (b : Bool) → LocalTells σ c (cond b (stays 18) (moves r (spent σ a) (map idle cs)))
     go true = tt
-    go false = record { ungained = λ n. spent-no-more a σ; fresh = idle-fresh σ r cs; commit = k }
+    go false = record { ungained = λ n. spent-no-more a σ; fresh = idle-fresh σ r (λ c. c) cs; commit = k }
 
 -- OUT, which is a gain
 puts-tells : (σ : State) (c : Component) (a : Name) → LocalTells σ c (puts σ a)
@@ -147,7 +142,7 @@ commits-tells σ n M s e δ = go (readable σ δ) refl
   where
     go : (b : Bool) → readable σ δ ≡ b → LocalTells σ (transaction n M s (leaf (endT e) δ))
         (cond b (moves (ATOK δ) (without σ (RD δ)) (map (λ a. idle (output a)) (WT δ))) (moves ATFAIL σ (idle (block n M) ∷ [])))
-    go true i = record { ungained = λ _. without-no-more (RD δ) σ; fresh = outputs-fresh σ (ATOK δ) (WT δ); commit = (n, M, s, e, refl, i) }
+    go true i = record { ungained = λ _. without-no-more (RD δ) σ; fresh = idle-fresh σ (ATOK δ) output (WT δ); commit = (n, M, s, e, refl, i) }
     go false i = record { ungained = λ _. same-no-more σ; fresh = (tt, tt); commit = tt }
 
 -- at an attempt's nodes
@@ -227,12 +222,12 @@ module _ (past : List Step) (h : Configuration) (p : ℕ) (r : Rule) (g : Config
   -- looking back from before the place
   back-left : (q : ℕ) → q < p → attemptAt (acted ∷ past) q ≡ andThen acted (attemptAt past q)
   unfolding attemptAt acted
-  back-left q l = rw (true-leb (suc q) p l)
+  back-left q l = rw (le-leb (suc q) p l)
 
   -- from within the place
   back-here : (q : ℕ) → p ≤ q → q < p + length cs → attemptAt (acted ∷ past) q ≡ openedBy r acted
   unfolding attemptAt acted
-  back-here q l m = let e = acted-laid in rw (false-leb (suc q) p (omega arith), true-leb (suc q) (p + laid acted) (omega arith))
+  back-here q l m = let e = acted-laid in rw (lt-leb (suc q) p (omega arith), le-leb (suc q) (p + laid acted) (omega arith))
 
   -- from behind the place
   back-right : (q i : ℕ) → p + length cs ≤ q → i + length cs ≡ suc q → attemptAt (acted ∷ past) q ≡ andThen acted (attemptAt past i)
@@ -240,7 +235,7 @@ module _ (past : List Step) (h : Configuration) (p : ℕ) (r : Rule) (g : Config
   back-right q i l m =
       let e = acted-laid in
       let j : suc q - laid acted ≡ i = omega arith in
-      rw (false-leb (suc q) p (omega arith), false-leb (suc q) (p + laid acted) (omega arith), j)
+      rw (lt-leb (suc q) p (omega arith), lt-leb (suc q) (p + laid acted) (omega arith), j)
 
   -- what was laid down is known
   fresh-known : (q : ℕ) → attemptAt (acted ∷ past) q ≡ openedBy r acted → (NoGain r → NoMore (g .counts) (h .counts)) → (o : Option Component) →
@@ -403,7 +398,7 @@ inside-step before h p k r g known m = go (m .component) (m .found) (m .local)
     go (idle c) i l = let z : _≡_ {A = ℕ} 0 1 = cc in absurd (omega arith)
     go (transaction n M s u) i l =
         let w = inside-moved (h .counts) p k n M s u r (g .counts) (m .laid) l in
-        let ruled : ByInnerRule (evolves r (w .0)) = rw (w .1) at (inner-rule s u k) in (
+        let ruled : InnerRule r = rw (w .1) at (inner-rule s u k) in (
           inner-no-commit before _ r ruled,
           inside-known before h p k r g n M s u (w .0) i (w .1) (sym (w .2)) (rw (w .3) (m .placed)) known,
         )

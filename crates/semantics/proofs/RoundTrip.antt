@@ -6,9 +6,10 @@ use native.Mathlib.Omega.{arith}
 use mathlib.Core.Path.{_≡_, refl, sym, ap, subst, _∙_}
 use mathlib.Core.Bool.{Bool, true, false, cond}
 use mathlib.Core.Option.{Option, none, some}
-use mathlib.Core.List.{List, [], _∷_, _++_, map, append-assoc, map-append}
+use mathlib.Core.List.{List, [], _∷_, _++_, map, append-assoc}
 use lib.ListN.{length, replicate, getElem?, length-append, length-map}
 use lib.Dec.{leb, ltb, eqb}
+use borrow.Author.Tests.{leb-true, le-leb, eqb-true}
 use Rattle.calculus.specs.Syntax.{State}
 use Rattle.semantics.specs.Basics.{given, provided, padded, joined, zeros, All}
 use Rattle.semantics.specs.Terms.{Expression, Program, nilT, putT, takeT, repeatT, parT, atomT, Term, process, expression, width}
@@ -16,9 +17,10 @@ use Rattle.semantics.specs.Configuration.{Idle, taking, repeating, block
 use Rattle.semantics.specs.Stored.{channels, hallBytes, treeBytes, componentBytes, bytesOf, ComponentOk, cut, treeFrom, waitingOn, begun, ComponentKind, waitingC, outputC, transactionC, otherC, componentKind, componentFrom, componentsFrom, configurationOf}
 use Rattle.semantics.specs.GoodTable.{programNumber, termNumber, ProgramIn, GoodTable}
 use Rattle.semantics.specs.StoredClaims.{Bytes, ReadBack, BytesDiffer, ReadIsWellFormed, WellFormedAgrees, StoredFits, OpeningIsWellFormed}
-use Rattle.semantics.proofs.Reading.{leb-true, true-leb, eqb-true, given-some, provided-some, all-append, all-left, all-right, entry-below, zeros-replicate, replicate-zeros}
+use Rattle.semantics.proofs.Reading.{given-some, provided-some, zeros-replicate, replicate-zeros}
 use Rattle.semantics.proofs.GoodTable.{accepted-is-good, start-is-entry, tokens-are-counts}
 use Rattle.semantics.proofs.Trees.{cut-back, cut-forth, length-padded, padded-of, padded-bytes, tree-back, tree-forth, tree-size, tree-bytes}
+use Rattle.semantics.proofs.Lists.{all-append, all-left, all-right, found-below, all-map}
 
 -- ---- from a configuration to bytes and back
 
@@ -29,7 +31,7 @@ unfolding ComponentOk componentsFrom componentFrom componentKind componentBytes 
 component-forth ts (idle (taking n a P)) ok f rest = rw ok
 component-forth ts (idle (repeating n a P)) ok f rest = rw ok
 component-forth ts (idle (block n M)) ok f rest = rw ok
-component-forth ts (idle (output a)) ok f rest = rw (true-leb (suc a) 16 ok)
+component-forth ts (idle (output a)) ok f rest = rw (le-leb (suc a) 16 ok)
 component-forth ts (transaction n M s t) ok f rest =
     let l = length-append s (treeBytes t ++ rest) in
     let m = length-append (treeBytes t) rest in
@@ -38,7 +40,7 @@ component-forth ts (transaction n M s t) ok f rest =
       cut-forth 16 s (treeBytes t ++ rest) (ok .1 .0),
       tree-forth ts t (suc (length (s ++ (treeBytes t ++ rest)))) rest (ok .2) (omega arith),
       ok .0,
-      true-leb (branchesOf t) 8 (ok .3),
+      le-leb (branchesOf t) 8 (ok .3),
     )
 
 components-forth : (ts : List Term) (cs : List Component) (f n : ℕ) → All (ComponentOk ts) cs → length cs < f →
@@ -75,12 +77,12 @@ components-size ts (c ∷ cs) ok =
 
 component-bytes : (ts : List Term) → GoodTable ts → (c : Component) → ComponentOk ts c → Bytes (componentBytes c)
 unfolding componentBytes ComponentOk
-component-bytes ts g (idle (taking n a P)) ok = let h = entry-below ts n _ ok in let f = g .few in (omega arith, (omega arith, tt))
-component-bytes ts g (idle (repeating n a P)) ok = let h = entry-below ts n _ ok in let f = g .few in (omega arith, (omega arith, tt))
-component-bytes ts g (idle (block n M)) ok = let h = entry-below ts n _ ok in let f = g .few in (omega arith, (omega arith, tt))
+component-bytes ts g (idle (taking n a P)) ok = let h = found-below ts n _ ok in let f = g .few in (omega arith, (omega arith, tt))
+component-bytes ts g (idle (repeating n a P)) ok = let h = found-below ts n _ ok in let f = g .few in (omega arith, (omega arith, tt))
+component-bytes ts g (idle (block n M)) ok = let h = found-below ts n _ ok in let f = g .few in (omega arith, (omega arith, tt))
 component-bytes ts g (idle (output a)) ok = (omega arith, (omega arith, tt))
 component-bytes ts g (transaction n M s t) ok =
-    let h = entry-below ts n _ (ok .0) in
+    let h = found-below ts n _ (ok .0) in
     let f = g .few in
     (omega arith, (omega arith, all-append _ s (treeBytes t) (ok .1 .1) (tree-bytes ts g t (ok .2))))
 
@@ -113,7 +115,7 @@ configuration-forth ts σ cs n l few ok long =
     rw (
       cut-forth 16 σ (joined (map componentBytes cs) ++ replicate n 0) l,
       components-forth ts cs (suc (length (σ ++ (joined (map componentBytes cs) ++ replicate n 0)))) n ok (omega arith),
-      true-leb (length cs) 64 few,
+      le-leb (length cs) 64 few,
     )
 
 -- a configuration's bytes are its counts, its components' bytes and zeros
@@ -268,23 +270,33 @@ well-formed-agrees ts bs g b l = (
 
 -- ---- opening
 
--- a good table's process opens into components in order, at most as many as its width
-opens-ok : (ts : List Term) → GoodTable ts → (P : Program) → ProgramIn ts P → All (ComponentOk ts) (map idle (opens P)) × (length (opens P) ≤ width P)
-unfolding opens width ComponentOk programNumber
-opens-ok ts g (nilT n) e = (tt, omega arith)
-opens-ok ts g (putT n a) e = ((g .channel n _ e, tt), omega arith)
-opens-ok ts g (takeT n a P) e = ((e, tt), omega arith)
-opens-ok ts g (repeatT n a P) e = ((e, tt), omega arith)
-opens-ok ts g (parT n P Q) e =
-    let s = g .subterms n _ e in
-    let p = opens-ok ts g P (s .0) in
-    let q = opens-ok ts g Q (s .1) in
-    (rw map-append (all-append _ (map idle (opens P)) (map idle (opens Q)) (p .0) (q .0)), rw (length-append (opens P) (opens Q)) (omega arith))
-opens-ok ts g (atomT n M) e = ((e, tt), omega arith)
+-- a good table's process opens into components in order
+pub opens-ok : {ts : List Term} → GoodTable ts → (P : Program) → ProgramIn ts P → All (λ c. ComponentOk ts (idle c)) (opens P)
+unfolding opens ComponentOk programNumber
+opens-ok g (nilT n) e = tt
+opens-ok g (putT n a) e = (g .channel n _ e, tt)
+opens-ok g (takeT n a P) e = (e, tt)
+opens-ok g (repeatT n a P) e = (e, tt)
+opens-ok g (parT n P Q) e = let s = g .subterms n _ e in all-append _ (opens P) (opens Q) (opens-ok g P (s .0)) (opens-ok g Q (s .1))
+opens-ok g (atomT n M) e = (e, tt)
+
+-- at most as many as its width
+opens-width : (P : Program) → length (opens P) ≤ width P
+unfolding opens width
+opens-width (nilT n) = omega arith
+opens-width (putT n a) = omega arith
+opens-width (takeT n a P) = omega arith
+opens-width (repeatT n a P) = omega arith
+opens-width (parT n P Q) = let p = opens-width P in let q = opens-width Q in rw (length-append (opens P) (opens Q)) (omega arith)
+opens-width (atomT n M) = omega arith
 
 pub opening-is-well-formed : OpeningIsWellFormed
 unfolding opening
 opening-is-well-formed bs t b e =
     let s = start-is-entry bs t e in
-    let h = opens-ok (t .terms) (accepted-is-good bs t e) (t .start) (s .0) in
-    record { sixteen = tokens-are-counts bs t b e; few = rw (length-map (opens (t .start)) idle) (omega arith); each = h .0 }
+    let few = opens-width (t .start) in
+    record {
+      sixteen = tokens-are-counts bs t b e;
+      few = rw (length-map (opens (t .start)) idle) (omega arith);
+      each = all-map idle (ComponentOk (t .terms)) (opens (t .start)) (opens-ok (accepted-is-good bs t e) (t .start) (s .0));
+    }

@@ -2,11 +2,10 @@
 -- and the note of its snapshot, and each accepted entry, fed to the atomic run, leads to what agrees again.
 -- Assumes nothing.
 use Prim.Native.Nat.{ℕ, zero, suc}
-use native.Mathlib.Omega.{arith}
-use mathlib.Core.Path.{_≡_, refl, sym, ap, ap₂}
+use mathlib.Core.Path.{_≡_, refl, sym, ap₂}
 use mathlib.Core.Bool.{Bool, true, false, cond}
 use mathlib.Core.Option.{some}
-use mathlib.Core.List.{List, [], _∷_, _++_, map}
+use mathlib.Core.List.{List, [], _∷_, _++_, map, map-map}
 use lib.ListN.{getElem?}
 use lib.Dec.{leb, eqb}
 use Rattle.calculus.specs.Syntax.{Name, Log, State}
@@ -24,8 +23,8 @@ use Rattle.semantics.specs.AtomicRun.{Noted, Atomic, unnoted, atomicStar
 use Rattle.semantics.specs.Atomicity.{unbegun}
 use Rattle.semantics.proofs.Outcome.{Faithful, StaysFaithful, faithful-start, faithful-move, faithful-end, faithful-retry}
 use Rattle.semantics.proofs.InnerMoves.{InnerRule, ByInnerRule, inner-rule}
-use Rattle.semantics.proofs.HistoryLists.{replaceAt-same}
 use Rattle.semantics.proofs.Moves.{positionOf, localMove, accepted-inverts}
+use Rattle.semantics.proofs.Lists.{none-found, replaceAt-same}
 
 -- ---- two lists related element by element
 
@@ -57,7 +56,7 @@ module _ {A B : Type 0} (R : A → B → Type 0) where
   -- the element at a place has a partner there
   pub pairwise-at : (xs : List A) (ys : List B) (p : ℕ) (x : A) → getElem? xs p ≡ some x → Pairwise xs ys →
       (y : B) × (getElem? ys p ≡ some y) × R x y
-  pairwise-at [] ys p x e h = let z : _≡_ {A = ℕ} 0 1 = cc in absurd (omega arith)
+  pairwise-at [] ys p x e h = absurd (none-found p x e)
   pairwise-at (x ∷ xs) [] p z e h = absurd h
   pairwise-at (x ∷ xs) (y ∷ ys) zero z e h = let q : x ≡ z = cc in (y, refl, rw (← q) (h .0))
   pairwise-at (x ∷ xs) (y ∷ ys) (suc p) z e h = pairwise-at xs ys p z e (h .1)
@@ -148,11 +147,6 @@ puts-follows a p b = go (leb 255 (count (a .counts) b))
     go true = tt
     go false = idle-follows a p (OUT b) (gained (a .counts) b) [] (a .counters) refl
 
--- outputs laid down are idle components
-map-map : (ws : List Name) → map idle (map output ws) ≡ map (λ b. idle (output b)) ws
-map-map [] = refl
-map-map (w ∷ ws) = ap (_∷_ (idle (output w))) (map-map ws)
-
 -- ATOK and ATFAIL: the log of a single end leaf is the path that the note gives
 commits-follows : (a : Atomic) (p n : ℕ) (M : Expression) (δ : Log) →
     LocalFollows a p (commits (a .counts) n M δ) (settled a p n M δ (readable (a .counts) δ))
@@ -165,7 +159,7 @@ commits-follows a p n M δ = go (readable (a .counts) δ)
     go : (x : Bool) → LocalFollows a p
         (cond x (moves (ATOK δ) (without (a .counts) (RD δ)) (map (λ b. idle (output b)) (WT δ))) (moves ATFAIL (a .counts) (idle (block n M) ∷ [])))
         (settled a p n M δ x)
-    go true = rw map-map at done
+    go true = rw (map-map idle output (WT δ)) at done
     go false = idle-follows a p ATFAIL (a .counts) (block n M ∷ []) _ refl
 
 -- a commit, a failure or a retry at an attempt's nodes, against the first path readable at the note
@@ -220,7 +214,7 @@ unfolding actsInside
 inside-follows a p k (idle c) x e s = tt
 inside-follows a p k (transaction n M σ t) x e s = go (inner σ t k) (inner-rule σ t k) (faithful-move σ M t k (s .1))
   where
-    go : (i : Inner) → ByInnerRule i → StaysFaithful σ M i → LocalFollows a p (innerLocal (a .counts) n M σ i) a
+    go : (i : Inner) → ByInnerRule t i → StaysFaithful σ M i → LocalFollows a p (innerLocal (a .counts) n M σ i) a
     go (evolves r u) i f =
         record {
           counts = refl;

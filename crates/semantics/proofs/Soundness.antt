@@ -6,10 +6,11 @@ use native.Mathlib.Decide.{decLt}
 use mathlib.Core.Path.{_≡_, refl, sym, ap, _∙_}
 use mathlib.Core.Logic.{_≢_}
 use mathlib.Core.Option.{some}
-use mathlib.Core.List.{List, [], _∷_, _++_, map, append-nil}
+use mathlib.Core.List.{List, [], _∷_, _++_, map, append-nil, map-append}
 use lib.ListN.{length, set, getElem?, length-set, List·getD-eq-default}
 use lib.Seq.{getD-set-same, set-set, set-getD}
 use lib.Dec.{leb, eqb}
+use borrow.Author.Tests.{eqb-false}
 use Rattle.calculus.specs.Syntax.{Name, rd, Log, State, Process, nil, rep, par, atom, ongoing}
 use Rattle.calculus.specs.State.{count, Plus}
 use Rattle.calculus.specs.Log.{WT}
@@ -23,12 +24,13 @@ use Rattle.semantics.specs.Standing.{expr, proc, ongoingOf, componentPro
 use Rattle.semantics.specs.Moves.{Entry, act, inside, Local, moves, stays, ends, acts, Inner, evolves, resting, past, atLeaf, atFork, inRight, inLeft, inner, innerLocal, actsInside, moved, choose}
 use Rattle.semantics.specs.GoodTable.{GoodTable}
 use Rattle.semantics.specs.Run.{Item, Counters, counted, runFrom, steps, schedule, entries}
-use Rattle.semantics.specs.StoredClaims.{AcceptedIsGood}
 use Rattle.semantics.specs.Correspondence.{Reduction, Soundness, Chain, RunSoundness}
-use Rattle.semantics.proofs.Lists.{none-found, found-left, found-right, replaceAt-left, replaceAt-right, map-append, all-at}
-use Rattle.semantics.proofs.Readable.{by-cases, eqb-fails, readable-included, unreadable-not-included}
+use Rattle.semantics.proofs.Lists.{none-found, found-left, found-right, replaceAt-left, replaceAt-right, all-at}
+use Rattle.semantics.proofs.Readable.{readable-included, unreadable-not-included}
 use Rattle.semantics.proofs.Moves.{positionOf, localMove, accepted-inverts, run-induction}
+use Rattle.semantics.proofs.GoodTable.{accepted-is-good}
 use Rattle.semantics.proofs.WellFormedKept.{well-formed-step}
+use Rattle.semantics.proofs.Reading.{by-cases}
 
 -- ---- states
 
@@ -152,12 +154,12 @@ acts-sound : (ts : List Term) (σ : State) (c : Component) → length σ ≡ 16 
 unfolding acts componentProcess ComponentOk
 acts-sound ts σ (idle (taking n a P)) h k =
     by-cases (LocalSound σ (idle (taking n a P))) (eqb (count σ a) 0) _ _ (λ q. tt)
-    (λ q. (proc P, INr (spent-plus σ a (eqb-fails (count σ a) 0 q)), opens-stand P))
+    (λ q. (proc P, INr (spent-plus σ a (eqb-false (count σ a) 0 q)), opens-stand P))
 acts-sound ts σ (idle (repeating n a P)) h k =
     by-cases (LocalSound σ (idle (repeating n a P))) (eqb (count σ a) 0) _ _ (λ q. tt)
     (λ q. (
       par (proc P) (rep a (proc P)),
-      REPr (spent-plus σ a (eqb-fails (count σ a) 0 q)),
+      REPr (spent-plus σ a (eqb-false (count σ a) 0 q)),
       rw (map-append idle (opens P) (repeating n a P ∷ [])) (beside (opens-stand P) (alone (idle (repeating n a P)) refl)),
     ))
 acts-sound ts σ (idle (block n M)) h k = (_, ATSTr, alone (transaction n M σ (leaf M emptyLog)) refl)
@@ -245,9 +247,9 @@ run-chain {ts} good = run-induction
     (omega arith, (refl, q, reduction-step e ok q, i .1)))
 
 -- the claim, for a run on a call's bytes
-pub run-soundness : AcceptedIsGood → RunSoundness
+pub run-soundness : RunSoundness
 unfolding RunSoundness
-run-soundness accepted bs t a h ok c choices =
-    let i = run-chain (accepted bs t (a .1)) (schedule choices) h c 0 0 ok in
+run-soundness bs t a h ok c choices =
+    let i = run-chain (accepted-is-good bs t (a .1)) (schedule choices) h c 0 0 ok in
     let n = i .0 in
     (omega arith, i .1)

@@ -14,14 +14,13 @@ use mathlib.Core.List.{List, [], _∷_, _++_}
 use lib.ListN.{length, getD, drop, set, getElem?, length-drop, drop-of-length-le}
 use lib.Seq.{drop-drop}
 use lib.Dec.{leb, ltb, eqb}
+use borrow.Author.Tests.{leb-true, leb-false, eqb-true, eqb-false}
 use Rattle.calculus.specs.State.{count}
 use Rattle.semantics.specs.Basics.{firstOf}
 use Rattle.semantics.specs.Terms.{Program, Term, process, expression, width, branches, pathLength}
 use Rattle.semantics.specs.Table.{Kind, nilK, putK, takeK, repeatK, parK, atomK, endK, retryK, rdK, wtK, orElseK, tokensK, startK, kinds, kindOf, Field, channelF, programF, expressionF, amountF, fields, Reading, Table, TableAnswer, accepted, refusedAt, isProgram, isExpression, Content, aTerm, someTokens, theStart, said, anyField, tooMany, strayChannel, notEarlier, wrongClass, overLimit, badTokens, Test, tests, Turn, stop, more, closed, passed, tested, kindRead, turn, after, readFrom, nothingRead, readTable}
 use Rattle.semantics.specs.Conditions.{TableCondition, kind-unknown, body-short, terms-many, channel-over, reference-later, class-expression, class-process, width-over, paths-over, tokens-none, tokens-again, byte-follows, start-missing, Passes, Reached, at-first, past-term, past-tokens, TableRefused, TableAccepted, TableNumbers}
-use Rattle.semantics.proofs.Readable.{leb-holds, leb-fails, eqb-holds, eqb-fails}
-use Rattle.semantics.proofs.Lists.{none-found, found-below}
-use Rattle.semantics.proofs.ChoiceConditions.{none-past}
+use Rattle.semantics.proofs.Lists.{none-found, found-below, none-past}
 
 -- ---- kinds and their numbers
 
@@ -233,8 +232,8 @@ module _ (r : Reading) (k : ℕ) (bs : List ℕ) (K : Kind) (named : kindOf k �
 
   test-two : Decides 2 (ltb (length bs) (length (fields K)))
   test-two =
-      by-test 2 (ltb (length bs) (length (fields K))) (λ e. body-short K named (leb-holds (suc (length bs)) (length (fields K)) e))
-      (λ e o c. let z = short-means o c in let y = leb-fails (suc (length bs)) (length (fields K)) e in omega arith)
+      by-test 2 (ltb (length bs) (length (fields K))) (λ e. body-short K named (leb-true (suc (length bs)) (length (fields K)) e))
+      (λ e o c. let z = short-means o c in let y = leb-false (suc (length bs)) (length (fields K)) e in omega arith)
 
   -- 3: a term's record after 200 terms
   many-means : (o : ℕ) → TableCondition r 3 o (k ∷ bs) → (k ≤ 11) × (200 ≤ length (r .terms))
@@ -243,8 +242,8 @@ module _ (r : Reading) (k : ℕ) (bs : List ℕ) (K : Kind) (named : kindOf k �
   test-three : (c : Content) → ContentReason K bs c → Decides 3 (tooMany (r .terms) c)
   unfolding tooMany
   test-three (aTerm t) h =
-      by-test 3 (leb 200 (length (r .terms))) (λ e. many (leb-holds 200 (length (r .terms)) e))
-      (λ e o c. let z = many-means o c in let y = leb-fails 200 (length (r .terms)) e in omega arith)
+      by-test 3 (leb 200 (length (r .terms))) (λ e. many (leb-true 200 (length (r .terms)) e))
+      (λ e o c. let z = many-means o c in let y = leb-false 200 (length (r .terms)) e in omega arith)
     where
       many : 200 ≤ length (r .terms) → TableCondition r 3 0 (k ∷ bs)
       many l = let z = kind-number k K named in let y = kind-positive k K named in let x : k ≤ 11 = omega arith in terms-many y x l
@@ -255,7 +254,7 @@ module _ (r : Reading) (k : ℕ) (bs : List ℕ) (K : Kind) (named : kindOf k �
   channel-fails : (i : ℕ) (F : Field) (b : ℕ) → getElem? (fields K) i ≡ some F → getElem? bs i ≡ some b → strayChannel F b ≡ true →
       TableCondition r 4 0 (k ∷ bs)
   unfolding strayChannel
-  channel-fails i channelF b e f g = channel-over K i b named e f (leb-holds 16 b g)
+  channel-fails i channelF b e f g = channel-over K i b named e f (leb-true 16 b g)
   channel-fails i programF b e f g = absurd (false-true g)
   channel-fails i expressionF b e f g = absurd (false-true g)
   channel-fails i amountF b e f g = absurd (false-true g)
@@ -263,7 +262,7 @@ module _ (r : Reading) (k : ℕ) (bs : List ℕ) (K : Kind) (named : kindOf k �
   channel-fine : FieldFails strayChannel (fields K) bs false → (o : ℕ) → TableCondition r 4 o (k ∷ bs) → ⊥
   unfolding strayChannel
   channel-fine h o (channel-over L i b e f g l) =
-      let z = leb-fails 16 b (h i channelF b (subst (λ J. getElem? (fields J) i ≡ some channelF) (same-kind L e) f) g) in omega arith
+      let z = leb-false 16 b (h i channelF b (subst (λ J. getElem? (fields J) i ≡ some channelF) (same-kind L e) f) g) in omega arith
 
   test-four : Decides 4 (anyField strayChannel (fields K) bs)
   test-four = by-fields 4 strayChannel (λ h. channel-fails (h .0) (h .1) (h .2) (h .3) (h .4) (h .5)) channel-fine
@@ -273,16 +272,16 @@ module _ (r : Reading) (k : ℕ) (bs : List ℕ) (K : Kind) (named : kindOf k �
       TableCondition r 5 0 (k ∷ bs)
   unfolding notEarlier
   reference-fails i channelF b e f g = absurd (false-true g)
-  reference-fails i programF b e f g = reference-later K i b named (inl e) f (leb-holds (length (r .terms)) b g)
-  reference-fails i expressionF b e f g = reference-later K i b named (inr e) f (leb-holds (length (r .terms)) b g)
+  reference-fails i programF b e f g = reference-later K i b named (inl e) f (leb-true (length (r .terms)) b g)
+  reference-fails i expressionF b e f g = reference-later K i b named (inr e) f (leb-true (length (r .terms)) b g)
   reference-fails i amountF b e f g = absurd (false-true g)
 
   reference-fine : FieldFails (notEarlier (r .terms)) (fields K) bs false → (o : ℕ) → TableCondition r 5 o (k ∷ bs) → ⊥
   unfolding notEarlier
   reference-fine h o (reference-later L i b e (inl f) g l) =
-      let z = leb-fails (length (r .terms)) b (h i programF b (subst (λ J. getElem? (fields J) i ≡ some programF) (same-kind L e) f) g) in omega arith
+      let z = leb-false (length (r .terms)) b (h i programF b (subst (λ J. getElem? (fields J) i ≡ some programF) (same-kind L e) f) g) in omega arith
   reference-fine h o (reference-later L i b e (inr f) g l) =
-      let z = leb-fails (length (r .terms)) b (h i expressionF b (subst (λ J. getElem? (fields J) i ≡ some expressionF) (same-kind L e) f) g) in omega arith
+      let z = leb-false (length (r .terms)) b (h i expressionF b (subst (λ J. getElem? (fields J) i ≡ some expressionF) (same-kind L e) f) g) in omega arith
 
   test-five : Decides 5 (anyField (notEarlier (r .terms)) (fields K) bs)
   test-five = by-fields 5 (notEarlier (r .terms)) (λ h. reference-fails (h .0) (h .1) (h .2) (h .3) (h .4) (h .5)) reference-fine
@@ -324,18 +323,18 @@ module _ (r : Reading) (k : ℕ) (bs : List ℕ) (K : Kind) (named : kindOf k �
   test-seven : (c : Content) → said (r .terms) bs K ≡ c → Decides 7 (overLimit c)
   unfolding overLimit
   test-seven (aTerm (process P)) f =
-      by-test 7 (ltb 64 (width P)) (λ e. width-over K P named f (leb-holds 65 (width P) e))
-      (λ e o c. let z : 64 < width P = subst OverLimit f (over-means o c) in let y = leb-fails 65 (width P) e in omega arith)
+      by-test 7 (ltb 64 (width P)) (λ e. width-over K P named f (leb-true 65 (width P) e))
+      (λ e o c. let z : 64 < width P = subst OverLimit f (over-means o c) in let y = leb-false 65 (width P) e in omega arith)
   test-seven (aTerm (expression M)) f = go (ltb 8 (branches M)) refl (ltb 16 (pathLength M)) refl
     where
       go : (a : Bool) → ltb 8 (branches M) ≡ a → (b : Bool) → ltb 16 (pathLength M) ≡ b → Decides 7 (a || b)
-      go true e b g = paths-over K M named f (inl (leb-holds 9 (branches M) e))
-      go false e true g = paths-over K M named f (inr (leb-holds 17 (pathLength M) g))
+      go true e b g = paths-over K M named f (inl (leb-true 9 (branches M) e))
+      go false e true g = paths-over K M named f (inr (leb-true 17 (pathLength M) g))
       go false e false g = λ o c. within (subst OverLimit f (over-means o c))
         where
           within : (8 < branches M) ⊎ (16 < pathLength M) → ⊥
-          within (inl z) = let y = leb-fails 9 (branches M) e in omega arith
-          within (inr z) = let y = leb-fails 17 (pathLength M) g in omega arith
+          within (inl z) = let y = leb-false 9 (branches M) e in omega arith
+          within (inr z) = let y = leb-false 17 (pathLength M) g in omega arith
   test-seven (someTokens a n) f = λ o c. subst OverLimit f (over-means o c)
   test-seven (theStart P) f = λ o c. subst OverLimit f (over-means o c)
 
@@ -355,12 +354,12 @@ module _ (r : Reading) (k : ℕ) (bs : List ℕ) (K : Kind) (named : kindOf k �
           elim (decLt (length bs) (length (fields K))) [ yes q ↦ absurd (clear 2 0 (omega arith) (body-short K named q)) | no q ↦ omega arith ]
 
       fresh : eqb n 0 ≡ false → eqb (count (r .tokens) a) 0 ≡ true → (getD bs 1 0 ≡ 0) ⊎ (count (r .tokens) (getD bs 0 0) ≢ 0) → ⊥
-      fresh e f (inl z) = eqb-fails n 0 e (h .3 ∙ z)
-      fresh e f (inr z) = z (rw (h .2) at (eqb-holds (count (r .tokens) a) 0 f))
+      fresh e f (inl z) = eqb-false n 0 e (h .3 ∙ z)
+      fresh e f (inr z) = z (rw (h .2) at (eqb-true (count (r .tokens) a) 0 f))
 
       go : (x : Bool) → eqb n 0 ≡ x → (y : Bool) → eqb (count (r .tokens) a) 0 ≡ y → Decides 8 (x || not y)
-      go true e y f = tokens-hold r k bs twelve long (inl (sym (h .3) ∙ eqb-holds n 0 e))
-      go false e false f = tokens-hold r k bs twelve long (inr (λ z. eqb-fails (count (r .tokens) a) 0 f (ap (count (r .tokens)) (h .2) ∙ z)))
+      go true e y f = tokens-hold r k bs twelve long (inl (sym (h .3) ∙ eqb-true n 0 e))
+      go false e false f = tokens-hold r k bs twelve long (inr (λ z. eqb-false (count (r .tokens) a) 0 f (ap (count (r .tokens)) (h .2) ∙ z)))
       go false e true f = λ o c. fresh e f (tokens-mean r o k bs c .1)
 
   -- ---- the first test that passes

@@ -5,17 +5,14 @@ use Rattle.semantics.specs.Accounts.{RunAccounts}
 use Rattle.semantics.specs.InnerMoves.{MovesEnd, MovesGoOn, SettledRests, MovesSettleFirstPath}
 use Rattle.semantics.specs.Atomicity.{AtomicityOfCalls}
 use Rattle.semantics.specs.Conditions.{ReadAsPrinted, TableNumbers, MissingAtLength, HallNumbers, OpenNumbers, ChoiceNumbers, RunNumbers, OneReason, RunCallNumbers}
-use Rattle.semantics.proofs.GoodTable.{accepted-is-good}
-use Rattle.semantics.proofs.RoundTrip.{stored-fits, read-back, read-is-well-formed, opening-is-well-formed}
 use Rattle.semantics.proofs.WellFormedKept as Kept
 use Rattle.semantics.proofs.Soundness as Sound
 use Rattle.semantics.proofs.Accounts as Counting
 use Rattle.semantics.proofs.Completeness as Complete
 use Rattle.semantics.proofs.AnyOrder as Any
 use Rattle.semantics.proofs.InnerMoves as Inside
-use Rattle.semantics.proofs.Simulation.{Related, step-related, opening-related, related-stations}
-use Rattle.semantics.proofs.CallsAsOne.{StepKept, forward}
-use Rattle.semantics.proofs.Abandoned.{atomic-follows, kept-claims}
+use Rattle.semantics.proofs.CallsAsOne.{forward}
+use Rattle.semantics.proofs.Abandoned.{kept-claims}
 use Rattle.semantics.proofs.Converse.{converse-holds}
 use Rattle.semantics.proofs.TableConditions as OnTables
 use Rattle.semantics.proofs.HallConditions as OnHalls
@@ -31,7 +28,7 @@ pub soundness : Soundness
 soundness = Sound.soundness
 
 pub run-soundness : RunSoundness
-run-soundness = Sound.run-soundness accepted-is-good
+run-soundness = Sound.run-soundness
 
 pub every-hall-stands : EveryHallStands
 every-hall-stands = Bounds.every-hall-stands
@@ -40,21 +37,21 @@ pub accepted-is-within-limits : AcceptedIsWithinLimits
 accepted-is-within-limits = Bounds.accepted-is-within-limits
 
 pub keeps-well-formed : KeepsWellFormed
-keeps-well-formed = Kept.keeps-well-formed accepted-is-good stored-fits
+keeps-well-formed = Kept.keeps-well-formed
 
 pub completeness : Completeness
-completeness = Complete.completeness keeps-well-formed
+completeness = Complete.completeness
 
 pub completeness-any-order : CompletenessAnyOrder
-completeness-any-order = Any.completeness-any-order keeps-well-formed
+completeness-any-order = Any.completeness-any-order
 
 pub still-is-still : StillIsStill
-still-is-still = Any.still-is-still keeps-well-formed
+still-is-still = Any.still-is-still
 
 -- ---- the counts after a run
 
 pub run-accounts : RunAccounts
-run-accounts = Counting.run-accounts accepted-is-good
+run-accounts = Counting.run-accounts
 
 -- ---- the moves inside an attempt
 
@@ -72,15 +69,11 @@ moves-settle-first-path = Inside.moves-settle-first-path
 
 -- ---- demand 3
 
-step-kept : StepKept
-step-kept ts h e r g = Kept.well-formed-step e
-
 pub atomicity-of-calls : AtomicityOfCalls
 unfolding AtomicityOfCalls
 atomicity-of-calls table t accepts buffer size first cs =
-    let f = forward accepted-is-good read-back stored-fits opening-is-well-formed step-kept table t accepts buffer size first cs in
-    let follows = atomic-follows Related step-related t first (opening-related t first) (λ h a r. r .counts) related-stations in
-    let k = kept-claims table t buffer first cs follows (f .whole) (f .hall) in
+    let f = forward table t accepts buffer size first cs in
+    let k = kept-claims table t buffer first cs f in
     record {
       never-turned-down = f .never-turned-down;
       whole = f .whole;
@@ -100,7 +93,7 @@ atomicity-of-calls table t accepts buffer size first cs =
       kept-failed = k .kept-failed;
       kept-retries = k .kept-retries;
       kept-effects = k .kept-effects;
-      converse = converse-holds accepted-is-good read-back stored-fits opening-is-well-formed step-kept table t accepts buffer size first cs;
+      converse = converse-holds table t accepts buffer size first cs;
     }
 
 -- ---- the numbered conditions
@@ -116,7 +109,7 @@ unfolding MissingAtLength
 missing-at-length = OnTables.missing-at-length
 
 pub hall-numbers : HallNumbers
-hall-numbers = OnHalls.hall-numbers accepted-is-good read-back read-is-well-formed
+hall-numbers = OnHalls.hall-numbers
 
 pub open-numbers : OpenNumbers
 open-numbers = OnHalls.open-numbers
@@ -131,4 +124,4 @@ pub one-reason : OneReason
 one-reason = OnRuns.one-reason
 
 pub run-call-numbers : RunCallNumbers
-run-call-numbers = OnCalls.run-call-numbers hall-numbers
+run-call-numbers = OnCalls.run-call-numbers

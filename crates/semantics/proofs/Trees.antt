@@ -10,14 +10,17 @@ use mathlib.Core.List.{List, [], _∷_, _++_, map, append-assoc}
 use lib.ListN.{length, take, drop, replicate, getElem?, length-append, length-map, length-replicate, take-append-drop}
 use lib.Seq.{take-at, drop-at, length-take-le}
 use lib.Dec.{leb, ltb, eqb}
+use borrow.Author.Tests.{leb-true, le-leb, leb-false, lt-leb, eqb-true}
 use Rattle.calculus.specs.Syntax.{Action, rd, wt, Log}
 use Rattle.semantics.specs.Basics.{given, provided, padded, zeros, All}
-use Rattle.semantics.specs.Terms.{Expression, endT, retryT, rdT, wtT, orElseT, Term, process, expression, number, branches, pathLength}
+use Rattle.semantics.specs.Terms.{Expression, retryT, Term, process, expression, number, pathLength}
 use Rattle.semantics.specs.Configuration.{Tree, leaf, fork, branchesOf}
 use Rattle.semantics.specs.Stored.{actionByte, treeBytes, leafExpression, channelOf, TreeOk, cut, actionOf, logOf, leafFrom, NodeKind, forkN, leafN, otherN, nodeKind, nodeFrom, treeFrom}
 use Rattle.semantics.specs.GoodTable.{termNumber, GoodTable}
 use Rattle.semantics.specs.StoredClaims.{Bytes}
-use Rattle.semantics.proofs.Reading.{leb-true, true-leb, leb-false, false-leb, eqb-true, and-true, given-some, provided-some, all-append, all-replicate, entry-below, zeros-replicate, replicate-zeros}
+use Rattle.semantics.proofs.Measures.{branches-positive}
+use Rattle.semantics.proofs.Reading.{and-true, given-some, provided-some, zeros-replicate, replicate-zeros}
+use Rattle.semantics.proofs.Lists.{all-append, all-replicate, found-below}
 
 -- ---- lists of bytes
 
@@ -33,7 +36,7 @@ cut-back n bs c e =
 
 pub cut-forth : (n : ℕ) (xs rest : List ℕ) → length xs ≡ n → cut n (xs ++ rest) ≡ some (xs, rest)
 unfolding cut provided
-cut-forth n xs rest e = rw (true-leb n (length (xs ++ rest)) (rw length-append (omega arith)), take-at xs rest n e, drop-at xs rest n e)
+cut-forth n xs rest e = rw (le-leb n (length (xs ++ rest)) (rw length-append (omega arith)), take-at xs rest n e, drop-at xs rest n e)
 
 pub length-padded : (n : ℕ) (xs : List ℕ) → length xs ≤ n → length (padded n xs) ≡ n
 unfolding padded
@@ -56,10 +59,10 @@ padded-back n size bs l z =
 
 action-forth : (α : Action) → channelOf α < 16 → actionOf (actionByte α) ≡ some α
 unfolding actionOf actionByte channelOf provided
-action-forth (rd a) h = rw (true-leb (suc a) 16 h)
+action-forth (rd a) h = rw (le-leb (suc a) 16 h)
 action-forth (wt a) h =
     let p : 16 + a - 16 ≡ a = omega arith in
-    rw (false-leb (suc (16 + a)) 16 (omega arith), true-leb (suc (16 + a)) 32 (omega arith), p)
+    rw (lt-leb (suc (16 + a)) 16 (omega arith), le-leb (suc (16 + a)) 32 (omega arith), p)
 
 action-back : (b : ℕ) (α : Action) → actionOf b ≡ some α → (actionByte α ≡ b) × (channelOf α < 16)
 unfolding actionOf actionByte channelOf provided
@@ -107,7 +110,7 @@ leaf-number ts g n M e = go (eqb n 255) refl (getElem? ts n) refl
     go false p (some (expression N)) q =
         let h : some N ≡ some M = rw (p, q) at e in
         let z : N ≡ M = cc in
-        let l = entry-below ts n (expression N) q in
+        let l = found-below ts n (expression N) q in
         let f = g .few in rw (← z) (g .numbered n (expression N) q, omega arith)
 
 leaf-forth : (ts : List Term) (M : Expression) (δ : Log) → TreeOk ts (leaf M δ) →
@@ -120,7 +123,7 @@ leaf-forth ts M δ h =
       take-at (map actionByte δ) _ (length δ) l,
       log-forth δ (h .2),
       drop-at (map actionByte δ) _ (length δ) l,
-      true-leb (length δ + pathLength M) 16 (h .1),
+      le-leb (length δ + pathLength M) 16 (h .1),
       replicate-zeros (16 - length (map actionByte δ)),
     )
 
@@ -210,19 +213,11 @@ tree-forth ts (fork l r) (suc f) rest ok h =
 
 -- ---- how many bytes
 
-some-branches : (M : Expression) → 1 ≤ branches M
-unfolding branches
-some-branches (endT n) = omega arith
-some-branches (retryT n) = omega arith
-some-branches (rdT n a M) = some-branches M
-some-branches (wtT n a M) = some-branches M
-some-branches (orElseT n M N) = let h = some-branches M in omega arith
-
 -- 19 bytes a leaf and 1 a fork: fewer than 20 for each branch
 pub tree-size : (ts : List Term) (t : Tree) → TreeOk ts t → length (treeBytes t) + 1 ≤ 20 * branchesOf t
 unfolding treeBytes TreeOk branchesOf
 tree-size ts (leaf M δ) ok =
-    let b = some-branches M in
+    let b = branches-positive M in
     let n : length (map actionByte δ) ≤ 16 = rw (length-map δ actionByte) (let h = ok .1 in omega arith) in
     let p = length-padded 16 (map actionByte δ) n in omega arith
 tree-size ts (fork l r) ok =
