@@ -1,0 +1,3 @@
+pub mod Taken
+pub mod Steps
+pub mod Loop
