@@ -11,25 +11,18 @@ const FIRST_FIELDS: [u8; 14] = [0, 0, 1, 1, 1, 2, 3, 0, 0, 1, 1, 3, 1, 2];
 
 const SECOND_FIELDS: [u8; 14] = [0, 0, 0, 2, 2, 2, 0, 0, 0, 3, 3, 3, 4, 0];
 
-// A byte as an index.
-fn wide(b: u8) -> usize
-    ensures { λ r. ⌜ r ≡ b ⌝ }
-{
-    b as usize
-}
-
 fn first_field(kind: u8) -> u8
     requires { ⌜ kind ≤ 13 ⌝ }
     ensures { λ r. ⌜ r ≡ firstField kind ⌝ }
 {
-    FIRST_FIELDS[wide(kind)]
+    FIRST_FIELDS[splice::wide(kind)]
 }
 
 fn second_field(kind: u8) -> u8
     requires { ⌜ kind ≤ 13 ⌝ }
     ensures { λ r. ⌜ r ≡ secondField kind ⌝ }
 {
-    SECOND_FIELDS[wide(kind)]
+    SECOND_FIELDS[splice::wide(kind)]
 }
 
 // 3: a term record comes after 200 terms.
@@ -61,9 +54,13 @@ fn later(terms: usize, field: u8, b: u8) -> bool
     ensures { λ r. ⌜ r ≡ laterB terms field b ⌝ }
 {
     if field == 2 {
-        return terms <= wide(b);
+        return terms <= splice::wide(b);
     }
-    if field == 3 { terms <= wide(b) } else { false }
+    if field == 3 {
+        terms <= splice::wide(b)
+    } else {
+        false
+    }
 }
 
 pub fn later_reference(terms: usize, kind: u8, first: u8, second: u8) -> bool
@@ -82,10 +79,10 @@ fn wrong(kinds: &[u8; 200], terms: usize, field: u8, b: u8) -> bool
     ensures { λ r. ⌜ r ≡ wrongB (now (kinds .entry)) field b ⌝ }
 {
     if field == 2 {
-        return 6 < kinds[wide(b)];
+        return 6 < kinds[splice::wide(b)];
     }
     if field == 3 {
-        kinds[wide(b)] <= 6
+        kinds[splice::wide(b)] <= 6
     } else {
         false
     }
@@ -122,6 +119,6 @@ pub fn bad_tokens(tokens: &[u8; 16], kind: u8, first: u8, second: u8) -> bool
     if second == 0 {
         true
     } else {
-        tokens[wide(first)] != 0
+        tokens[splice::wide(first)] != 0
     }
 }

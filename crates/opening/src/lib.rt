@@ -50,8 +50,8 @@ pub fn lay(
 {
     let kind = kinds[term];
     if kind == PAR {
-        let left = terms::wide(firsts[term]);
-        let right = terms::wide(seconds[term]);
+        let left = splice::wide(firsts[term]);
+        let right = splice::wide(seconds[term]);
         let middle = lay(kinds, firsts, seconds, left, hall, at);
         return lay(kinds, firsts, seconds, right, hall, middle);
     }

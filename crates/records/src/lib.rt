@@ -25,25 +25,11 @@ pub enum Drawn {
     },
 }
 
-// A byte as a length.
-fn wide(b: u8) -> usize
-    ensures { λ r. ⌜ r ≡ b ⌝ }
-{
-    b as usize
-}
-
 fn body_length(kind: u8) -> usize
     requires { ⌜ kind < 14 ⌝ }
     ensures { λ r. ⌜ r ≡ bodyLength kind ⌝ }
 {
-    wide(BODY_LENGTHS[wide(kind)])
-}
-
-// The byte at an offset, 0 past the end: callers have no bound to show.
-pub fn byte_at(table: &[u8], at: usize) -> u8
-    ensures { λ r. ⌜ r ≡ getD (now (table .entry)) at 0 ⌝ }
-{
-    if at < table.len() { table[at] } else { 0 }
+    splice::wide(BODY_LENGTHS[splice::wide(kind)])
 }
 
 pub fn draw(table: &[u8], at: usize) -> Drawn
@@ -63,8 +49,8 @@ pub fn draw(table: &[u8], at: usize) -> Drawn
     if table.len() < next {
         return Drawn::Short;
     }
-    let first = byte_at(table, at + 1);
-    let second = byte_at(table, at + 2);
+    let first = splice::byte_at(table, at + 1);
+    let second = splice::byte_at(table, at + 2);
     Drawn::Record {
         kind,
         first,

@@ -30,8 +30,8 @@ fn measured(
     ensures { λ m. ⌜ Weighed (now (kinds .entry)) (now (firsts .entry)) (now (seconds .entry)) kind first second (m .size) (m .long) ⌝ }
 {
     if kind == 5 {
-        let left = terms::width_of(kinds, firsts, seconds, terms::wide(first));
-        let right = terms::width_of(kinds, firsts, seconds, terms::wide(second));
+        let left = terms::width_of(kinds, firsts, seconds, splice::wide(first));
+        let right = terms::width_of(kinds, firsts, seconds, splice::wide(second));
         return Sizes {
             size: left + right,
             long: 0,
@@ -43,14 +43,14 @@ fn measured(
     if 11 < kind {
         return Sizes { size: 1, long: 0 };
     }
-    let right = terms::measures_of(kinds, firsts, seconds, terms::wide(second));
+    let right = terms::measures_of(kinds, firsts, seconds, splice::wide(second));
     if kind <= 10 {
         return Sizes {
             size: right.branches,
             long: 1 + right.length,
         };
     }
-    let left = terms::measures_of(kinds, firsts, seconds, terms::wide(first));
+    let left = terms::measures_of(kinds, firsts, seconds, splice::wide(first));
     Sizes {
         size: left.branches + right.branches,
         long: terms::larger(left.length, right.length),

@@ -17,6 +17,13 @@ pub fn byte_at(s: &[u8], i: usize) -> u8
     0
 }
 
+// A byte as an index or a length.
+pub fn wide(b: u8) -> usize
+    ensures { λ r. ⌜ r ≡ b ⌝ }
+{
+    b as usize
+}
+
 // n zeros from `at` on.
 pub fn clear(s: &mut [u8], at: usize, n: usize)
     requires { ⌜ at + n ≤ length (now s) ⌝ }

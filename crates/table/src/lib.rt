@@ -67,7 +67,7 @@ fn take_record(
                 });
             }
             if kind == 12 {
-                tokens[terms::wide(first)] = second;
+                tokens[splice::wide(first)] = second;
                 return Step::Go { at: next, terms };
             }
             kinds[terms] = kind;

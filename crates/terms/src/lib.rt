@@ -12,13 +12,6 @@ pub struct Measures {
     pub length: u8,
 }
 
-// A byte as an index.
-pub fn wide(b: u8) -> usize
-    ensures { λ r. ⌜ r ≡ b ⌝ }
-{
-    b as usize
-}
-
 pub fn larger(a: u8, b: u8) -> u8
     ensures { λ r. ⌜ r ≡ max a b ⌝ }
 {
@@ -43,14 +36,14 @@ pub fn measures_of(
             length: 0,
         };
     }
-    let right = measures_of(kinds, firsts, seconds, wide(seconds[at]));
+    let right = measures_of(kinds, firsts, seconds, splice::wide(seconds[at]));
     if kind <= 10 {
         return Measures {
             branches: right.branches,
             length: 1 + right.length,
         };
     }
-    let left = measures_of(kinds, firsts, seconds, wide(firsts[at]));
+    let left = measures_of(kinds, firsts, seconds, splice::wide(firsts[at]));
     Measures {
         branches: left.branches + right.branches,
         length: larger(left.length, right.length),
@@ -65,7 +58,7 @@ pub fn width_of(kinds: &[u8; 200], firsts: &[u8; 200], seconds: &[u8; 200], at: 
     if kinds[at] != 5 {
         return 1;
     }
-    let left = width_of(kinds, firsts, seconds, wide(firsts[at]));
-    let right = width_of(kinds, firsts, seconds, wide(seconds[at]));
+    let left = width_of(kinds, firsts, seconds, splice::wide(firsts[at]));
+    let right = width_of(kinds, firsts, seconds, splice::wide(seconds[at]));
     left + right
 }

@@ -9,7 +9,7 @@ use Rattle.opening.proofs.lay.Reads as lay
 use Rattle.opening.proofs.lay.Kinds as lay-kinds
 use Rattle.opening.proofs.+lay.Lts-lay as lay-lts
 use Rattle.opening.proofs.lay_one.Reads as lay-one-reads
-use Rattle.terms.proofs.wide.Reads as wide-reads
+use Rattle.splice.proofs.wide.Reads as wide-reads
 use Rattle.opening.proofs.+lay.{statement}
 use Rattle.opening.proofs.+lay.Tie.{close}
 

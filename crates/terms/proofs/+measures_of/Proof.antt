@@ -9,7 +9,7 @@ use Rattle.terms.proofs.measures_of.Reads as measures-of
 use Rattle.terms.proofs.measures_of.Kinds as measures-of-kinds
 use Rattle.terms.proofs.+measures_of.Lts-measures_of as measures-of-lts
 use Rattle.terms.proofs.larger.Reads as larger-reads
-use Rattle.terms.proofs.wide.Reads as wide-reads
+use Rattle.splice.proofs.wide.Reads as wide-reads
 use Rattle.terms.proofs.+measures_of.{statement}
 use Rattle.terms.proofs.+measures_of.Tie.{close}
 

@@ -8,7 +8,7 @@ use borrow.Fn.PlainCycle.{Measures, is, falls, and}
 use Rattle.terms.proofs.width_of.Reads as width-of
 use Rattle.terms.proofs.width_of.Kinds as width-of-kinds
 use Rattle.terms.proofs.+width_of.Lts-width_of as width-of-lts
-use Rattle.terms.proofs.wide.Reads as wide-reads
+use Rattle.splice.proofs.wide.Reads as wide-reads
 use Rattle.terms.proofs.+width_of.{statement}
 use Rattle.terms.proofs.+width_of.Tie.{close}
 
