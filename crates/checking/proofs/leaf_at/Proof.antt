@@ -1,0 +1,70 @@
+-- `leaf_at` meets its contract. Assumes nothing.
+use Rattle.checking.proofs.Laws.{leaf-unknown, leaf-long, leaf-too-long, leaf-log, leaf-good}
+use borrow.Author.Needs.{needs}
+use Rattle.checking.proofs.leaf_at.Statement.{statement}
+use Rattle.checking.proofs.leaf_at.Tie as tie
+
+shared-slice-read-remaining-at : tie.Need-shared-slice-read-remaining-at
+shared-slice-read-remaining-at c = search needs
+
+remaining-at-requires : tie.Need-remaining-at-requires
+remaining-at-requires c κs = search needs
+
+enum-known-branches : tie.Need-enum-known-branches
+enum-known-branches c = search needs
+
+enum-told : tie.Need-enum-told
+enum-told c = search needs
+
+returns : tie.Need-returns
+returns c = search leaf-unknown
+
+add-wide : tie.Need-add-wide
+add-wide c = search needs
+
+shared-slice-read-wide : tie.Need-shared-slice-read-wide
+shared-slice-read-wide c = search needs
+
+wide-requires : tie.Need-wide-requires
+wide-requires c κs = search needs
+
+returns-2 : tie.Need-returns-2
+returns-2 c = search leaf-long
+
+wide-requires-2 : tie.Need-wide-requires-2
+wide-requires-2 c κs = search needs
+
+returns-3 : tie.Need-returns-3
+returns-3 c = search leaf-too-long
+
+add-log-at : tie.Need-add-log-at
+add-log-at c = search needs
+
+log-at-requires : tie.Need-log-at-requires
+log-at-requires c κs = search needs
+
+returns-4 : tie.Need-returns-4
+returns-4 c = search leaf-good
+
+returns-5 : tie.Need-returns-5
+returns-5 c = search leaf-log
+
+pub leaf-at-spec : {M : Type 1} → statement M
+leaf-at-spec =
+    tie.close
+    (tie.spec
+    shared-slice-read-remaining-at
+    remaining-at-requires
+    enum-known-branches
+    enum-told
+    returns
+    add-wide
+    shared-slice-read-wide
+    wide-requires
+    returns-2
+    wide-requires-2
+    returns-3
+    add-log-at
+    log-at-requires
+    returns-4
+    returns-5)

@@ -1,0 +1,23 @@
+-- How an answer is told to C: the returned number, and the place that was set; a tally as three numbers.
+-- Assumes nothing.
+use Prim.Native.Nat.{ℕ}
+use mathlib.Core.Path.{_≡_}
+use mathlib.Core.List.{List, [], _∷_}
+use Rattle.semantics.specs.Run.{Counters}
+use Rattle.semantics.specs.Calls.{Verdict, Opening, openVerdict}
+
+abbrev pub verdict : (number place : ℕ) → Verdict
+verdict n p = record { number = n; place = p }
+
+pub record Told (v : Verdict) (returned set : ℕ) : Type 0 where
+  pub number : returned ≡ v .number
+  pub place : set ≡ v .place
+
+-- an opening: its verdict, and every byte of the lent hall afterwards
+pub record OpenTold (o : Opening) (returned set : ℕ) (hall : List ℕ) : Type 0 where
+  pub verdict : Told (openVerdict (o .answer)) returned set
+  pub bytes : hall ≡ o .hall
+
+-- commits, failed, retries, in this order
+abbrev pub tallyWords : Counters → List ℕ
+tallyWords t = t .commits ∷ t .failed ∷ t .retries ∷ []

@@ -1,0 +1,65 @@
+//! Safe calls of the proved hall engine.
+//!
+//! The engine is a static library, `libruonfidd.a`, that is proved to answer
+//! as the scope's definitions say. This package links it and adds nothing to
+//! its answers: each function here is one call of the library, with its
+//! number and place turned into a [`Result`].
+//!
+//! # Linking
+//!
+//! `rt staticlib ruonfidd`, run in the repository's top folder, writes the
+//! library to `target/staticlib`, where this package looks for it. Another
+//! folder can be named in the environment variable `RUONFIDD_LIB_DIR`, as an
+//! absolute path or from this package's folder on. The library is part of the
+//! program that is built: nothing has to be installed beside it.
+//!
+//! # What a call may be relied on for
+//!
+//! - It takes any bytes. There is no input on which it stops the program.
+//! - It keeps nothing from one call to the next, allocates nothing and needs
+//!   little stack, so any thread may call it at any time.
+//! - The same bytes always get the same answer.
+//!
+//! # Example
+//!
+//! ```
+//! use ruonfidd::{check_table, Refusal};
+//!
+//! // A block that reads a token from tray 0 and writes one to tray 1; tray 0
+//! // holds one token.
+//! let mut table = vec![7, 10, 1, 0, 9, 0, 1, 6, 2, 12, 0, 1, 13, 3];
+//! assert_eq!(check_table(&table), Ok(()));
+//!
+//! // The start record now names a term that does not exist.
+//! table[13] = 4;
+//! assert_eq!(check_table(&table), Err(Refusal { number: 5, place: 12 }));
+//! ```
+
+#![deny(unsafe_code)]
+#![warn(missing_docs)]
+
+mod ffi;
+mod refusal;
+
+pub use refusal::Refusal;
+
+/// Whether a rule table is accepted.
+///
+/// Records are tested from the first one on, and on each record the tests are
+/// made in the order of their numbers.
+///
+/// # Errors
+///
+/// The first refusal met, 1 to 9; [`Refusal`] says what its number and its
+/// place mean.
+///
+/// ```
+/// let refusal = ruonfidd::check_table(&[1, 2, 16]).unwrap_err();
+/// assert_eq!((refusal.number, refusal.place), (4, 1));
+/// assert_eq!(refusal.reason(), "a tray is over 15");
+/// ```
+pub fn check_table(table: &[u8]) -> Result<(), Refusal> {
+    let mut place = 0;
+    let number = ffi::check_table(table, &mut place);
+    Refusal::unless_zero(number, place)
+}
