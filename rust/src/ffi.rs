@@ -10,6 +10,21 @@
 mod library {
     extern "C" {
         pub fn ruonfidd_check_table(table: *const u8, length: usize, place: *mut usize) -> u8;
+        pub fn ruonfidd_open_hall(
+            table: *const u8,
+            length: usize,
+            hall: *mut u8,
+            hall_length: usize,
+            place: *mut usize,
+        ) -> u8;
+        pub fn ruonfidd_check_hall(
+            table: *const u8,
+            length: usize,
+            hall: *const u8,
+            hall_length: usize,
+            place: *mut usize,
+        ) -> u8;
+        pub fn ruonfidd_fresh_tally(tally: *mut [u32; 3]);
     }
 }
 
@@ -19,6 +34,44 @@ pub fn check_table(table: &[u8], place: &mut usize) -> u8 {
     // call only reads; `place` is a number of the caller's that nothing else
     // can reach meanwhile. The call keeps neither of them.
     unsafe { library::ruonfidd_check_table(table.as_ptr(), table.len(), place) }
+}
+
+/// The number, and in `place` the place; `hall` is written where the number is 0.
+pub fn open_hall(table: &[u8], hall: &mut [u8], place: &mut usize) -> u8 {
+    // SAFETY: each pointer and length are those of one slice; the table is only
+    // read, and the hall and `place` are the caller's alone meanwhile. The call
+    // keeps none of them.
+    unsafe {
+        library::ruonfidd_open_hall(
+            table.as_ptr(),
+            table.len(),
+            hall.as_mut_ptr(),
+            hall.len(),
+            place,
+        )
+    }
+}
+
+/// The number, and in `place` the place.
+pub fn check_hall(table: &[u8], hall: &[u8], place: &mut usize) -> u8 {
+    // SAFETY: as above; the call reads both slices and writes neither.
+    unsafe {
+        library::ruonfidd_check_hall(
+            table.as_ptr(),
+            table.len(),
+            hall.as_ptr(),
+            hall.len(),
+            place,
+        )
+    }
+}
+
+/// Commits, failed and retries of the fresh tally.
+pub fn fresh_tally() -> [u32; 3] {
+    let mut tally = [u32::MAX; 3];
+    // SAFETY: the call writes the three numbers and keeps no pointer.
+    unsafe { library::ruonfidd_fresh_tally(&mut tally) };
+    tally
 }
 
 #[cfg(test)]

@@ -63,3 +63,68 @@ pub fn check_table(table: &[u8]) -> Result<(), Refusal> {
     let number = ffi::check_table(table, &mut place);
     Refusal::unless_zero(number, place)
 }
+
+/// The length of a stored hall.
+pub const HALL_BYTES: usize = 11_344;
+
+/// How many blocks were committed, how many commits failed, how many attempts
+/// ended in retry.
+#[derive(Clone, Copy, Debug, PartialEq, Eq, Hash)]
+pub struct Tally {
+    /// Blocks committed.
+    pub commits: u32,
+    /// Attempts whose commit found too little.
+    pub failed: u32,
+    /// Attempts that ended in retry.
+    pub retries: u32,
+}
+
+impl Tally {
+    /// The tally of a hall just opened.
+    #[must_use]
+    pub fn fresh() -> Tally {
+        let [commits, failed, retries] = ffi::fresh_tally();
+        Tally {
+            commits,
+            failed,
+            retries,
+        }
+    }
+}
+
+/// Opens a hall from a rule table, whatever stood in it, and gives the fresh
+/// tally.
+///
+/// # Errors
+///
+/// 1 to 9 by the table; 10, place 0, where the hall is not [`HALL_BYTES`] long.
+/// Refused, not a byte of the hall is changed.
+///
+/// ```
+/// use ruonfidd::{check_hall, open_hall, HALL_BYTES};
+///
+/// let table = [7, 10, 1, 0, 9, 0, 1, 6, 2, 12, 0, 1, 13, 3];
+/// let mut hall = vec![99; HALL_BYTES];
+/// let tally = open_hall(&table, &mut hall).unwrap();
+/// assert_eq!(tally.commits, 0);
+/// assert_eq!(hall[..2], [1, 0]); // one token in tray 0
+/// assert_eq!(hall[16..19], [20, 3, 0]); // one station, waiting with term 3
+/// assert_eq!(check_hall(&table, &hall), Ok(()));
+/// ```
+pub fn open_hall(table: &[u8], hall: &mut [u8]) -> Result<Tally, Refusal> {
+    let mut place = 0;
+    let number = ffi::open_hall(table, hall, &mut place);
+    Refusal::unless_zero(number, place).map(|()| Tally::fresh())
+}
+
+/// Whether a stored hall is well formed for a rule table.
+///
+/// # Errors
+///
+/// 1 to 9 by the table; 10, place 0, where the hall is not [`HALL_BYTES`] long;
+/// 11, place 0, where it is not well formed.
+pub fn check_hall(table: &[u8], hall: &[u8]) -> Result<(), Refusal> {
+    let mut place = 0;
+    let number = ffi::check_hall(table, hall, &mut place);
+    Refusal::unless_zero(number, place)
+}

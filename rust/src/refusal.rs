@@ -19,6 +19,13 @@ use std::fmt;
 /// | 8 | a tokens record has count 0, or its tray was given before | the record's first byte |
 /// | 9 | a byte follows the start record | that byte |
 /// | 9 | the table ends without a start record | the table's length |
+///
+/// On a hall:
+///
+/// | Number | Reason | Place |
+/// |---|---|---|
+/// | 10 | the hall is not 11,344 bytes | 0 |
+/// | 11 | the hall is not well formed | 0 |
 #[derive(Clone, Copy, Debug, PartialEq, Eq, Hash)]
 pub struct Refusal {
     /// Which condition was met; never 0.
@@ -50,6 +57,8 @@ impl Refusal {
             7 => "width is over 64, branches over 8 or length over 16",
             8 => "a tokens record has count 0, or its tray was given before",
             9 => "a byte follows the start record, or there is no start record",
+            10 => "the hall is not 11,344 bytes",
+            11 => "the hall is not well formed",
             _ => "a number without words here",
         }
     }
@@ -91,8 +100,8 @@ mod tests {
             "refused 2 at 40: the body is cut short"
         );
         let words = |number| Refusal { number, place: 0 }.reason();
-        for number in 1..=9 {
-            for other in number + 1..=10 {
+        for number in 1..=11 {
+            for other in number + 1..=12 {
                 assert_ne!(words(number), words(other));
             }
         }

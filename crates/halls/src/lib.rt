@@ -1,11 +1,17 @@
 // The calls on a table's bytes and a lent hall: opening it and checking it. Neither asks anything of what it is lent.
+mod checks;
 mod opens;
 
+pub use checks::HallVerdict;
+pub use checks::check_hall;
+pub use checks::hall_refusal;
 pub use opens::OpenAnswer;
 pub use opens::open_hall;
 
 // A hall's length.
 pub const HALL: usize = 11344;
 
-// The refusal of a hall by its length.
+// The refusals of a hall: by its length, and by its form.
 pub const WRONG_LENGTH: u8 = 10;
+
+pub const MALFORMED: u8 = 11;

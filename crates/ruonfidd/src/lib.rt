@@ -4,14 +4,16 @@
 //
 //     uint8_t ruonfidd_check_table(const uint8_t *table, size_t length, size_t *place);
 //     uint8_t ruonfidd_open_hall(const uint8_t *table, size_t length, uint8_t *hall, size_t hall_length, size_t *place);
+//     uint8_t ruonfidd_check_hall(const uint8_t *table, size_t length, const uint8_t *hall, size_t hall_length, size_t *place);
 //     void ruonfidd_fresh_tally(uint32_t tally[3]);
 //     extern "C" { fn ruonfidd_check_table(table: *const u8, length: usize, place: *mut usize) -> u8; }
 use counters::Counters;
+use halls::HallVerdict;
 use halls::OpenAnswer;
 use table::TableVerdict;
 ghost use mathlib.Core.Path.{_≡_};
 ghost use Rattle.semantics.specs.Run.{freshCounters};
-ghost use Rattle.semantics.specs.Calls.{checkTable, openHall};
+ghost use Rattle.semantics.specs.Calls.{checkTable, checkHall, openHall};
 ghost use Rattle.ruonfidd.specs.Told.{verdict, Told, OpenTold, tallyWords};
 
 // A number to return, with its place set.
@@ -42,6 +44,17 @@ pub extern "C" fn ruonfidd_open_hall(table: &[u8], hall: &mut [u8], place: &mut 
     match halls::open_hall(table, hall) {
         OpenAnswer::Opened(_) => told(place, 0, 0),
         OpenAnswer::Refused { number, place: at } => told(place, number, at),
+    }
+}
+
+// Whether a stored hall is well formed for a table: 0, and place 0; or the number of the first refusal, and its place.
+#[no_mangle]
+pub extern "C" fn ruonfidd_check_hall(table: &[u8], hall: &[u8], place: &mut usize) -> u8
+    ensures { λ r. ⌜ Told (checkHall (now (table .entry)) (now (hall .entry))) r (now (place .exit)) ⌝ }
+{
+    match halls::check_hall(table, hall) {
+        HallVerdict::WellFormed => told(place, 0, 0),
+        HallVerdict::Refused { number, place: at } => told(place, number, at),
     }
 }
 

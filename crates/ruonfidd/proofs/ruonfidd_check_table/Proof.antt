@@ -1,6 +1,6 @@
 -- `ruonfidd_check_table` meets its contract: the cases of the verdict are told as a number and a place.
 -- Assumes nothing.
-use Rattle.ruonfidd.proofs.Verdicts.{accepted-told, refused-told}
+use Rattle.ruonfidd.proofs.Answers.{accepted-told, refused-told}
 use borrow.Author.Needs.{needs}
 use Rattle.ruonfidd.proofs.ruonfidd_check_table.Statement.{statement}
 use Rattle.ruonfidd.proofs.ruonfidd_check_table.Tie as tie

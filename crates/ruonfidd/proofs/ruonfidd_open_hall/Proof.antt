@@ -1,6 +1,6 @@
 -- `ruonfidd_open_hall` meets its contract: the cases of the answer are told as a number and a place.
 -- Assumes nothing.
-use Rattle.ruonfidd.proofs.Openings.{opened-told, not-opened-told}
+use Rattle.ruonfidd.proofs.Answers.{opened-told, not-opened-told}
 use borrow.Author.Needs.{needs}
 use Rattle.ruonfidd.proofs.ruonfidd_open_hall.Statement.{statement}
 use Rattle.ruonfidd.proofs.ruonfidd_open_hall.Tie as tie

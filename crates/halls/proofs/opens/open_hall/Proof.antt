@@ -1,7 +1,7 @@
 -- `open_hall` meets its contract, return by return. Assumes nothing.
 use borrow.Author.Needs.{needs}
 use Rattle.semantics.specs.Stored.{hallBytes}
-use Rattle.halls.proofs.Opening.{by-the-table, by-the-size, start-process, opened}
+use Rattle.halls.proofs.Opening.{by-the-table, by-the-length, start-process, opened}
 use Rattle.halls.proofs.opens.open_hall.Statement.{statement}
 use Rattle.halls.proofs.opens.open_hall.Tie as tie
 
@@ -12,7 +12,7 @@ enum-known-start : tie.Need-enum-known-start
 enum-known-start c = search needs
 
 returns : tie.Need-returns
-returns c = search by-the-size
+returns c = search by-the-length
 
 wide-requires : tie.Need-wide-requires
 wide-requires c κs = search needs
