@@ -6,21 +6,15 @@
 //! the mean of a batch of calls; each line gives the median of the batches and,
 //! as spread, the lower and the upper quartile.
 
-use std::hint::black_box;
-use std::time::Instant;
+mod measure;
 
+use std::hint::black_box;
+
+use measure::{print_head, print_row};
 use reference::build::Builder;
 
 /// Batches for each of the two on each table.
 const ROUNDS: usize = 201;
-/// About how long one batch takes.
-const BATCH_NS: f64 = 1_000_000.0;
-
-struct Input {
-    name: &'static str,
-    length: usize,
-    table: Vec<u8>,
-}
 
 /// The scope's example: one block, one token.
 fn example() -> Vec<u8> {
@@ -85,89 +79,24 @@ fn unfolded() -> Vec<u8> {
     table.start(last)
 }
 
-fn engine(table: &[u8]) -> bool {
-    ruonfidd::check_table(table).is_ok()
-}
-
-fn second(table: &[u8]) -> bool {
-    reference::calls::check_table(table).number == 0
-}
-
-/// Nanoseconds for one call, over so many calls.
-fn batch(check: fn(&[u8]) -> bool, table: &[u8], calls: usize) -> f64 {
-    let begin = Instant::now();
-    for _ in 0..calls {
-        assert!(black_box(check(black_box(table))));
-    }
-    begin.elapsed().as_nanos() as f64 / calls as f64
-}
-
-/// So many calls that a batch takes its time.
-fn calls_for(check: fn(&[u8]) -> bool, table: &[u8]) -> usize {
-    let mut calls = 16;
-    loop {
-        let took = batch(check, table, calls) * calls as f64;
-        if took > BATCH_NS / 4.0 {
-            return (calls as f64 * BATCH_NS / took).ceil() as usize;
-        }
-        calls *= 2;
-    }
-}
-
-/// Median, lower and upper quartile. A batch that was interrupted by another
-/// program hardly moves them.
-fn summary(mut figures: Vec<f64>) -> (f64, f64, f64) {
-    figures.sort_by(f64::total_cmp);
-    let last = figures.len() - 1;
-    (figures[last / 2], figures[last / 4], figures[last * 3 / 4])
-}
-
-fn measure(input: &Input) {
-    let checks = [engine as fn(&[u8]) -> bool, second];
-    let calls = checks.map(|check| calls_for(check, &input.table));
-    let mut figures = [Vec::new(), Vec::new()];
-    for round in 0..ROUNDS {
-        // Each of the two goes first in every other round.
-        for turn in [round % 2, 1 - round % 2] {
-            figures[turn].push(batch(checks[turn], &input.table, calls[turn]));
-        }
-    }
-    let [engine, second] = figures.map(summary);
-    println!(
-        "| {}, {} bytes | {} | {} | {:.2} |",
-        input.name,
-        input.length,
-        cell(engine),
-        cell(second),
-        engine.0 / second.0
-    );
-}
-
-fn cell((median, lower, upper): (f64, f64, f64)) -> String {
-    format!("{median:.0} ({lower:.0} to {upper:.0})")
-}
-
 fn main() {
-    let inputs = [
-        ("the scope's example", 14, example()),
-        ("mixed", 200, mixed()),
-        ("flat", 599, flat()),
-        ("unfolded to the limits", 599, unfolded()),
-    ]
-    .map(|(name, length, table)| Input {
-        name,
-        length,
-        table,
-    });
     println!("Nanoseconds per call on accepted tables: median of {ROUNDS} batches, and quartiles.");
     println!("Nothing is cleared between calls: the same table is read again and again, and stays");
     println!("in the caches. The caller lends no buffer but the table. Working memory that a call");
     println!("sets up for itself, the engine's zeroed arrays too, is part of its figure.");
-    println!();
-    println!("| table | engine | second implementation | engine / second |");
-    println!("|---|---|---|---|");
-    for input in inputs {
-        assert_eq!(input.table.len(), input.length, "{}", input.name);
-        measure(&input);
+    print_head("table");
+    for (name, length, table) in [
+        ("the scope's example", 14, example()),
+        ("mixed", 200, mixed()),
+        ("flat", 599, flat()),
+        ("unfolded to the limits", 599, unfolded()),
+    ] {
+        assert_eq!(table.len(), length, "{name}");
+        print_row(
+            &format!("{name}, {length} bytes"),
+            ROUNDS,
+            &mut || ruonfidd::check_table(black_box(&table)).is_ok(),
+            &mut || reference::calls::check_table(black_box(&table)).number == 0,
+        );
     }
 }
