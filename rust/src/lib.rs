@@ -56,7 +56,7 @@ pub use refusal::Refusal;
 /// ```
 /// let refusal = ruonfidd::check_table(&[1, 2, 16]).unwrap_err();
 /// assert_eq!((refusal.number, refusal.place), (4, 1));
-/// assert_eq!(refusal.reason(), "a tray is over 15");
+/// assert_eq!(refusal.reason(), "a tray above 15");
 /// ```
 pub fn check_table(table: &[u8]) -> Result<(), Refusal> {
     let mut place = 0;

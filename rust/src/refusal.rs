@@ -9,23 +9,23 @@ use std::fmt;
 ///
 /// | Number | Reason | Place |
 /// |---|---|---|
-/// | 1 | the kind is not 1 to 13 | the record's first byte |
-/// | 2 | the body is cut short | the record's first byte |
-/// | 3 | a term record comes after 200 terms | the record's first byte |
-/// | 4 | a tray is over 15 | the record's first byte |
-/// | 5 | a reference is not to an earlier term | the record's first byte |
-/// | 6 | a reference is to the wrong class, process or expression | the record's first byte |
-/// | 7 | width is over 64, branches over 8 or length over 16 | the record's first byte |
-/// | 8 | a tokens record has count 0, or its tray was given before | the record's first byte |
-/// | 9 | a byte follows the start record | that byte |
-/// | 9 | the table ends without a start record | the table's length |
+/// | 1 | the byte is no kind, 1 to 13 | the record's first byte |
+/// | 2 | the bytes end inside the record | the record's first byte |
+/// | 3 | there are 200 terms already | the record's first byte |
+/// | 4 | it names a tray above 15 | the record's first byte |
+/// | 5 | it refers to a term that has not come yet | the record's first byte |
+/// | 6 | it refers to a process where an expression belongs, or the other way round | the record's first byte |
+/// | 7 | its term is wider than 64, has more than 8 branches or is longer than 16 | the record's first byte |
+/// | 8 | its tokens are none, or its tray has some already | the record's first byte |
+/// | 9 | something stands behind the start record | that byte |
+/// | 9 | there is no start record | the table's length |
 ///
 /// On a hall:
 ///
 /// | Number | Reason | Place |
 /// |---|---|---|
-/// | 10 | the hall is not 11,344 bytes | 0 |
-/// | 11 | the hall is not well formed | 0 |
+/// | 10 | its length is not 11,344 | 0 |
+/// | 11 | its bytes are no hall of this table | 0 |
 #[derive(Clone, Copy, Debug, PartialEq, Eq, Hash)]
 pub struct Refusal {
     /// Which condition was met; never 0.
@@ -48,17 +48,17 @@ impl Refusal {
     #[must_use]
     pub fn reason(&self) -> &'static str {
         match self.number {
-            1 => "the kind is not 1 to 13",
-            2 => "the body is cut short",
-            3 => "a term record comes after 200 terms",
-            4 => "a tray is over 15",
-            5 => "a reference is not to an earlier term",
-            6 => "a reference is to the wrong class",
-            7 => "width is over 64, branches over 8 or length over 16",
-            8 => "a tokens record has count 0, or its tray was given before",
-            9 => "a byte follows the start record, or there is no start record",
-            10 => "the hall is not 11,344 bytes",
-            11 => "the hall is not well formed",
+            1 => "a record begins with a byte that is no kind",
+            2 => "the bytes end inside a record",
+            3 => "more than 200 terms",
+            4 => "a tray above 15",
+            5 => "a reference to a term that has not come yet",
+            6 => "a process where an expression belongs, or the other way round",
+            7 => "a term is too wide, has too many branches or is too long",
+            8 => "tokens of no count, or for a tray that has some already",
+            9 => "no start record, or something behind it",
+            10 => "a hall of another length than 11,344",
+            11 => "bytes that are no hall of this table",
             _ => "a number without words here",
         }
     }
@@ -97,7 +97,7 @@ mod tests {
         };
         assert_eq!(
             refusal.to_string(),
-            "refused 2 at 40: the body is cut short"
+            "refused 2 at 40: the bytes end inside a record"
         );
         let words = |number| Refusal { number, place: 0 }.reason();
         for number in 1..=11 {

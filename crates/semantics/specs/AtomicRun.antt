@@ -17,7 +17,7 @@ use Rattle.semantics.specs.Configuration.{Idle, taking, repeating, block
 use Rattle.semantics.specs.Moves.{Entry, act, inside}
 use Rattle.semantics.specs.Run.{Counters, committedOne, failedOne, retriedOne}
 
--- a component, "with a waiting block perhaps a note of 16 counts"
+-- a component with nothing begun, and the note of a block whose attempt is open: the counts when it was opened
 pub record Noted : Type 0 where
   pub station : Idle
   pub note : Option State
@@ -30,8 +30,7 @@ pub record Atomic : Type 0 where
 unfoldable pub unnoted : Idle → Noted
 unnoted c = record { station = c; note = none }
 
--- "It starts with the counts that the table's tokens records name (0 elsewhere), the stations of its start term ..., no
--- notes and the tally as first lent"
+-- its start: what a hall has when it is opened, no notes, and any tally
 unfoldable pub atomicStart : Table → Counters → Atomic
 unfolding opens unnoted
 atomicStart t c = record { counts = t .tokens; stations = map unnoted (opens (t .start)); counters = c }

@@ -36,7 +36,7 @@ unfolding called calls
 answers table l [] = []
 answers table l (c ∷ cs) = called table l c ∷ answers table ((called table l c) .lent) cs
 
--- "Each call gets hall and tally as the last one left them, the first any tally": the hall is the one that opening gives
+-- what the first call is lent: the hall that opening gives, and any tally
 unfoldable pub firstLent : (table buffer : List ℕ) → Counters → Lent
 unfolding openHall
 firstLent table buffer c = record { hall = (openHall table buffer) .hall; counters = c }

@@ -40,12 +40,12 @@ pub data Admission : Type 0 where
   admitted : Table → Configuration → Admission
   turnedDown : (number place : ℕ) → Admission
 
--- 11: "The hall is not well formed (place 0 ...)"
+-- refusal 11: the bytes store no well-formed hall
 unfoldable pub formTested : Table → Option Configuration → Admission
 formTested t none = turnedDown 11 0
 formTested t (some h) = admitted t h
 
--- 10: "The lent hall is not 11,344 bytes (place 0)"
+-- refusal 10: the length is wrong
 unfoldable pub sizeTested : Table → List ℕ → Bool → Admission
 unfolding formTested configurationOf
 sizeTested t hall false = turnedDown 10 0
@@ -121,7 +121,7 @@ unfoldable pub ranOn : RunAnswer → RunCall
 unfolding bytesOf
 ranOn a = record { number = a .number; place = a .place; done = a .done; lent = record { hall = bytesOf (a .configuration); counters = a .counters } }
 
--- "Under 1 to 11 hall and tally stay untouched"
+-- turned down, nothing of what was lent changes
 unfoldable pub runAdmitted : Lent → List ℕ → Admission → RunCall
 unfolding ranOn run
 runAdmitted l choices (turnedDown n p) = record { number = n; place = p; done = 0; lent = l }
@@ -151,7 +151,7 @@ unfoldable pub callEntries : Call → List Entry
 unfolding entries schedule
 callEntries (runChoices choices) = entries (schedule choices)
 
--- "the choices done, call after call": of each call as many as its answer says
+-- the entries done, over all calls as one list: of each call as many as its answer says
 unfoldable pub doneIn : List ℕ → Lent → List Call → List Entry
 unfolding called callEntries
 doneIn table l [] = []
@@ -188,7 +188,7 @@ IsRefused (refused n) = Unit {0}
 unfoldable pub Quiescent : Configuration → Type 0
 Quiescent h = (e : Entry) → InBytes e → IsRefused (choose h e)
 
--- the answers that are allowed: "it may be any accepted choice"
+-- the answers that are allowed: which accepted choice is suggested is left open
 unfoldable pub Suggestable : Configuration → SuggestAnswer → Type 0
 unfolding Quiescent
 Suggestable h (suggested e) = InBytes e × IsMoved (choose h e)

@@ -32,33 +32,33 @@ First C n = C n × ((m : ℕ) → m < n → C m → ⊥)
 -- A condition of the record that begins with these bytes, after a reading; the second number is where the place lies, counted
 -- from the record's first byte. No byte left means that the table ends here.
 pub data TableCondition (r : Reading) : (number offset : ℕ) → List ℕ → Type 0 where
-  -- 1: the kind is not 1 to 13
+  -- 1: a byte that begins no record
   kind-unknown : {k : ℕ} {bs : List ℕ} → (k ≡ 0) ⊎ (13 < k) → TableCondition r 1 0 (k ∷ bs)
-  -- 2: the body is cut short
+  -- 2: fewer bytes are left than the kind's body has
   body-short : {k : ℕ} {bs : List ℕ} (K : Kind) → kindOf k ≡ some K → length bs < length (fields K) → TableCondition r 2 0 (k ∷ bs)
-  -- 3: a term record comes after 200 terms
+  -- 3: one term more than a table may have
   terms-many : {k : ℕ} {bs : List ℕ} → 1 ≤ k → k ≤ 11 → 200 ≤ length (r .terms) → TableCondition r 3 0 (k ∷ bs)
-  -- 4: a tray is over 15
+  -- 4: a channel that no hall has
   channel-over : {k : ℕ} {bs : List ℕ} (K : Kind) (i b : ℕ) → kindOf k ≡ some K →
       getElem? (fields K) i ≡ some channelF → getElem? bs i ≡ some b → 15 < b → TableCondition r 4 0 (k ∷ bs)
-  -- 5: a reference is not to an earlier term
+  -- 5: a reference to a term that has not come yet
   reference-later : {k : ℕ} {bs : List ℕ} (K : Kind) (i b : ℕ) → kindOf k ≡ some K →
       (getElem? (fields K) i ≡ some programF) ⊎ (getElem? (fields K) i ≡ some expressionF) → getElem? bs i ≡ some b → length (r .terms) ≤ b →
       TableCondition r 5 0 (k ∷ bs)
-  -- 6: a reference is to the wrong class
+  -- 6: an expression where a process belongs, or a process where an expression does
   class-expression : {k : ℕ} {bs : List ℕ} (K : Kind) (i b : ℕ) (M : Expression) → kindOf k ≡ some K →
       getElem? (fields K) i ≡ some programF → getElem? bs i ≡ some b → getElem? (r .terms) b ≡ some (expression M) → TableCondition r 6 0 (k ∷ bs)
   class-process : {k : ℕ} {bs : List ℕ} (K : Kind) (i b : ℕ) (P : Program) → kindOf k ≡ some K →
       getElem? (fields K) i ≡ some expressionF → getElem? bs i ≡ some b → getElem? (r .terms) b ≡ some (process P) → TableCondition r 6 0 (k ∷ bs)
-  -- 7: width is over 64, branches over 8 or length over 16
+  -- 7: a term past one of the three limits
   width-over : {k : ℕ} {bs : List ℕ} (K : Kind) (P : Program) → kindOf k ≡ some K → said (r .terms) bs K ≡ aTerm (process P) → 64 < width P →
       TableCondition r 7 0 (k ∷ bs)
   paths-over : {k : ℕ} {bs : List ℕ} (K : Kind) (M : Expression) → kindOf k ≡ some K → said (r .terms) bs K ≡ aTerm (expression M) →
       (8 < branches M) ⊎ (16 < pathLength M) → TableCondition r 7 0 (k ∷ bs)
-  -- 8: a tokens record has count 0, or its tray was given before
+  -- 8: tokens of no count, or given to a channel for the second time
   tokens-none : {a : ℕ} {bs : List ℕ} → TableCondition r 8 0 (12 ∷ a ∷ 0 ∷ bs)
   tokens-again : {a n : ℕ} {bs : List ℕ} → count (r .tokens) a ≢ 0 → TableCondition r 8 0 (12 ∷ a ∷ n ∷ bs)
-  -- 9: a byte follows the start record (the place is that byte), or the table ends without one (the place is its length)
+  -- 9: something stands behind the start record, and that is the place; or there is none, and the place is where the bytes end
   byte-follows : {b c : ℕ} {bs : List ℕ} → TableCondition r 9 2 (13 ∷ b ∷ c ∷ bs)
   start-missing : TableCondition r 9 0 []
 
@@ -131,9 +131,9 @@ TableNumbers =
 pub data HallCondition (table hall : List ℕ) : (number place : ℕ) → Type 0 where
   -- 1 to 9: by its table
   by-table : {n p : ℕ} → readTable table ≡ refusedAt n p → HallCondition table hall n p
-  -- 10: the lent hall is not 11,344 bytes
+  -- 10: a hall of another length
   size-wrong : (t : Table) → readTable table ≡ accepted t → length hall ≢ hallBytes → HallCondition table hall 10 0
-  -- 11: the hall is not well formed
+  -- 11: bytes that are no well-formed hall's
   form-wrong : (t : Table) → readTable table ≡ accepted t → length hall ≡ hallBytes →
       (((h : Configuration) × WellFormed (t .terms) h × (bytesOf h ≡ hall)) → ⊥) → HallCondition table hall 11 0
 
@@ -166,25 +166,25 @@ AtRest (fork l r) = ¬ Settled l
 
 -- a condition of a choice on a configuration
 pub data ChoiceCondition (h : Configuration) : ℕ → Entry → Type 0 where
-  -- 14: there is no station at the position
+  -- 14: past the last component
   no-station : {p : ℕ} → NoComponent (h .components) p → ChoiceCondition h 14 (act p)
   no-station-inside : {p k : ℕ} → NoComponent (h .components) p → ChoiceCondition h 14 (inside p k)
-  -- 15: kind 1 meets an attempt that is not a single end or retry leaf, or kind 2 meets no attempt
+  -- 15: kind 1 at a transaction that has moves inside it left, kind 2 where no transaction is open
   unsettled : {p : ℕ} (n : ℕ) (M : Expression) (s : State) (t : Tree) → getElem? (h .components) p ≡ some (transaction n M s t) → ¬ Settled t →
       ChoiceCondition h 15 (act p)
   no-attempt : {p k : ℕ} (c : Idle) → getElem? (h .components) p ≡ some (idle c) → ChoiceCondition h 15 (inside p k)
-  -- 16: there is no such node
+  -- 16: past the last node
   no-node : {p k : ℕ} (n : ℕ) (M : Expression) (s : State) (t : Tree) → getElem? (h .components) p ≡ some (transaction n M s t) → nodes t ≤ k →
       ChoiceCondition h 16 (inside p k)
-  -- 17: the node is an end or retry leaf, or a fork whose left side is neither
+  -- 17: a node that has nothing to do
   at-rest : {p k : ℕ} (n : ℕ) (M : Expression) (s : State) (t u : Tree) → getElem? (h .components) p ≡ some (transaction n M s t) →
       getElem? (preorder t) k ≡ some u → AtRest u → ChoiceCondition h 17 (inside p k)
-  -- 18: IN or REP meets an empty tray
+  -- 18: nothing is there to take
   in-empty : {p : ℕ} (n : ℕ) (a : Name) (P : Program) → getElem? (h .components) p ≡ some (idle (taking n a P)) → EmptyChannel (h .counts) a →
       ChoiceCondition h 18 (act p)
   rep-empty : {p : ℕ} (n : ℕ) (a : Name) (P : Program) → getElem? (h .components) p ≡ some (idle (repeating n a P)) → EmptyChannel (h .counts) a →
       ChoiceCondition h 18 (act p)
-  -- 19: the move would leave more than 64 stations: an IN, a REP or an ATOK
+  -- 19: too many components afterwards, which an IN, a REP or an ATOK can bring about
   in-many : {p : ℕ} (n : ℕ) (a : Name) (P : Program) → getElem? (h .components) p ≡ some (idle (taking n a P)) →
       TooMany (length (replaceAt p (map idle (opens P)) (h .components))) → ChoiceCondition h 19 (act p)
   rep-many : {p : ℕ} (n : ℕ) (a : Name) (P : Program) → getElem? (h .components) p ≡ some (idle (repeating n a P)) →
@@ -192,7 +192,7 @@ pub data ChoiceCondition (h : Configuration) : ℕ → Entry → Type 0 where
   commit-many : {p : ℕ} (n : ℕ) (M : Expression) (s : State) (e : ℕ) (δ : Log) →
       getElem? (h .components) p ≡ some (transaction n M s (leaf (endT e) δ)) → Included (RD δ) (h .counts) →
       TooMany (length (replaceAt p (map (λ a. idle (output a)) (WT δ)) (h .components))) → ChoiceCondition h 19 (act p)
-  -- 20: OUT meets a count of 255
+  -- 20: no room for another token
   out-full : {p : ℕ} (a : Name) → getElem? (h .components) p ≡ some (idle (output a)) → FullChannel (h .counts) a → ChoiceCondition h 20 (act p)
 
 unfoldable pub ChoiceNumbers : Type 0

@@ -37,7 +37,7 @@ unfoldable pub nodes : Tree → ℕ
 nodes (leaf M δ) = 1
 nodes (fork l r) = 1 + (nodes l + nodes r)
 
--- "A side-by-side term opens into its left side's stations, then its right side's. Nil opens into none."
+-- what a process opens into, from left to right; nil leaves nothing
 unfoldable pub opens : Program → List Idle
 opens (nilT n) = []
 opens (putT n a) = output a ∷ []
@@ -46,7 +46,7 @@ opens (repeatT n a P) = repeating n a P ∷ []
 opens (parT n P Q) = opens P ++ opens Q
 opens (atomT n M) = block n M ∷ []
 
--- "Opening sets the counts (0 where no record names the tray) and the stations of the start term"
+-- a hall just opened: the tokens as counts, and what the start term opens into
 unfoldable pub opening : Table → Configuration
 unfolding opens
 opening t = record { counts = t .tokens; components = map idle (opens (t .start)) }

@@ -1,5 +1,5 @@
--- One-step runs without notes and choices, for the converse of demand 3 (document 01, "The one-step run": "For the
--- converse there are no notes and no choices"), and the choices that follow one.
+-- One-step runs without notes and choices, for the converse of demand 3 (document 01, "The one-step run", its last part), and
+-- the choices that follow one.
 -- Assumes nothing.
 use Prim.Native.Nat.{ℕ, zero, suc, _≤_, _<_}
 use mathlib.Core.Path.{_≡_}
@@ -20,19 +20,19 @@ unfoldable pub use Rattle.semantics.specs.Run.{entryBytes, scheduleBytes
 
 -- ---- the conditions of the refusals that a step may meet
 
--- 14: there is no component at the position
+-- 14: the position lies past the last component
 abbrev pub NoComponent {ℓ} : {A : Type ℓ} → List A → ℕ → Type 0
 NoComponent xs p = length xs ≤ p
 
--- 18: IN or REP meets an empty channel
+-- 18: nothing is there to take
 abbrev pub EmptyChannel : State → Name → Type 0
 EmptyChannel σ a = count σ a ≡ 0
 
--- 19: more than 64 components would be left
+-- 19: too many components afterwards
 abbrev pub TooMany : ℕ → Type 0
 TooMany n = 64 < n
 
--- 20: OUT meets a count of 255
+-- 20: no room for another token
 abbrev pub FullChannel : State → Name → Type 0
 FullChannel σ a = 255 ≤ count σ a
 

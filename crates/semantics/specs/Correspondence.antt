@@ -31,7 +31,7 @@ Reduction h r g =
     (P : Process) → Stands P (h .components) →
     (P′ : Process) × Reduces LogOrder (by r) P (h .counts) P′ (g .counts) × Stands P′ (g .components)
 
--- "Each accepted choice does one reduction": on every well-formed hall, also one that no run reached
+-- demand 2, first half: an accepted choice is one reduction, on every well-formed hall, also one that no run reached
 unfoldable pub Soundness : Type 0
 unfolding Reduction
 Soundness =
@@ -43,7 +43,7 @@ abbrev pub Chain : Configuration → List Step → Configuration → Type 0
 Chain h [] g = h ≡ g
 Chain h (s ∷ ss) g = (s .before ≡ h) × (choose (s .before) (s .chosen) ≡ moved (s .rule) (s .result)) × Reduction (s .before) (s .rule) (s .result) × Chain (s .result) ss g
 
--- the same of a run on a call's bytes: the steps of its choices, as many as "done" says, lead from the hall to what the run
+-- the same of a run on a call's bytes: the steps of its choices, as many as its count of choices done, lead from the hall to what the run
 -- leaves, one reduction each
 unfoldable pub RunSoundness : Type 0
 unfolding run steps schedule entries
@@ -92,7 +92,7 @@ Answered (COM a) h P′ σ′ =
     (e : Entry) × (f : Configuration) × (d : Entry) × (r : Rule) × (g : Configuration) × InBytes e × InBytes d ×
     (choose h e ≡ moved (OUT a) f) × (choose f d ≡ moved r g) × TakesOne a r × (g .counts ≡ σ′) × Stands P′ (g .components)
 
--- "each such reduction within the limits has its choices", with ATOK's outputs in log order
+-- demand 2, second half: no reduction within the limits is without its choices; ATOK's outputs in log order
 unfoldable pub Completeness : Type 0
 unfolding Answered WithinLimits
 Completeness =

@@ -1,5 +1,5 @@
--- What is claimed of the moves inside an attempt (demand 3, "The block's path is the first ... readable when that attempt
--- opened"): in any order they come to an end, and to one end only.
+-- What is claimed of the moves inside an attempt (demand 3, on the path that a block takes): in any order they come to an end, and
+-- to one end only.
 -- Assumes nothing.
 use Prim.Native.Nat.{ℕ, _+_, _<_, _≤_}
 use mathlib.Core.Path.{_≡_}

@@ -12,11 +12,11 @@ use Rattle.calculus.specs.Log.{RD, WT}
 use Rattle.semantics.specs.Basics.{allOf, firstOf}
 use Rattle.semantics.specs.Terms.{Expression, endT, retryT, rdT, wtT, orElseT}
 
--- "The empty log" is a named value
+-- the log of an attempt just begun
 unfoldable pub emptyLog : Log
 emptyLog = []
 
--- the reads are within the counts: "for each tray, the log's reads are at most the present count"
+-- the one test of reads against counts: no channel is read more often than it counts
 unfoldable pub within : List Name → State → Bool
 unfolding allOf occurrences
 within bs σ = allOf (λ a. leb (occurrences a bs) (count σ a)) bs
@@ -26,7 +26,7 @@ unfoldable pub readable : State → Log → Bool
 unfolding within RD
 readable σ δ = within (RD δ) σ
 
--- "A path of a block is a branch of its unfolded expression, its actions in order, that finishes in end", left to right
+-- the paths of a block from left to right: the actions of each branch that ends in end; a branch that ends in retry is none
 unfoldable pub paths : Expression → List Log
 unfolding emptyLog
 paths (endT n) = emptyLog ∷ []

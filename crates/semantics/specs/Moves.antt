@@ -26,12 +26,12 @@ pub data Local : Type 0 where
   moves : Rule → State → List Component → Local
   stays : ℕ → Local
 
--- 18: "IN or REP meets an empty tray"
+-- refusal 18: nothing is there to take
 unfoldable pub takes : State → Name → Rule → List Idle → Local
 unfolding spent
 takes σ a r cs = cond (eqb (count σ a) 0) (stays 18) (moves r (spent σ a) (map idle cs))
 
--- 20: "OUT meets a count of 255"
+-- refusal 20: the channel is full
 unfoldable pub puts : State → Name → Local
 unfolding gained
 puts σ a = cond (leb 255 (count σ a)) (stays 20) (moves (OUT a) (gained σ a) [])
@@ -42,7 +42,7 @@ unfolding readable without RD WT
 commits σ n M δ =
     cond (readable σ δ) (moves (ATOK δ) (without σ (RD δ)) (map (λ a. idle (output a)) (WT δ))) (moves ATFAIL σ (idle (block n M) ∷ []))
 
--- at an attempt's nodes; 15: "Kind 1 meets an attempt that is not a single end or retry leaf"
+-- kind 1 at a transaction's nodes; refusal 15 while it has more to do than one end or retry leaf
 unfoldable pub ends : State → ℕ → Expression → Tree → Local
 unfolding commits
 ends σ n M (leaf (endT e) δ) = commits σ n M δ
@@ -81,7 +81,7 @@ atLeaf s (rdT n a M) δ = reads s a M δ
 atLeaf s (wtT n a M) δ = evolves AWR (leaf M (δ ++ (wt a ∷ [])))
 atLeaf s (orElseT n M N) δ = evolves AOI (fork (leaf M δ) (leaf N δ))
 
--- "At a fork whose left side is a leaf: 12 AOF for retry (the right side remains); 13 AOE for end (the left remains)"
+-- a fork is settled by its left side alone: AOF drops a left side that is a retry leaf, AOE keeps one that is an end leaf
 unfoldable pub atFork : Tree → Tree → Inner
 atFork (leaf (endT n) δ) r = evolves AOE (leaf (endT n) δ)
 atFork (leaf (retryT n) δ) r = evolves AOF r
@@ -109,13 +109,13 @@ inner s (leaf M δ) (suc k) = past k
 inner s (fork l r) zero = atFork l r
 inner s (fork l r) (suc k) = inLeft r (inner s l k) (λ j. inRight l (inner s r j))
 
--- 16: "There is no such node"; 17: "The node is an end or retry leaf, or a fork whose left side is neither"
+-- refusal 16 past the last node; refusal 17 where the node has nothing to do
 unfoldable pub innerLocal : State → ℕ → Expression → State → Inner → Local
 innerLocal σ n M s (evolves r t) = moves r σ (transaction n M s t ∷ [])
 innerLocal σ n M s resting = stays 17
 innerLocal σ n M s (past k) = stays 16
 
--- kind 2 at a component; 15: "kind 2 meets no attempt"
+-- kind 2 at a component; refusal 15 where no transaction is open
 unfoldable pub actsInside : State → Component → ℕ → Local
 unfolding inner innerLocal
 actsInside σ (idle c) k = stays 15
@@ -123,12 +123,12 @@ actsInside σ (transaction n M s t) k = innerLocal σ n M s (inner s t k)
 
 -- ---- at a position
 
--- "A choice answers moved, with the number of the rule, or refused, with a number"
+-- the answer to an entry: a rule with the configuration after it, or a refusal
 pub data Answer : Type 0 where
   moved : Rule → Configuration → Answer
   refused : ℕ → Answer
 
--- 19: "The move would leave more than 64 stations"
+-- refusal 19: too many components afterwards
 unfoldable pub settles : ℕ → Local → Configuration → Answer
 unfolding replaceAt
 settles p (stays n) h = refused n
@@ -136,7 +136,7 @@ settles p (moves r σ cs) h =
     let left = replaceAt p cs (h .components) in
     cond (leb (length left) 64) (moved r (record { counts = σ; components = left })) (refused 19)
 
--- 14: "There is no station at the position"
+-- refusal 14: the position lies past the last component
 unfoldable pub at : Option Component → (Component → Answer) → Answer
 at none k = refused 14
 at (some c) k = k c

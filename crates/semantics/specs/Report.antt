@@ -46,7 +46,7 @@ unfoldable pub countersLine : Counters → List ℕ
 unfolding line decimal
 countersLine c = line 67 (decimal (c .commits) ∷ decimal (c .failed) ∷ decimal (c .retries) ∷ [])
 
--- "for each tray whose first or last count is not 0, `T tray first net last`", from tray i on
+-- `T tray first net last`, from tray i on, but not for a tray that was and is empty
 unfoldable pub channelLines : ℕ → (first last : State) → List ℕ
 unfolding line decimal difference
 channelLines i [] ls = []
@@ -72,7 +72,7 @@ lines first a =
     runLine (a .number) (a .place) (a .done) ++ (countersLine (a .counters) ++
     (channelLines 0 (first .counts) (last .counts) ++ joined (map componentLine (last .components))))
 
--- "Under 1 to 9 ... only the R line appears, with done 0"
+-- a refused table has its R line and nothing else
 unfoldable pub report : List ℕ → TableAnswer → List ℕ
 unfolding lines runLine opening run freshCounters
 report choices (refusedAt n p) = runLine n p 0
@@ -86,7 +86,7 @@ unfolding fields
 stepsOver none rest = none
 stepsOver (some K) rest = rest (length (fields K))
 
--- how many bytes there are up to the end of the first start record, "found by stepping over records"
+-- how many bytes there are up to the end of the first start record, going from record to record
 unfoldable pub tableSize : ℕ → List ℕ → Option ℕ
 unfolding stepsOver kindOf given
 tableSize zero bs = none
@@ -99,7 +99,7 @@ unfolding report readTable
 splitReport bs none = report [] (readTable bs)
 splitReport bs (some n) = report (drop n bs) (readTable (take n bs))
 
--- "Above 16,384 bytes it prints `long` alone"
+-- an input that is too long is not read at all
 unfoldable pub sized : List ℕ → Bool → List ℕ
 unfolding splitReport tableSize
 sized bs true = 108 ∷ 111 ∷ 110 ∷ 103 ∷ 10 ∷ []

@@ -8,8 +8,8 @@ use Rattle.semantics.specs.Moves.{Entry, act, inside, Answer, moved, ref
 
 -- ---- the bytes of a schedule
 
--- an entry with the number of its bytes, or what ends the schedule: 12, "The choice's kind is not 1 or 2", and
--- 13, "The choice is cut short"
+-- an entry with the number of its bytes, or what ends the schedule: refusal 12 for a kind that is neither 1 nor 2, refusal 13 for
+-- bytes that end too early
 pub data Item : Type 0 where
   entry : Entry → (size : ℕ) → Item
   malformed : ℕ → Item
@@ -24,7 +24,7 @@ schedule (suc (suc zero) ∷ p ∷ []) = malformed 13 ∷ []
 schedule (suc (suc zero) ∷ p ∷ k ∷ bs) = entry (inside p k) 3 ∷ schedule bs
 schedule (suc (suc (suc k)) ∷ bs) = malformed 12 ∷ []
 
--- and back: "Choice kind 1, body position", "Choice kind 2, body position and node"
+-- and back: kind 1 with a position, kind 2 with a position and a node
 unfoldable pub entryBytes : Entry → List ℕ
 entryBytes (act p) = 1 ∷ p ∷ []
 entryBytes (inside p k) = 2 ∷ p ∷ k ∷ []
@@ -47,17 +47,17 @@ entries (malformed n ∷ items) = []
 
 -- ---- the counters
 
--- "A lent tally counts rules 7, 6 and 5"
+-- how often rules 7, 6 and 5 were done
 pub record Counters : Type 0 where
   pub commits : ℕ
   pub failed : ℕ
   pub retries : ℕ
 
--- "the fresh tally" is a named value
+-- the tally of a hall just opened
 unfoldable pub freshCounters : Counters
 freshCounters = record { commits = 0; failed = 0; retries = 0 }
 
--- "a counter at 4,294,967,295 stays there"
+-- a counter never passes this
 unfoldable pub counterTop : ℕ
 counterTop = 4294967295
 
@@ -95,7 +95,7 @@ counted AOE t = t
 
 -- ---- the run
 
--- "The answer gives the number (0 for none), the place and the choices done"; beside it what the run leaves
+-- number (0 for none), place and how many choices were done, and beside them what the run leaves
 pub record RunAnswer : Type 0 where
   pub number : ℕ
   pub place : ℕ

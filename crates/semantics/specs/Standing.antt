@@ -1,5 +1,5 @@
 -- What a configuration stands for in the calculus, and what lies within the limits there
--- (document 01, "Choices and moves": "A hall stands for its stations in parallel, up to nil and grouping").
+-- (document 01, "Choices and moves", on what a hall stands for).
 -- Assumes nothing.
 use Prim.Native.Nat.{ℕ, _+_, _≤_}
 use mathlib.Core.Path.{_≡_}

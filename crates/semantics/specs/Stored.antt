@@ -20,7 +20,7 @@ hallBytes = 11344
 
 -- ---- a configuration's bytes
 
--- "A log byte is the tray for a read, 16 plus the tray for a write"
+-- one byte an action: below 16 a read of that channel, from 16 on a write
 unfoldable pub actionByte : Action → ℕ
 actionByte (rd a) = a
 actionByte (wt a) = 16 + a
@@ -40,7 +40,7 @@ componentBytes (idle (block n M)) = 20 ∷ n ∷ []
 componentBytes (idle (output a)) = 24 ∷ a ∷ []
 componentBytes (transaction n M s t) = 21 ∷ n ∷ (s ++ treeBytes t)
 
--- "First come 16 counts, tray 0 first. Then come the stations in order, then zeros to the end."
+-- counts by channel, components in order, and the rest filled with zeros
 unfoldable pub bytesOf : Configuration → List ℕ
 unfolding componentBytes padded joined hallBytes
 bytesOf h = padded hallBytes (h .counts ++ joined (map componentBytes (h .components)))

@@ -31,7 +31,7 @@ kindOf (suc k) = getElem? kinds k
 pub data Field : Type 0 where
   channelF programF expressionF amountF : Field
 
--- "Each record is one byte of kind, then a body whose length the kind fixes"
+-- the bytes that follow a kind
 unfoldable pub fields : Kind → List Field
 fields nilK = []
 fields putK = channelF ∷ []
@@ -125,27 +125,27 @@ anyField fails [] bs = false
 anyField fails (f ∷ fs) [] = false
 anyField fails (f ∷ fs) (b ∷ bs) = fails f b || anyField fails fs bs
 
--- 3: a term record after 200 terms
+-- 3: one term more than a table may have
 unfoldable pub tooMany : List Term → Content → Bool
 tooMany ts (aTerm t) = leb 200 (length ts)
 tooMany ts (someTokens a n) = false
 tooMany ts (theStart P) = false
 
--- 4: a tray over 15
+-- 4: a channel that no hall has
 unfoldable pub strayChannel : Field → ℕ → Bool
 strayChannel channelF b = ltb 15 b
 strayChannel programF b = false
 strayChannel expressionF b = false
 strayChannel amountF b = false
 
--- 5: a reference that is not to an earlier term
+-- 5: a reference to a term that has not come yet
 unfoldable pub notEarlier : List Term → Field → ℕ → Bool
 notEarlier ts channelF b = false
 notEarlier ts programF b = leb (length ts) b
 notEarlier ts expressionF b = leb (length ts) b
 notEarlier ts amountF b = false
 
--- 6: a reference to the wrong class
+-- 6: a process where an expression belongs, or the other way round
 unfoldable pub wrongClass : List Term → Field → ℕ → Bool
 unfolding isProgram isExpression
 wrongClass ts channelF b = false
@@ -153,7 +153,7 @@ wrongClass ts programF b = not (isProgram (getElem? ts b))
 wrongClass ts expressionF b = not (isExpression (getElem? ts b))
 wrongClass ts amountF b = false
 
--- 7: width over 64, branches over 8 or length over 16
+-- 7: a term past one of the three limits
 unfoldable pub overLimit : Content → Bool
 unfolding width branches pathLength
 overLimit (aTerm (process P)) = ltb 64 (width P)
@@ -161,7 +161,7 @@ overLimit (aTerm (expression M)) = ltb 8 (branches M) || ltb 16 (pathLength M)
 overLimit (someTokens a n) = false
 overLimit (theStart P) = false
 
--- 8: a tokens record with count 0, or for a tray that was given before
+-- 8: tokens of no count, or given to a channel for the second time
 unfoldable pub badTokens : State → Content → Bool
 badTokens σ (aTerm t) = false
 badTokens σ (someTokens a n) = eqb n 0 || not (eqb (count σ a) 0)
@@ -193,7 +193,7 @@ pub data Turn : Type 0 where
   stop : TableAnswer → Turn
   more : Reading → ℕ → Turn
 
--- 9: "A byte follows the start record (place: that byte)"
+-- refusal 9, at the byte behind the start record where there is one
 unfoldable pub closed : Reading → Program → ℕ → List ℕ → TableAnswer
 closed r P at [] = accepted (record { terms = r .terms; tokens = r .tokens; start = P })
 closed r P at (b ∷ bs) = refusedAt 9 at
@@ -217,7 +217,7 @@ unfolding tested tests firstOf
 kindRead r at bs none = stop (refusedAt 1 at)
 kindRead r at bs (some K) = tested r at K bs (firstOf (λ t. t .holds) (tests r K bs))
 
--- the record at a place; the table may end there: 9, "(place: its length)"
+-- the record at a place; where the table ends there without a start record, refusal 9 at that place
 unfoldable pub turn : Reading → ℕ → List ℕ → Turn
 unfolding kindRead kindOf
 turn r at [] = stop (refusedAt 9 at)

@@ -33,7 +33,7 @@ number (rdT n a M) = n
 number (wtT n a M) = n
 number (orElseT n M N) = n
 
--- "Width, a bound on the stations that open"
+-- width: at least as many as the components that open
 unfoldable pub width : Program → ℕ
 width (nilT n) = 1
 width (putT n a) = 1
@@ -42,7 +42,7 @@ width (repeatT n a P) = 1
 width (parT n P Q) = width P + width Q
 width (atomT n M) = 1
 
--- "Branches"
+-- branches: the ends and retries of the unfolded expression
 unfoldable pub branches : Expression → ℕ
 branches (endT n) = 1
 branches (retryT n) = 1
@@ -50,7 +50,7 @@ branches (rdT n a M) = branches M
 branches (wtT n a M) = branches M
 branches (orElseT n M N) = branches M + branches N
 
--- "Length"
+-- length: the actions on its longest branch
 unfoldable pub pathLength : Expression → ℕ
 pathLength (endT n) = 0
 pathLength (retryT n) = 0
