@@ -149,6 +149,8 @@ fn each_byte_of_small_halls_damaged() {
     ];
     let mut random = Random::new(4);
     let (mut good, mut bad) = (0, 0);
+    // Stations that wait, that put, attempts, attempts with a fork.
+    let mut kinds = [0; 4];
     for round in 0..80 {
         let bytes = any_table(&mut random);
         let table = accepted(&bytes);
@@ -160,6 +162,16 @@ fn each_byte_of_small_halls_damaged() {
             let stations = random.between(1, 4);
             gen::hall_with(&mut random, &table, stations)
         };
+        for station in &hall.stations {
+            match station {
+                Station::Waiting { .. } => kinds[0] += 1,
+                Station::Putting { .. } => kinds[1] += 1,
+                Station::Attempt { tree, .. } => {
+                    kinds[2] += 1;
+                    kinds[3] += usize::from(tree.size() > 1);
+                }
+            }
+        }
         let stored = encode(&hall);
         let used = HALL_BYTES - stored.iter().rev().take_while(|byte| **byte == 0).count();
         for at in 0..(used + 3).min(HALL_BYTES) {
@@ -176,6 +188,7 @@ fn each_byte_of_small_halls_damaged() {
             }
         }
     }
+    assert!(kinds.iter().all(|seen| *seen > 10), "{kinds:?}");
     assert!(good > 5_000 && bad > 20_000, "{good} {bad}");
 }
 
