@@ -9,6 +9,7 @@ pub struct Builder {
 }
 
 impl Builder {
+    /// No record yet.
     pub fn new() -> Builder {
         Builder::default()
     }
@@ -36,46 +37,57 @@ impl Builder {
         number
     }
 
+    /// Kind 1.
     pub fn nil(&mut self) -> u8 {
         self.term(&[1])
     }
 
+    /// Kind 2.
     pub fn put(&mut self, tray: u8) -> u8 {
         self.term(&[2, tray])
     }
 
+    /// Kind 3.
     pub fn take(&mut self, tray: u8, then: u8) -> u8 {
         self.term(&[3, tray, then])
     }
 
+    /// Kind 4.
     pub fn repeated_take(&mut self, tray: u8, then: u8) -> u8 {
         self.term(&[4, tray, then])
     }
 
+    /// Kind 5.
     pub fn side_by_side(&mut self, left: u8, right: u8) -> u8 {
         self.term(&[5, left, right])
     }
 
+    /// Kind 6.
     pub fn atom(&mut self, body: u8) -> u8 {
         self.term(&[6, body])
     }
 
+    /// Kind 7.
     pub fn end(&mut self) -> u8 {
         self.term(&[7])
     }
 
+    /// Kind 8.
     pub fn retry(&mut self) -> u8 {
         self.term(&[8])
     }
 
+    /// Kind 9.
     pub fn rd(&mut self, tray: u8, rest: u8) -> u8 {
         self.term(&[9, tray, rest])
     }
 
+    /// Kind 10.
     pub fn wt(&mut self, tray: u8, rest: u8) -> u8 {
         self.term(&[10, tray, rest])
     }
 
+    /// Kind 11.
     pub fn or_else(&mut self, left: u8, right: u8) -> u8 {
         self.term(&[11, left, right])
     }
@@ -89,11 +101,12 @@ impl Builder {
         all
     }
 
+    /// Kind 12, which is no term.
     pub fn tokens(&mut self, tray: u8, count: u8) {
         self.bytes.extend([12, tray, count]);
     }
 
-    /// Closes the table.
+    /// The table, closed by a start record that names this process.
     pub fn start(&self, process: u8) -> Vec<u8> {
         let mut bytes = self.bytes.clone();
         bytes.extend([13, process]);

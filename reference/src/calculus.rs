@@ -1,4 +1,4 @@
-//! AtCCS without hiding and message values: the syntax of Table 1 and the
+//! `AtCCS` without hiding and message values: the syntax of Table 1 and the
 //! reductions of Tables 2 and 3 of document 004, over plain trees. It knows
 //! nothing of rule tables, halls and choices, and nothing of their limits.
 //!
@@ -9,6 +9,7 @@
 
 use std::collections::BTreeMap;
 
+/// A name: a, b.
 pub type Name = u8;
 
 /// A finite multiset of names. Names that occur 0 times have no entry.
@@ -18,15 +19,18 @@ pub struct Multiset {
 }
 
 impl Multiset {
+    /// No element.
     pub fn empty() -> Multiset {
         Multiset::default()
     }
 
+    /// How often the name occurs.
     pub fn times(&self, name: Name) -> u32 {
         self.times.get(&name).copied().unwrap_or(0)
     }
 
     /// This multiset with so many more of the name.
+    #[must_use]
     pub fn plus_times(&self, name: Name, more: u32) -> Multiset {
         let mut sum = self.clone();
         if more > 0 {
@@ -35,6 +39,8 @@ impl Multiset {
         sum
     }
 
+    /// This multiset with one more of the name.
+    #[must_use]
     pub fn plus(&self, name: Name) -> Multiset {
         self.plus_times(name, 1)
     }
@@ -47,6 +53,7 @@ impl Multiset {
     }
 
     /// This multiset without the elements found in the other.
+    #[must_use]
     pub fn minus(&self, other: &Multiset) -> Multiset {
         let mut difference = Multiset::empty();
         for (name, times) in &self.times {
@@ -57,18 +64,25 @@ impl Multiset {
     }
 }
 
+/// An action of an expression and an entry of a log.
 #[derive(Clone, Copy, Debug, PartialEq, Eq, PartialOrd, Ord)]
 pub enum Act {
+    /// A read of the name.
     Rd(Name),
+    /// A write of the name.
     Wt(Name),
 }
 
 /// M, N.
 #[derive(Clone, Debug, PartialEq, Eq, PartialOrd, Ord)]
 pub enum Expression {
+    /// It has done its work.
     End,
+    /// It gives up.
     Retry,
+    /// An action, then an expression.
     Prefix(Act, Box<Expression>),
+    /// The first, or the second where the first gives up.
     OrElse(Box<Expression>, Box<Expression>),
 }
 
@@ -77,25 +91,37 @@ pub enum Expression {
 pub enum Ongoing {
     /// An expression with its own state and log.
     Of {
+        /// What is still to be done.
         expression: Expression,
+        /// The state when the block began.
         state: Multiset,
+        /// What was done.
         log: Vec<Act>,
     },
+    /// An alternative of which both sides go on.
     OrElse(Box<Ongoing>, Box<Ongoing>),
 }
 
 /// P, Q.
 #[derive(Clone, Debug, PartialEq, Eq, PartialOrd, Ord)]
 pub enum Process {
+    /// It does nothing.
     Nil,
+    /// An output of the name.
     Output(Name),
+    /// An input of the name, then a process.
     Input(Name, Box<Process>),
+    /// An input of the name that stays, with a process for each time.
     Replicated(Name, Box<Process>),
+    /// Two processes in parallel.
     Parallel(Box<Process>, Box<Process>),
+    /// A block that has not begun.
     Atom(Expression),
-    /// An ongoing block with the code it began from.
+    /// A block that has begun.
     Block {
+        /// How far it has come.
         ongoing: Ongoing,
+        /// The code it began from.
         code: Expression,
     },
 }
@@ -104,28 +130,44 @@ pub enum Process {
 /// carry it through.
 #[derive(Clone, Copy, Debug, PartialEq, Eq, PartialOrd, Ord)]
 pub enum Rule {
+    /// OUT.
     Out,
+    /// IN.
     In,
+    /// REP.
     Rep,
+    /// ATST.
     AtSt,
+    /// ATRE.
     AtRe,
+    /// ATFAIL.
     AtFail,
+    /// ATOK.
     AtOk,
+    /// ARDOK.
     ArdOk,
+    /// ARDF.
     ArdF,
+    /// AWR.
     Awr,
+    /// AOI.
     Aoi,
+    /// AOF.
     Aof,
+    /// AOE.
     Aoe,
-    /// Two reductions in one, over this name.
+    /// COM: two reductions in one, over this name.
     Com(Name),
 }
 
 /// One derivation: its rule, and the process and state it ends in.
 #[derive(Clone, Debug, PartialEq, Eq, PartialOrd, Ord)]
 pub struct Reduction {
+    /// The axiom at its top, or COM.
     pub rule: Rule,
+    /// The process it ends in.
     pub process: Process,
+    /// The state it ends in.
     pub state: Multiset,
 }
 
@@ -151,6 +193,7 @@ pub fn wt(log: &[Act]) -> Vec<Name> {
     names
 }
 
+/// Two processes in parallel.
 pub fn parallel(left: Process, right: Process) -> Process {
     Process::Parallel(Box::new(left), Box::new(right))
 }

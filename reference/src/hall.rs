@@ -1,7 +1,8 @@
 //! The hall as plain data, and its stored form of 11,344 bytes (document 01,
 //! "The stored hall").
 
-use crate::table::{branches, length, Counts, Table, Term, MOST_BRANCHES, MOST_LENGTH, TRAYS};
+use crate::table::{branches, byte_of, length, Counts, Table, Term};
+use crate::table::{MOST_BRANCHES, MOST_LENGTH, TRAYS};
 
 /// The length of a stored hall.
 pub const HALL_BYTES: usize = 11_344;
@@ -21,13 +22,16 @@ const PUTTING: u8 = 24;
 /// One entry of a log, and one action of a path.
 #[derive(Clone, Copy, Debug, PartialEq, Eq, PartialOrd, Ord)]
 pub enum Action {
+    /// A read of this tray.
     Read(u8),
+    /// A write to this tray.
     Write(u8),
 }
 
 /// What an attempt has noted down, oldest entry first.
 #[derive(Clone, Debug, PartialEq, Eq)]
 pub struct Log {
+    /// Its entries, oldest first.
     pub entries: Vec<Action>,
 }
 
@@ -38,6 +42,7 @@ impl Log {
     };
 
     /// This log with one more entry.
+    #[must_use]
     pub fn with(&self, action: Action) -> Log {
         let mut entries = self.entries.clone();
         entries.push(action);
@@ -77,21 +82,27 @@ impl Log {
 /// What a leaf has still to do.
 #[derive(Clone, Copy, Debug, PartialEq, Eq)]
 pub enum Rest {
+    /// An expression of the table.
     Term(usize),
     /// A retry that needs no record, stored as 255.
     BareRetry,
 }
 
+/// A node without sides.
 #[derive(Clone, Debug, PartialEq, Eq)]
 pub struct Leaf {
+    /// What it has still to do.
     pub rest: Rest,
+    /// What it has done.
     pub log: Log,
 }
 
 /// A node of an attempt.
 #[derive(Clone, Debug, PartialEq, Eq)]
 pub enum Node {
+    /// Its left and its right side.
     Fork(Box<Node>, Box<Node>),
+    /// An expression with its log.
     Leaf(Leaf),
 }
 
@@ -123,6 +134,7 @@ impl Node {
     }
 
     /// This tree with the node of this preorder number replaced.
+    #[must_use]
     pub fn replaced(&self, number: usize, by: &Node) -> Node {
         if number == 0 {
             return by.clone();
@@ -147,22 +159,31 @@ impl Node {
 pub enum Station {
     /// A term of kind 3, 4 or 6 that has not begun.
     Waiting {
+        /// Its term.
         term: usize,
     },
+    /// A put that is still to be done.
     Putting {
+        /// Its tray.
         tray: u8,
     },
     /// A block (term of kind 6) under way.
     Attempt {
+        /// The block.
         term: usize,
+        /// The counts when it began.
         snapshot: Counts,
+        /// Its nodes.
         tree: Node,
     },
 }
 
+/// A hall: its counts and its stations in order.
 #[derive(Clone, Debug, PartialEq, Eq)]
 pub struct Hall {
+    /// One count for each tray.
     pub counts: Counts,
+    /// The stations, the one at position 0 first.
     pub stations: Vec<Station>,
 }
 
@@ -188,8 +209,11 @@ pub fn stations_of(table: &Table, term: usize) -> Vec<Station> {
     }
 }
 
-/// The stored form of a hall. The hall must be within the limits; one that
-/// does not fit into the bytes ends the program.
+/// The stored form of a hall.
+///
+/// # Panics
+///
+/// On a hall over the limits, which does not fit into the bytes.
 pub fn encode(hall: &Hall) -> Vec<u8> {
     let mut bytes = hall.counts.to_vec();
     for station in &hall.stations {
@@ -202,14 +226,14 @@ pub fn encode(hall: &Hall) -> Vec<u8> {
 
 fn encode_station(station: &Station, bytes: &mut Vec<u8>) {
     match station {
-        Station::Waiting { term } => bytes.extend([WAITING, term_byte(*term)]),
+        Station::Waiting { term } => bytes.extend([WAITING, byte_of(*term)]),
         Station::Putting { tray } => bytes.extend([PUTTING, *tray]),
         Station::Attempt {
             term,
             snapshot,
             tree,
         } => {
-            bytes.extend([ATTEMPT, term_byte(*term)]);
+            bytes.extend([ATTEMPT, byte_of(*term)]);
             bytes.extend(snapshot);
             encode_node(tree, bytes);
         }
@@ -226,7 +250,7 @@ fn encode_node(node: &Node, bytes: &mut Vec<u8>) {
         Node::Leaf(leaf) => {
             bytes.push(LEAF);
             bytes.push(match leaf.rest {
-                Rest::Term(term) => term_byte(term),
+                Rest::Term(term) => byte_of(term),
                 Rest::BareRetry => BARE_RETRY,
             });
             encode_log(&leaf.log, bytes);
@@ -236,7 +260,7 @@ fn encode_node(node: &Node, bytes: &mut Vec<u8>) {
 
 fn encode_log(log: &Log, bytes: &mut Vec<u8>) {
     assert!(log.entries.len() <= LOG_ROOM, "a log over the limits");
-    bytes.push(log.entries.len() as u8);
+    bytes.push(byte_of(log.entries.len()));
     for index in 0..LOG_ROOM {
         bytes.push(match log.entries.get(index) {
             None => 0,
@@ -244,10 +268,6 @@ fn encode_log(log: &Log, bytes: &mut Vec<u8>) {
             Some(Action::Write(tray)) => 16 + *tray,
         });
     }
-}
-
-fn term_byte(term: usize) -> u8 {
-    u8::try_from(term).expect("a term number over the limits")
 }
 
 /// The hall stored in these bytes, or nothing when they are not well formed
@@ -302,7 +322,7 @@ impl Input<'_> {
     }
 }
 
-fn decode_station(table: &Table, input: &mut Input) -> Option<Station> {
+fn decode_station(table: &Table, input: &mut Input<'_>) -> Option<Station> {
     match input.byte()? {
         WAITING => {
             let term = usize::from(input.byte()?);
@@ -346,7 +366,7 @@ enum FlatNode {
 
 /// The nodes of one attempt. They are first read in a row, so that bytes full
 /// of forks cost no stack; only a tree of at most 8 branches is then built.
-fn decode_tree(table: &Table, input: &mut Input) -> Option<Node> {
+fn decode_tree(table: &Table, input: &mut Input<'_>) -> Option<Node> {
     let mut row = Vec::new();
     let mut missing = 1;
     while missing > 0 {
@@ -390,7 +410,7 @@ fn build_tree(row: &mut std::vec::IntoIter<FlatNode>) -> Node {
     }
 }
 
-fn decode_leaf(table: &Table, input: &mut Input) -> Option<Leaf> {
+fn decode_leaf(table: &Table, input: &mut Input<'_>) -> Option<Leaf> {
     let rest = decode_rest(table, input.byte()?)?;
     let log = decode_log(input)?;
     if log.entries.len() + rest_length(table, rest) > MOST_LENGTH {
@@ -411,7 +431,7 @@ fn decode_rest(table: &Table, byte: u8) -> Option<Rest> {
     }
 }
 
-fn decode_log(input: &mut Input) -> Option<Log> {
+fn decode_log(input: &mut Input<'_>) -> Option<Log> {
     let log_length = usize::from(input.byte()?);
     if log_length > LOG_ROOM {
         return None;

@@ -16,12 +16,12 @@
 //! | [`moves`] | what one choice does to a hall |
 //! | [`run`] | a list of choices, the tally |
 //! | [`calls`] | the public calls on bytes |
-//! | [`print`] | the printed run |
+//! | [`print`](mod@print) | the printed run |
 //! | [`atomic`] | the one-step run and the steps of its converse |
-//! | [`calculus`] | AtCCS without hiding, from document 004 |
+//! | [`calculus`] | `AtCCS` without hiding, from document 004 |
 //! | [`stands_for`] | the process that a hall stands for |
 //! | [`build`] | a small writer of rule tables |
-//! | [`gen`] | random tables, halls and choices for tests |
+//! | `generator` | random tables, halls and choices for tests; only with the feature of that name |
 //!
 //! [`atomic`] and [`calculus`] call none of [`moves`] and [`run`]: they are
 //! what those two are tested against.
@@ -31,7 +31,8 @@ pub mod build;
 pub mod calculus;
 pub mod calls;
 pub mod choice;
-pub mod gen;
+#[cfg(feature = "generator")]
+pub mod generator;
 pub mod hall;
 pub mod moves;
 pub mod print;

@@ -3,27 +3,45 @@
 
 use crate::choice::Choice;
 use crate::hall::{stations_of, Action, Hall, Leaf, Log, Node, Rest, Station, MOST_STATIONS};
-use crate::table::{Counts, Table, Term, TRAYS};
+use crate::table::{byte_of, Counts, Table, Term, TRAYS};
 
+/// A put is done.
 pub const OUT: u8 = 1;
+/// A take is done.
 pub const IN: u8 = 2;
+/// A repeated take is done once.
 pub const REP: u8 = 3;
+/// An attempt begins.
 pub const ATST: u8 = 4;
+/// An attempt ends in retry.
 pub const ATRE: u8 = 5;
+/// An attempt ends because its commit finds too little.
 pub const ATFAIL: u8 = 6;
+/// An attempt is committed.
 pub const ATOK: u8 = 7;
+/// A read is logged.
 pub const ARDOK: u8 = 8;
+/// A read fails and becomes a retry.
 pub const ARDF: u8 = 9;
+/// A write is logged.
 pub const AWR: u8 = 10;
+/// An alternative becomes a fork.
 pub const AOI: u8 = 11;
+/// A fork keeps its right side.
 pub const AOF: u8 = 12;
+/// A fork keeps its left side.
 pub const AOE: u8 = 13;
 
 /// The answer to one choice.
 #[derive(Clone, Debug, PartialEq, Eq)]
 pub enum Outcome {
-    /// The number of the rule, 1 to 13, and the hall after it.
-    Moved { rule: u8, hall: Hall },
+    /// One rule was done.
+    Moved {
+        /// Its number, 1 to 13.
+        rule: u8,
+        /// The hall after it.
+        hall: Hall,
+    },
     /// The number of the refusal, 14 to 20.
     Refused(u8),
 }
@@ -134,7 +152,7 @@ fn commit(hall: &Hall, position: usize, log: &Log) -> Outcome {
         return Outcome::Refused(19);
     }
     for tray in 0..TRAYS {
-        next.counts[tray] -= log.reads_of(tray) as u8;
+        next.counts[tray] -= byte_of(log.reads_of(tray));
     }
     moved(ATOK, next)
 }
@@ -261,13 +279,13 @@ pub fn accepted_choices(table: &Table, hall: &Hall) -> Vec<Choice> {
 fn nameable_choices(hall: &Hall) -> Vec<Choice> {
     let mut choices = Vec::new();
     for (index, station) in hall.stations.iter().enumerate() {
-        let position = index as u8;
+        let position = byte_of(index);
         choices.push(Choice::Act { position });
         if let Station::Attempt { tree, .. } = station {
             for node in 0..tree.size() {
                 choices.push(Choice::Inside {
                     position,
-                    node: node as u8,
+                    node: byte_of(node),
                 });
             }
         }

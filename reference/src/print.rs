@@ -8,6 +8,7 @@ use crate::table::{body_length, read_table, Refusal, TRAYS};
 /// A longer input is answered with `long` alone.
 pub const LONGEST_INPUT: usize = 16_384;
 
+/// What the program prints for this input.
 pub fn printed_run(input: &[u8]) -> Vec<u8> {
     if input.len() > LONGEST_INPUT {
         return b"long\n".to_vec();
@@ -46,16 +47,22 @@ pub fn table_end(input: &[u8]) -> usize {
 }
 
 fn report(first: &Hall, result: &RunResult) -> String {
-    let mut text = format!("R {} {} {}\n", result.number, result.place, result.done);
     let tally = result.tally;
-    text += &format!("C {} {} {}\n", tally.commits, tally.failed, tally.retries);
+    let mut lines = vec![
+        format!("R {} {} {}\n", result.number, result.place, result.done),
+        format!("C {} {} {}\n", tally.commits, tally.failed, tally.retries),
+    ];
     for tray in 0..TRAYS {
-        text += &tray_line(tray, first.counts[tray], result.hall.counts[tray]);
+        lines.push(tray_line(
+            tray,
+            first.counts[tray],
+            result.hall.counts[tray],
+        ));
     }
     for station in &result.hall.stations {
-        text += &station_line(station);
+        lines.push(station_line(station));
     }
-    text
+    lines.concat()
 }
 
 /// A tray's line, or nothing when it was and is empty.

@@ -9,8 +9,11 @@ use crate::table::Table;
 /// How often rules 7, 6 and 5 were done.
 #[derive(Clone, Copy, Debug, PartialEq, Eq)]
 pub struct Tally {
+    /// Rule 7.
     pub commits: u32,
+    /// Rule 6.
     pub failed: u32,
+    /// Rule 5.
     pub retries: u32,
 }
 
@@ -23,6 +26,7 @@ impl Tally {
     };
 
     /// The tally after one more use of this rule. A counter at its top stays.
+    #[must_use]
     pub fn after(self, rule: u8) -> Tally {
         let mut tally = self;
         match rule {
@@ -44,7 +48,9 @@ pub struct RunResult {
     pub place: usize,
     /// How many choices were done.
     pub done: usize,
+    /// The hall after them.
     pub hall: Hall,
+    /// The tally after them.
     pub tally: Tally,
     /// The rules of the choices done, in order.
     pub rules: Vec<u8>,

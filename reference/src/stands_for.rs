@@ -3,7 +3,7 @@
 
 use crate::calculus::{Act, Expression, Multiset, Ongoing, Process};
 use crate::hall::{Action, Hall, Leaf, Node, Rest, Station};
-use crate::table::{Counts, Table, Term};
+use crate::table::{byte_of, Counts, Table, Term};
 
 /// How many nodes each term has when unfolded, stopping at the top of u64.
 /// Takes can make a term of 200 records unfold into more than any memory.
@@ -24,10 +24,11 @@ pub fn unfolded_sizes(table: &Table) -> Vec<u64> {
     sizes
 }
 
+/// The state of a hall's counts, each tray as a name.
 pub fn state_of(counts: &Counts) -> Multiset {
     let mut state = Multiset::empty();
     for (tray, count) in counts.iter().enumerate() {
-        state = state.plus_times(tray as u8, u32::from(*count));
+        state = state.plus_times(byte_of(tray), u32::from(*count));
     }
     state
 }
@@ -41,6 +42,11 @@ pub fn station_processes(table: &Table, hall: &Hall) -> Vec<Process> {
     processes
 }
 
+/// The process of one station of a hall that is well formed for the table.
+///
+/// # Panics
+///
+/// On an attempt of a term that is no block.
 pub fn station_process(table: &Table, station: &Station) -> Process {
     match station {
         Station::Waiting { term } => process_of(table, *term),
@@ -61,6 +67,11 @@ pub fn station_process(table: &Table, station: &Station) -> Process {
     }
 }
 
+/// The process that a term of kind 1 to 6 unfolds into.
+///
+/// # Panics
+///
+/// On an expression.
 pub fn process_of(table: &Table, term: usize) -> Process {
     match table.terms[term] {
         Term::Nil => Process::Nil,
@@ -78,6 +89,11 @@ pub fn process_of(table: &Table, term: usize) -> Process {
     }
 }
 
+/// The expression that a term of kind 7 to 11 unfolds into.
+///
+/// # Panics
+///
+/// On a process.
 pub fn expression_of(table: &Table, term: usize) -> Expression {
     let inner = |term| Box::new(expression_of(table, term));
     match table.terms[term] {

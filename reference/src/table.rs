@@ -5,9 +5,11 @@
 pub const TRAYS: usize = 16;
 /// A table holds at most this many terms (refusal 3).
 pub const MOST_TERMS: usize = 200;
-/// Limits of refusal 7.
+/// The limit of a process's width (refusal 7).
 pub const MOST_WIDTH: usize = 64;
+/// The limit of an expression's branches (refusal 7).
 pub const MOST_BRANCHES: usize = 8;
+/// The limit of an expression's length (refusal 7).
 pub const MOST_LENGTH: usize = 16;
 
 /// One count for each tray.
@@ -16,22 +18,70 @@ pub type Counts = [u8; TRAYS];
 /// One term of the table. References are numbers of earlier terms.
 #[derive(Clone, Copy, Debug, PartialEq, Eq)]
 pub enum Term {
+    /// Kind 1.
     Nil,
-    Put { tray: u8 },
-    Take { tray: u8, then: usize },
-    RepeatedTake { tray: u8, then: usize },
-    SideBySide { left: usize, right: usize },
-    Atom { body: usize },
+    /// Kind 2.
+    Put {
+        /// The tray that gains a token.
+        tray: u8,
+    },
+    /// Kind 3.
+    Take {
+        /// The tray that loses a token.
+        tray: u8,
+        /// The process that opens then.
+        then: usize,
+    },
+    /// Kind 4.
+    RepeatedTake {
+        /// The tray that loses a token.
+        tray: u8,
+        /// The process that opens each time.
+        then: usize,
+    },
+    /// Kind 5.
+    SideBySide {
+        /// The left process.
+        left: usize,
+        /// The right process.
+        right: usize,
+    },
+    /// Kind 6.
+    Atom {
+        /// The block's expression.
+        body: usize,
+    },
+    /// Kind 7.
     End,
+    /// Kind 8.
     Retry,
-    Rd { tray: u8, rest: usize },
-    Wt { tray: u8, rest: usize },
-    OrElse { left: usize, right: usize },
+    /// Kind 9.
+    Rd {
+        /// The tray read.
+        tray: u8,
+        /// The expression that follows.
+        rest: usize,
+    },
+    /// Kind 10.
+    Wt {
+        /// The tray written.
+        tray: u8,
+        /// The expression that follows.
+        rest: usize,
+    },
+    /// Kind 11.
+    OrElse {
+        /// The expression tried first.
+        left: usize,
+        /// The expression for when the first says retry.
+        right: usize,
+    },
 }
 
 /// An accepted table.
 #[derive(Clone, Debug, PartialEq, Eq)]
 pub struct Table {
+    /// Its terms, by their numbers.
     pub terms: Vec<Term>,
     /// The count named for each tray, 0 where no record names it.
     pub tokens: Counts,
@@ -42,7 +92,9 @@ pub struct Table {
 /// Why a request was turned down: one number, one place.
 #[derive(Clone, Copy, Debug, PartialEq, Eq)]
 pub struct Refusal {
+    /// Which condition was met, 1 to 20.
     pub number: u8,
+    /// The offset of the byte at which it was met.
     pub place: usize,
 }
 
@@ -58,16 +110,12 @@ enum Field {
 /// The fields of a record's body, or nothing for a kind that is not 1 to 13.
 fn fields(kind: u8) -> Option<&'static [Field]> {
     match kind {
-        1 => Some(&[]),
+        1 | 7 | 8 => Some(&[]),
         2 => Some(&[Field::Tray]),
-        3 => Some(&[Field::Tray, Field::Process]),
-        4 => Some(&[Field::Tray, Field::Process]),
+        3 | 4 => Some(&[Field::Tray, Field::Process]),
         5 => Some(&[Field::Process, Field::Process]),
         6 => Some(&[Field::Expression]),
-        7 => Some(&[]),
-        8 => Some(&[]),
-        9 => Some(&[Field::Tray, Field::Expression]),
-        10 => Some(&[Field::Tray, Field::Expression]),
+        9 | 10 => Some(&[Field::Tray, Field::Expression]),
         11 => Some(&[Field::Expression, Field::Expression]),
         12 => Some(&[Field::Tray, Field::Count]),
         13 => Some(&[Field::Process]),
@@ -77,7 +125,7 @@ fn fields(kind: u8) -> Option<&'static [Field]> {
 
 /// How many body bytes follow this kind, or nothing for an unknown kind.
 pub fn body_length(kind: u8) -> Option<usize> {
-    fields(kind).map(|list| list.len())
+    fields(kind).map(<[Field]>::len)
 }
 
 fn is_term_kind(kind: u8) -> bool {
@@ -149,6 +197,15 @@ pub fn measures_fit(terms: &[Term], term: usize) -> bool {
     }
 }
 
+/// The byte of a number that is known to fit into one.
+///
+/// # Panics
+///
+/// On a number above 255.
+pub fn byte_of(number: usize) -> u8 {
+    u8::try_from(number).expect("a number that fits into a byte")
+}
+
 /// What was read before the record now looked at.
 struct SoFar {
     terms: Vec<Term>,
@@ -157,6 +214,10 @@ struct SoFar {
 
 /// Reads a table from any bytes. Records are tested one by one, each test on
 /// the whole record before the next test.
+///
+/// # Errors
+///
+/// Refusals 1 to 9.
 pub fn read_table(bytes: &[u8]) -> Result<Table, Refusal> {
     let mut so_far = SoFar {
         terms: Vec::new(),

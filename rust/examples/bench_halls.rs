@@ -18,6 +18,7 @@ use ruonfidd::HALL_BYTES;
 
 /// Batches for each of the two on each input.
 const ROUNDS: usize = 101;
+
 /// A start term of so many puts, a power of two.
 fn puts(doublings: usize) -> Vec<u8> {
     let mut table = Builder::new();
@@ -58,15 +59,15 @@ fn full_attempt() -> Station {
     }
 }
 
-/// Opens again and again in a hall that was full of noise at first.
+/// Opens again and again in memory that held other bytes at first.
 fn opening(name: &str, table: &[u8]) {
-    let mut ours = vec![171; HALL_BYTES];
-    let mut theirs = ours.clone();
+    let mut by_engine = vec![171; HALL_BYTES];
+    let mut by_second = by_engine.clone();
     print_row(
         name,
         ROUNDS,
-        &mut || ruonfidd::open_hall(black_box(table), black_box(&mut ours)).is_ok(),
-        &mut || reference::calls::open(black_box(table), black_box(&mut theirs)).is_ok(),
+        &mut || ruonfidd::open_hall(black_box(table), black_box(&mut by_engine)).is_ok(),
+        &mut || reference::calls::open(black_box(table), black_box(&mut by_second)).is_ok(),
     );
 }
 

@@ -1,30 +1,38 @@
 //! The library's calls as they are declared for C, and over each of them one
-//! function that takes references.
+//! function that takes references and gives the bare numbers.
 //!
-//! All unsafe code of the package is here. In the library's calls a `&[u8]` or
-//! `&mut [u8]` is a pointer and a length, a `&mut` of a number is a pointer; a
-//! call returns the number of the refusal, 0 for none, and sets the place.
+//! The functions are safe to call and are public for this package's tests
+//! alone; they are no part of its interface. All unsafe code of the package is
+//! here. In the library's calls a `&[u8]` or `&mut [u8]` is a pointer and a
+//! length, a `&mut` of a number is a pointer; a call returns the number of the
+//! refusal, 0 for none, and sets the place.
 
 #![allow(unsafe_code)]
 
+use std::ptr::addr_of_mut;
+
 mod library {
     extern "C" {
-        pub fn ruonfidd_check_table(table: *const u8, length: usize, place: *mut usize) -> u8;
-        pub fn ruonfidd_open_hall(
+        pub(super) fn ruonfidd_check_table(
+            table: *const u8,
+            length: usize,
+            place: *mut usize,
+        ) -> u8;
+        pub(super) fn ruonfidd_open_hall(
             table: *const u8,
             length: usize,
             hall: *mut u8,
             hall_length: usize,
             place: *mut usize,
         ) -> u8;
-        pub fn ruonfidd_check_hall(
+        pub(super) fn ruonfidd_check_hall(
             table: *const u8,
             length: usize,
             hall: *const u8,
             hall_length: usize,
             place: *mut usize,
         ) -> u8;
-        pub fn ruonfidd_fresh_tally(tally: *mut [u32; 3]);
+        pub(super) fn ruonfidd_fresh_tally(tally: *mut [u32; 3]);
     }
 }
 
@@ -36,7 +44,8 @@ pub fn check_table(table: &[u8], place: &mut usize) -> u8 {
     unsafe { library::ruonfidd_check_table(table.as_ptr(), table.len(), place) }
 }
 
-/// The number, and in `place` the place; `hall` is written where the number is 0.
+/// The number, and in `place` the place: 0 where the number is 0. `hall` is
+/// written then, and else not.
 pub fn open_hall(table: &[u8], hall: &mut [u8], place: &mut usize) -> u8 {
     // SAFETY: each pointer and length are those of one slice; the table is only
     // read, and the hall and `place` are the caller's alone meanwhile. The call
@@ -52,7 +61,7 @@ pub fn open_hall(table: &[u8], hall: &mut [u8], place: &mut usize) -> u8 {
     }
 }
 
-/// The number, and in `place` the place.
+/// The number, and in `place` the place: 0 where the number is 0.
 pub fn check_hall(table: &[u8], hall: &[u8], place: &mut usize) -> u8 {
     // SAFETY: as above; the call reads both slices and writes neither.
     unsafe {
@@ -67,35 +76,44 @@ pub fn check_hall(table: &[u8], hall: &[u8], place: &mut usize) -> u8 {
 }
 
 /// Commits, failed and retries of the fresh tally.
+#[must_use]
 pub fn fresh_tally() -> [u32; 3] {
     let mut tally = [u32::MAX; 3];
     // SAFETY: the call writes the three numbers and keeps no pointer.
-    unsafe { library::ruonfidd_fresh_tally(&mut tally) };
+    unsafe { library::ruonfidd_fresh_tally(addr_of_mut!(tally)) };
     tally
 }
 
 #[cfg(test)]
 mod tests {
-    use super::check_table;
+    use super::{check_hall, check_table, fresh_tally, open_hall};
+    use crate::HALL_BYTES;
+
+    const TABLE: [u8; 14] = [7, 10, 1, 0, 9, 0, 1, 6, 2, 12, 0, 1, 13, 3];
 
     /// Calls with a place that no call can answer, between two guards.
     #[track_caller]
-    fn answers(table: &[u8], number: u8, place: usize) {
-        let before = table.to_vec();
+    fn sets_the_place(call: impl FnOnce(&mut usize) -> u8, number: u8, place: usize) {
         let mut places = [usize::MAX; 3];
-        assert_eq!(check_table(table, &mut places[1]), number, "{table:?}");
-        assert_eq!(places, [usize::MAX, place, usize::MAX], "{table:?}");
+        assert_eq!(call(&mut places[1]), number);
+        assert_eq!(places, [usize::MAX, place, usize::MAX]);
+    }
+
+    #[track_caller]
+    fn table_gives(table: &[u8], number: u8, place: usize) {
+        let before = table.to_vec();
+        sets_the_place(|at| check_table(table, at), number, place);
         assert_eq!(table, before);
     }
 
     #[test]
     fn the_place_is_set_and_nothing_beside_it() {
-        answers(&[], 9, 0);
-        answers(&[1, 13, 0], 0, 0);
-        answers(&[0], 1, 0);
-        answers(&[1, 1, 1], 9, 3);
-        answers(&[1, 13, 0, 77], 9, 3);
-        answers(&[2, 15, 2, 16, 13, 0], 4, 2);
+        table_gives(&[], 9, 0);
+        table_gives(&[1, 13, 0], 0, 0);
+        table_gives(&[0], 1, 0);
+        table_gives(&[1, 1, 1], 9, 3);
+        table_gives(&[1, 13, 0, 77], 9, 3);
+        table_gives(&[2, 15, 2, 16, 13, 0], 4, 2);
     }
 
     #[test]
@@ -104,14 +122,57 @@ mod tests {
         for tray in 0..16 {
             table.extend([12, tray, 255]);
         }
-        answers(&table, 9, 248);
+        table_gives(&table, 9, 248);
         table.extend([12, 0, 1]);
-        answers(&table, 8, 248);
+        table_gives(&table, 8, 248);
         table.truncate(248);
         table.extend([13, 199, 0]);
-        answers(&table, 9, 250);
-        answers(&table[..250], 0, 0);
+        table_gives(&table, 9, 250);
+        table_gives(&table[..250], 0, 0);
         table.resize(100_000, 0);
-        answers(&table, 9, 250);
+        table_gives(&table, 9, 250);
+    }
+
+    #[test]
+    fn an_opening_writes_the_hall_and_nothing_beside_it() {
+        let mut buffer = vec![170; HALL_BYTES + 2];
+        sets_the_place(
+            |at| open_hall(&TABLE, &mut buffer[1..=HALL_BYTES], at),
+            0,
+            0,
+        );
+        assert_eq!((buffer[0], buffer[HALL_BYTES + 1]), (170, 170));
+        let mut hall = vec![0; HALL_BYTES];
+        hall[0] = 1;
+        hall[16..18].copy_from_slice(&[20, 3]);
+        assert_eq!(buffer[1..=HALL_BYTES], hall);
+    }
+
+    #[test]
+    fn a_refused_opening_sets_the_place_and_writes_nothing() {
+        let mut hall = vec![170; HALL_BYTES + 1];
+        sets_the_place(|at| open_hall(&TABLE, &mut hall, at), 10, 0);
+        let hall = &mut hall[..HALL_BYTES];
+        sets_the_place(|at| open_hall(&TABLE[..13], hall, at), 2, 12);
+        sets_the_place(|at| open_hall(&TABLE[..12], hall, at), 9, 12);
+        assert!(hall.iter().all(|byte| *byte == 170));
+    }
+
+    #[test]
+    fn a_checked_hall_sets_the_place_and_writes_nothing() {
+        let mut hall = vec![0; HALL_BYTES];
+        hall[16..18].copy_from_slice(&[20, 3]);
+        let before = hall.clone();
+        sets_the_place(|at| check_hall(&TABLE, &hall, at), 0, 0);
+        sets_the_place(|at| check_hall(&TABLE, &hall[1..], at), 10, 0);
+        sets_the_place(|at| check_hall(&TABLE[..13], &hall, at), 2, 12);
+        assert_eq!(hall, before);
+        hall[17] = 0;
+        sets_the_place(|at| check_hall(&TABLE, &hall, at), 11, 0);
+    }
+
+    #[test]
+    fn the_fresh_tally_is_three_zeros() {
+        assert_eq!(fresh_tally(), [0, 0, 0]);
     }
 }

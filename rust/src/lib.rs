@@ -2,8 +2,7 @@
 //!
 //! The engine is a static library, `libruonfidd.a`, that is proved to answer
 //! as the scope's definitions say. This package links it and adds nothing to
-//! its answers: each function here is one call of the library, with its
-//! number and place turned into a [`Result`].
+//! its answers: only its number and its place become a [`Result`].
 //!
 //! # Linking
 //!
@@ -16,32 +15,45 @@
 //! # What a call may be relied on for
 //!
 //! - It takes any bytes. There is no input on which it stops the program.
-//! - It keeps nothing from one call to the next, allocates nothing and needs
-//!   little stack, so any thread may call it at any time.
+//! - It keeps nothing from one call to the next and needs little stack, so any
+//!   thread may call it at any time. A [`Hall`] owns memory for its bytes;
+//!   nothing else is allocated.
 //! - The same bytes always get the same answer.
 //!
 //! # Example
 //!
 //! ```
-//! use ruonfidd::{check_table, Refusal};
+//! use ruonfidd::{check_table, Hall, Refusal};
 //!
 //! // A block that reads a token from tray 0 and writes one to tray 1; tray 0
 //! // holds one token.
 //! let mut table = vec![7, 10, 1, 0, 9, 0, 1, 6, 2, 12, 0, 1, 13, 3];
 //! assert_eq!(check_table(&table), Ok(()));
 //!
+//! // A hall of this table: one token in tray 0, one station.
+//! let (hall, tally) = Hall::open(&table).unwrap();
+//! assert_eq!(hall.counts()[0], 1);
+//! assert_eq!(tally.commits, 0);
+//!
 //! // The start record now names a term that does not exist.
 //! table[13] = 4;
-//! assert_eq!(check_table(&table), Err(Refusal { number: 5, place: 12 }));
+//! let refusal = check_table(&table).unwrap_err();
+//! assert_eq!(refusal.number, Refusal::NOT_EARLIER);
+//! assert_eq!(refusal.place, 12);
 //! ```
 
-#![deny(unsafe_code)]
-#![warn(missing_docs)]
-
-mod ffi;
+#[doc(hidden)]
+pub mod ffi;
+mod hall;
 mod refusal;
+mod tally;
 
+pub use hall::Hall;
 pub use refusal::Refusal;
+pub use tally::Tally;
+
+/// The length of a stored hall.
+pub const HALL_BYTES: usize = 11_344;
 
 /// Whether a rule table is accepted.
 ///
@@ -54,8 +66,10 @@ pub use refusal::Refusal;
 /// place mean.
 ///
 /// ```
+/// use ruonfidd::Refusal;
+///
 /// let refusal = ruonfidd::check_table(&[1, 2, 16]).unwrap_err();
-/// assert_eq!((refusal.number, refusal.place), (4, 1));
+/// assert_eq!((refusal.number, refusal.place), (Refusal::UNKNOWN_TRAY, 1));
 /// assert_eq!(refusal.reason(), "a tray above 15");
 /// ```
 pub fn check_table(table: &[u8]) -> Result<(), Refusal> {
@@ -64,36 +78,8 @@ pub fn check_table(table: &[u8]) -> Result<(), Refusal> {
     Refusal::unless_zero(number, place)
 }
 
-/// The length of a stored hall.
-pub const HALL_BYTES: usize = 11_344;
-
-/// How many blocks were committed, how many commits failed, how many attempts
-/// ended in retry.
-#[derive(Clone, Copy, Debug, PartialEq, Eq, Hash)]
-pub struct Tally {
-    /// Blocks committed.
-    pub commits: u32,
-    /// Attempts whose commit found too little.
-    pub failed: u32,
-    /// Attempts that ended in retry.
-    pub retries: u32,
-}
-
-impl Tally {
-    /// The tally of a hall just opened.
-    #[must_use]
-    pub fn fresh() -> Tally {
-        let [commits, failed, retries] = ffi::fresh_tally();
-        Tally {
-            commits,
-            failed,
-            retries,
-        }
-    }
-}
-
-/// Opens a hall from a rule table, whatever stood in it, and gives the fresh
-/// tally.
+/// Opens a hall from a rule table in lent memory, whatever stood there, and
+/// gives the fresh tally. [`Hall::open`] brings its own memory.
 ///
 /// # Errors
 ///
@@ -117,7 +103,8 @@ pub fn open_hall(table: &[u8], hall: &mut [u8]) -> Result<Tally, Refusal> {
     Refusal::unless_zero(number, place).map(|()| Tally::fresh())
 }
 
-/// Whether a stored hall is well formed for a rule table.
+/// Whether a stored hall is well formed for a rule table. [`Hall::from_bytes`]
+/// keeps the bytes too.
 ///
 /// # Errors
 ///

@@ -1,6 +1,6 @@
 // The counters (document 01's tally): how many transactions committed, failed at their commit, and ended in retry.
 ghost use mathlib.Core.Path.{_≡_};
-ghost use Rattle.semantics.specs.Run.{freshCounters};
+ghost use Rattle.semantics.specs.Definitions.Run.{freshCounters};
 ghost use Rattle.counters.specs.Counted.{countersOf};
 
 pub struct Counters {

@@ -1,3 +1,2 @@
--- The laws of laying down components, over lists of bytes and of terms.
-pub mod Written
-pub mod Laws
+pub mod Components
+pub mod Opening

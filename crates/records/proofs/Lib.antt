@@ -1,1 +1,2 @@
-pub mod Laws
+pub mod Shapes
+pub mod FieldTests

@@ -1,60 +1,181 @@
-// Drawing the records of a rule table: what stands at an offset of the table's bytes.
+// The records of a rule table: their kinds, what follows each kind's byte, parsing one at an offset, and the tests on
+// one field that need no earlier term.
+use buffer::byte_at;
+use buffer::wide;
 ghost use mathlib.Core.Path.{_≡_};
+ghost use mathlib.Core.List.{List};
 ghost use Prim.Native.Nat.{_<_};
-ghost use lib.ListN.{getD};
-ghost use Rattle.records.specs.Record.{bodyLength, drawn};
+ghost use lib.ListN.{length, getElem?};
+ghost use Rattle.semantics.specs.Definitions.Terms.{Term};
+ghost use Rattle.semantics.specs.Definitions.Table.{channelOutOfRange, forwardReference};
+ghost use Rattle.records.specs.Shapes.{bodyOf, fieldFrom, failsAt};
+ghost use Rattle.records.specs.Parsing.{ParsedAs};
 
-// How many bytes of body follow a kind; there is no kind 0.
-const BODY_LENGTHS: [u8; 14] = [0, 0, 1, 2, 2, 2, 1, 0, 0, 2, 2, 2, 2, 1];
+// The kinds: processes, expressions, and the two that are no terms.
+pub const NIL: u8 = 1;
 
-// What stands at an offset.
-pub enum Drawn {
+pub const PUT: u8 = 2;
+
+pub const TAKE: u8 = 3;
+
+pub const REPEATED_TAKE: u8 = 4;
+
+pub const PAR: u8 = 5;
+
+pub const ATOM: u8 = 6;
+
+pub const END: u8 = 7;
+
+pub const RETRY: u8 = 8;
+
+pub const RD: u8 = 9;
+
+pub const WT: u8 = 10;
+
+pub const OR_ELSE: u8 = 11;
+
+pub const TOKENS: u8 = 12;
+
+pub const START: u8 = 13;
+
+// One more than the last kind.
+const KINDS: usize = 14;
+
+// Channels are numbered below it.
+pub const CHANNELS: usize = 16;
+
+// What a byte of a body is.
+pub const NO_FIELD: u8 = 0;
+
+pub const CHANNEL: u8 = 1;
+
+pub const PROCESS: u8 = 2;
+
+pub const EXPRESSION: u8 = 3;
+
+pub const COUNT: u8 = 4;
+
+// The shapes of the bodies, by kind (there is no kind 0): how long each is, and what its first and its second byte are.
+const BODY_LENGTHS: [u8; KINDS] = [0, 0, 1, 2, 2, 2, 1, 0, 0, 2, 2, 2, 2, 1];
+
+const FIRST_FIELDS: [u8; KINDS] = [
+    NO_FIELD,
+    NO_FIELD,
+    CHANNEL,
+    CHANNEL,
+    CHANNEL,
+    PROCESS,
+    EXPRESSION,
+    NO_FIELD,
+    NO_FIELD,
+    CHANNEL,
+    CHANNEL,
+    EXPRESSION,
+    CHANNEL,
+    PROCESS,
+];
+
+const SECOND_FIELDS: [u8; KINDS] = [
+    NO_FIELD,
+    NO_FIELD,
+    NO_FIELD,
+    PROCESS,
+    PROCESS,
+    PROCESS,
+    NO_FIELD,
+    NO_FIELD,
+    NO_FIELD,
+    EXPRESSION,
+    EXPRESSION,
+    EXPRESSION,
+    COUNT,
+    NO_FIELD,
+];
+
+// A record: its kind, the two bytes behind the kind (0 past the table's end), which are its body where that has as
+// many, and the offset behind it.
+pub struct Record {
+    pub kind: u8,
+    pub first: u8,
+    pub second: u8,
+    pub next: usize,
+}
+
+// What stands at an offset of a table's bytes.
+pub enum Parsed {
     // No byte is left.
     End,
-    // The byte is no kind.
-    Unknown,
+    UnknownKind,
     // The kind's body runs past the table's end.
-    Short,
-    // A whole record. `first` and `second` are the two bytes behind the kind, 0 past the end: the body, where it has as many.
-    // `next` is the offset behind the record.
-    Record {
-        kind: u8,
-        first: u8,
-        second: u8,
-        next: usize,
-    },
+    CutShort,
+    Whole(Record),
 }
 
 fn body_length(kind: u8) -> usize
     requires { ⌜ kind < 14 ⌝ }
-    ensures { λ r. ⌜ r ≡ bodyLength kind ⌝ }
+    ensures { λ r. ⌜ r ≡ length (bodyOf kind) ⌝ }
 {
-    splice::wide(BODY_LENGTHS[splice::wide(kind)])
+    wide(BODY_LENGTHS[wide(kind)])
 }
 
-pub fn draw(table: &[u8], at: usize) -> Drawn
-    ensures { λ r. ⌜ r ≡ drawn (now (table .entry)) at ⌝ }
+pub fn first_field(kind: u8) -> u8
+    requires { ⌜ kind < 14 ⌝ }
+    ensures { λ r. ⌜ fieldFrom r ≡ getElem? (bodyOf kind) 0 ⌝ }
+{
+    FIRST_FIELDS[wide(kind)]
+}
+
+pub fn second_field(kind: u8) -> u8
+    requires { ⌜ kind < 14 ⌝ }
+    ensures { λ r. ⌜ fieldFrom r ≡ getElem? (bodyOf kind) 1 ⌝ }
+{
+    SECOND_FIELDS[wide(kind)]
+}
+
+pub fn parse(table: &[u8], at: usize) -> Parsed
+    ensures { λ r. ⌜ ParsedAs (now (table .entry)) at r ⌝ }
 {
     if table.len() <= at {
-        return Drawn::End;
+        return Parsed::End;
     }
     let kind = table[at];
     if kind == 0 {
-        return Drawn::Unknown;
+        return Parsed::UnknownKind;
     }
-    if 13 < kind {
-        return Drawn::Unknown;
+    if START < kind {
+        return Parsed::UnknownKind;
     }
     let next = at + 1 + body_length(kind);
     if table.len() < next {
-        return Drawn::Short;
+        return Parsed::CutShort;
     }
-    let first = splice::byte_at(table, at + 1);
-    let second = splice::byte_at(table, at + 2);
-    Drawn::Record {
+    let first = byte_at(table, at + 1);
+    let second = byte_at(table, at + 2);
+    Parsed::Whole(Record {
         kind,
         first,
         second,
         next,
+    })
+}
+
+// 4, on one field: a channel that no hall has.
+pub fn channel_out_of_range(field: u8, byte: u8) -> bool
+    ensures { λ r. ⌜ r ≡ failsAt channelOutOfRange (fieldFrom field) byte ⌝ }
+{
+    if field == CHANNEL {
+        CHANNELS <= wide(byte)
+    } else {
+        false
+    }
+}
+
+// 5, on one field: a reference that is not to one of the terms so far.
+pub fn forward_reference(terms: usize, field: u8, byte: u8) -> bool
+    ensures { λ r. ⌜ ((ts : List Term) → length ts ≡ terms → r ≡ failsAt (forwardReference ts) (fieldFrom field) byte) ⌝ }
+{
+    match field {
+        PROCESS | EXPRESSION => terms <= wide(byte),
+        _ => false,
     }
 }

@@ -3,15 +3,16 @@
 use Prim.Native.Nat.{ℕ}
 use mathlib.Core.Path.{_≡_}
 use mathlib.Core.List.{List, [], _∷_}
-use Rattle.semantics.specs.Run.{Counters}
-use Rattle.semantics.specs.Calls.{Verdict, Opening, openVerdict}
+use Rattle.semantics.specs.Definitions.Run.{Counters}
+use Rattle.semantics.specs.Definitions.Calls.{Verdict, rejected, verdictNumber, verdictPlace, Opening, openVerdict}
 
+-- these two numbers, told as they are
 abbrev pub verdict : (number place : ℕ) → Verdict
-verdict n p = record { number = n; place = p }
+verdict n p = rejected n p
 
 pub record Told (v : Verdict) (returned set : ℕ) : Type 0 where
-  pub number : returned ≡ v .number
-  pub place : set ≡ v .place
+  pub number : returned ≡ verdictNumber v
+  pub place : set ≡ verdictPlace v
 
 -- an opening: its verdict, and every byte of the lent hall afterwards
 pub record OpenTold (o : Opening) (returned set : ℕ) (hall : List ℕ) : Type 0 where

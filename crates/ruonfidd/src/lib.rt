@@ -8,12 +8,12 @@
 //     void ruonfidd_fresh_tally(uint32_t tally[3]);
 //     extern "C" { fn ruonfidd_check_table(table: *const u8, length: usize, place: *mut usize) -> u8; }
 use counters::Counters;
-use halls::HallVerdict;
-use halls::OpenAnswer;
+use engine::HallVerdict;
+use engine::OpenAnswer;
 use table::TableVerdict;
 ghost use mathlib.Core.Path.{_≡_};
-ghost use Rattle.semantics.specs.Run.{freshCounters};
-ghost use Rattle.semantics.specs.Calls.{checkTable, checkHall, openHall};
+ghost use Rattle.semantics.specs.Definitions.Run.{freshCounters};
+ghost use Rattle.semantics.specs.Definitions.Calls.{checkTable, checkHall, openHall};
 ghost use Rattle.ruonfidd.specs.Told.{verdict, Told, OpenTold, tallyWords};
 
 // A number to return, with its place set.
@@ -41,7 +41,7 @@ pub extern "C" fn ruonfidd_check_table(table: &[u8], place: &mut usize) -> u8
 pub extern "C" fn ruonfidd_open_hall(table: &[u8], hall: &mut [u8], place: &mut usize) -> u8
     ensures { λ r. ⌜ OpenTold (openHall (now (table .entry)) (now (hall .entry))) r (now (place .exit)) (now (hall .exit)) ⌝ }
 {
-    match halls::open_hall(table, hall) {
+    match engine::open_hall(table, hall) {
         OpenAnswer::Opened(_) => told(place, 0, 0),
         OpenAnswer::Refused { number, place: at } => told(place, number, at),
     }
@@ -52,7 +52,7 @@ pub extern "C" fn ruonfidd_open_hall(table: &[u8], hall: &mut [u8], place: &mut 
 pub extern "C" fn ruonfidd_check_hall(table: &[u8], hall: &[u8], place: &mut usize) -> u8
     ensures { λ r. ⌜ Told (checkHall (now (table .entry)) (now (hall .entry))) r (now (place .exit)) ⌝ }
 {
-    match halls::check_hall(table, hall) {
+    match engine::check_hall(table, hall) {
         HallVerdict::WellFormed => told(place, 0, 0),
         HallVerdict::Refused { number, place: at } => told(place, number, at),
     }

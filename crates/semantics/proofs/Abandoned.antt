@@ -1,634 +1,487 @@
--- Abandoned attempts never happened (document 01, "The one-step run"): from a history without its abandoned attempts' choices the
--- same configuration is reached, by the same effects in the same order, and nothing abandoned is left in it.
+-- Abandoned attempts never happened (document 01, "The one-step run"): from a history without its abandoned attempts'
+-- choices the same configuration is reached, by the same effects in the same order, and nothing abandoned is left in
+-- it.
 --
--- The run without those choices stands, at each point, where the full run stands with every attempt that will be abandoned read
--- as its block not begun.
+-- The run without those choices stands, at each point, where the full run stands with every attempt that is to be
+-- abandoned read as its block not begun. That an attempt is abandoned is known from its number, because an attempt
+-- ends at most once.
 -- Assumes nothing.
-use Prim.Native.Nat.{ℕ, zero, suc, _+_, _-_, _<_}
-use mathlib.Core.Path.{_≡_, refl, sym, ap, ap₂, subst, _∙_}
-use mathlib.Core.Bool.{Bool, true, false, cond, true≢false}
-use mathlib.Core.Option.{Option, none, some, Option·map}
-use mathlib.Core.List.{List, [], _∷_, _++_, map}
+use Prim.Native.Nat.{ℕ, zero, suc, _+_, _≤_, _<_}
 use native.Mathlib.Omega.{arith}
-use lib.ListN.{length, getElem?}
+use native.Mathlib.Decide.{ℕ-discrete, decLt}
+use mathlib.Core.Path.{_≡_, refl, sym, ap, subst, _∙_}
+use mathlib.Core.Bool.{Bool, true, false, cond, _||_, true≢false}
+use mathlib.Core.Option.{some, Option·elim}
+use mathlib.Core.List.{List, [], _∷_, _++_, map, map-map}
+use lib.ListN.{length, getElem?, length-map}
 use lib.Dec.{leb, eqb}
-use borrow.Author.Tests.{le-leb, lt-leb, ne-eqb, eq-eqb}
-use Rattle.calculus.specs.Syntax.{Name, Log, State}
-use Rattle.calculus.specs.Reduction.{Rule, OUT, IN, REP, ATST, ATRE, ATFAIL, ATOK, ARDOK, ARDF, AWR, AOI, AOF, AOE}
-use Rattle.calculus.specs.State.{count, without}
-use Rattle.calculus.specs.Log.{RD, WT}
-use Rattle.semantics.specs.Basics.{All, replaceAt}
-use Rattle.semantics.specs.Terms.{Expression, endT, retryT, rdT, wtT, orElseT}
-use Rattle.semantics.specs.Table.{Table}
-use Rattle.semantics.specs.Stored.{bytesOf}
-use Rattle.semantics.specs.Logs.{emptyLog, readable, gained, spent}
-use Rattle.semantics.specs.Configuration.{Idle, taking, repeating, block, output, Tree, leaf, fork, Component, idle, transaction, Configuration, opens, opening}
-use Rattle.semantics.specs.Moves.{Entry, act, inside, moves, stays, takes, puts, commits, acts, Inner, evolves, resting, past, inner, innerLocal, actsInside, Answer, moved, refused, settles, at, choose}
-use Rattle.semantics.specs.Run.{Counters, counted, Step, steps, stepsOn}
-use Rattle.semantics.specs.AtomicRun.{atomicStart}
-use Rattle.semantics.specs.Calls.{Call}
-use Rattle.semantics.specs.History.{laid, doomed, abandons, opensOne, abandonedBy, kept, effect, effects}
-use Rattle.semantics.specs.Atomicity.{lastOf, finishes, done, history, atomic, atomicKept, historyKept}
-use Rattle.semantics.proofs.Lists.{found-below, length-replaceAt, replaceAt-same}
-use Rattle.semantics.proofs.Moves.{positionOf, localMove, chosen-at}
-use Rattle.semantics.proofs.InnerMoves.{InnerRule, ByInnerRule, inner-rule}
-use Rattle.semantics.proofs.Simulation.{related-stations, opening-related}
-use Rattle.semantics.proofs.Runs.{Runs, rested, ran, runs-steps, tallied, runs-related}
-use Rattle.semantics.proofs.CallsAsOne.{Forward}
+use borrow.Author.Tests.{lt-leb, eq-eqb, ne-eqb}
+use Rattle.calculus.specs.Syntax.{State}
+use Rattle.calculus.specs.State.{same, occurrences}
+use Rattle.calculus.specs.Log.{WT}
+use Rattle.calculus.specs.Reduction.{Rule}
+use Rattle.calculus.proofs.States.{same-self, same-other}
+use Rattle.semantics.specs.Definitions.Basics.{All, replaceAt}
+use mathlib.Core.Option.{bind}
+use Rattle.semantics.specs.Definitions.Table.{Table}
+use Rattle.semantics.specs.Definitions.Configuration.{Idle, repeating, block, output, Component, idle, transaction, Configuration, opens, opening}
+use Rattle.semantics.specs.Definitions.Moves.{Entry, act, inside, moved, answerTo, moves, ruleNumber}
+use Rattle.semantics.specs.Definitions.Run.{Counters, counted, Step, steps}
+use Rattle.semantics.specs.Claims.NumberedRun.{Numbered, numberedStart, numberedStep, attemptOf, Member, members, aborts, passing, aborted, withoutAborted, effects}
+use Rattle.semantics.proofs.Reading.{or-false}
+use Rattle.semantics.proofs.Lists.{none-found, found-map, map-replaceAt, replaceAt-same}
+use Rattle.semantics.proofs.Moves.{positionOf, localMove, accepted-made}
+use Rattle.semantics.proofs.Runs.{Runs, rested, ran, tallied}
+use Rattle.semantics.proofs.Simulation.{Live, rests, tries, component, noted, Stepped, put, took, repeated, began, retried, failed, committed, evolved, Paced, paced-step, opening-paced}
 
--- ---- attempts read as not begun
+-- ---- a run with its members
 
--- a component, read as not begun where the first argument says so
-unfoldable pub clear : Bool → Component → Component
-clear true (idle c) = idle c
-clear true (transaction n M s t) = idle (block n M)
-clear false c = c
+-- the attempt that choice number j belongs to, at a component
+abbrev attempt : ℕ → Live → ℕ
+attempt j (rests c) = j
+attempt j (tries i n M s u) = i
 
--- the same of each component, by its position
-unfoldable pub cleared : (ℕ → Bool) → List Component → List Component
-unfolding clear
-cleared d [] = []
-cleared d (c ∷ cs) = clear (d 0) c ∷ cleared (λ j. d (suc j)) cs
+-- choices done from number j on, with the component that each changes and what it lays down
+data Trace : ℕ → Configuration → List Live → List Member → Configuration → List Live → Type 0 where
+  ended : {j : ℕ} {h : Configuration} {zs : List Live} → h .components ≡ map component zs → Trace j h zs [] h zs
+  next : {j : ℕ} {h f g : Configuration} {zs ws : List Live} {ms : List Member} (e : Entry) (r : Rule) (z : Live) (laid : List Live) →
+      getElem? zs (positionOf e) ≡ some z → Stepped (h .counts) j z e r (f .counts) laid →
+      localMove (h .counts) (component z) e ≡ moves r (f .counts) (map component laid) →
+      length (replaceAt (positionOf e) laid zs) ≤ 64 →
+      Trace (suc j) f (replaceAt (positionOf e) laid zs) ms g ws →
+      Trace j h zs (record { step = record { chosen = e; rule = r; before = h; result = f }; attempt = attempt j z } ∷ ms) g ws
 
--- an idle component stays in any case
-clear-idle : (b : Bool) (c : Idle) → clear b (idle c) ≡ idle c
-unfolding clear
-clear-idle true c = refl
-clear-idle false c = refl
+-- the attempt is the one of the note
+note-number : (j : ℕ) (z : Live) → Option·elim ((noted z) .note) j (λ m. m .opened) ≡ attempt j z
+unfolding Option·elim
+note-number j (rests c) = refl
+note-number j (tries i n M s u) = refl
 
--- where nothing is said to be cleared nothing is
-cleared-none : (cs : List Component) → cleared (λ j. false) cs ≡ cs
-unfolding cleared
-cleared-none [] = refl
-cleared-none (c ∷ cs) = ap (_∷_ c) (cleared-none cs)
+attempt-of : (a : Numbered) (e : Entry) (z : Live) → getElem? (a .run .stations) (positionOf e) ≡ some (noted z) →
+    attemptOf a e ≡ attempt (a .next) z
+unfolding attemptOf positionOf bind
+attempt-of a (act p) z f = ap (λ o. Option·elim (bind o (λ x. x .note)) (a .next) (λ m. m .opened)) f ∙ note-number (a .next) z
+attempt-of a (inside p k) z f = ap (λ o. Option·elim (bind o (λ x. x .note)) (a .next) (λ m. m .opened)) f ∙ note-number (a .next) z
 
--- idle components stay
-cleared-idle : {A : Type 0} (d : ℕ → Bool) (f : A → Idle) (xs : List A) → cleared d (map (λ x. idle (f x)) xs) ≡ map (λ x. idle (f x)) xs
-unfolding cleared
-cleared-idle d f [] = refl
-cleared-idle d f (x ∷ xs) = ap₂ _∷_ (clear-idle (d 0) (f x)) (cleared-idle (λ j. d (suc j)) f xs)
+-- accepted choices are such a run
+trace : {h g : Configuration} {es : List Entry} → Runs h es g → (a : Numbered) (zs : List Live) → Paced h a zs →
+    (ws : List Live) × Trace (a .next) h zs (members a (steps h es)) g ws
+unfolding members steps numberedStep
+trace rested a zs pace = (zs, ended (pace .components))
+trace (ran {h = h} {f = f} {e = e} r q x) a zs pace =
+    let s = paced-step h a zs e r f pace q in
+    let rest = trace x (numberedStep a e) (replaceAt (positionOf e) (s .laid) zs) (s .paced) in
+    let here : attemptOf a e ≡ attempt (a .next) (s .one) = attempt-of a e (s .one) (s .station) in
+    (rest .0, rw (q, here) (next e r (s .one) (s .laid) (s .found) (s .stepped) (s .local) (s .fits) (rest .1)))
 
--- how many they are, and which one stands at a position
-cleared-length : (d : ℕ → Bool) (cs : List Component) → length (cleared d cs) ≡ length cs
-unfolding cleared
-cleared-length d [] = refl
-cleared-length d (c ∷ cs) = ap suc (cleared-length (λ j. d (suc j)) cs)
+-- ---- each attempt ends at most once
 
-cleared-at : (d : ℕ → Bool) (cs : List Component) (p : ℕ) → getElem? (cleared d cs) p ≡ Option·map (clear (d p)) (getElem? cs p)
-unfolding cleared
-cleared-at d [] p = refl
-cleared-at d (c ∷ cs) zero = refl
-cleared-at d (c ∷ cs) (suc p) = cleared-at (λ j. d (suc j)) cs p
+-- the numbers of the open attempts
+abbrev numbersOf : List Live → List ℕ
+numbersOf [] = []
+numbersOf (rests c ∷ zs) = numbersOf zs
+numbersOf (tries i n M s u ∷ zs) = i ∷ numbersOf zs
 
--- two ways to say what is cleared that agree
-cleared-agree : (d e : ℕ → Bool) → ((q : ℕ) → d q ≡ e q) → (cs : List Component) → cleared d cs ≡ cleared e cs
-unfolding cleared
-cleared-agree d e h [] = refl
-cleared-agree d e h (c ∷ cs) = ap₂ _∷_ (ap (λ b. clear b c) (h 0)) (cleared-agree (λ j. d (suc j)) (λ j. e (suc j)) (λ q. h (suc q)) cs)
+-- how often attempt number i is open
+abbrev times : ℕ → List Live → ℕ
+times i zs = occurrences i (numbersOf zs)
 
--- of two lists, the second by its own positions
-cleared-append : (d e : ℕ → Bool) (ys xs : List Component) → ((q : ℕ) → e q ≡ d (q + length ys)) →
-    cleared d (ys ++ xs) ≡ cleared d ys ++ cleared e xs
-unfolding cleared
-cleared-append d e [] xs h = cleared-agree d e (λ q. let k : q ≡ q + 0 = omega arith in ap d k ∙ sym (h q)) xs
-cleared-append d e (y ∷ ys) xs h =
-    ap (_∷_ (clear (d 0) y)) (cleared-append (λ j. d (suc j)) e ys xs (λ q. let k : q + suc (length ys) ≡ suc (q + length ys) = omega arith in h q ∙ ap d k))
+times-append : (i : ℕ) (xs ys : List Live) → times i (xs ++ ys) ≡ times i xs + times i ys
+unfolding occurrences
+times-append i [] ys = omega arith
+times-append i (rests c ∷ xs) ys = times-append i xs ys
+times-append i (tries k n M s u ∷ xs) ys = let h = times-append i xs ys in omega arith
 
--- clearing goes with a replacement, where what is said before it agrees with what is said after it
-cleared-replace : (d e : ℕ → Bool) (p : ℕ) (ys xs : List Component) →
-    ((q : ℕ) → q < p → e q ≡ d q) → ((q : ℕ) → p < q → e q ≡ d (q + length ys - 1)) →
-    cleared d (replaceAt p ys xs) ≡ replaceAt p (cleared (λ j. d (p + j)) ys) (cleared e xs)
-unfolding cleared replaceAt
-cleared-replace d e p ys [] before behind = refl
-cleared-replace d e zero ys (x ∷ xs) before behind =
-    cleared-append d (λ j. e (suc j)) ys xs (λ q. let k : suc q + length ys - 1 ≡ q + length ys = omega arith in behind (suc q) (omega arith) ∙ ap d k)
-    ∙ ap
-    (λ zs. zs ++ cleared (λ j. e (suc j)) xs)
-    (cleared-agree d (λ j. d (0 + j)) (λ q. let k : q ≡ 0 + q = omega arith in ap d k) ys)
-cleared-replace d e (suc p) ys (x ∷ xs) before behind =
-    ap₂
-    _∷_
-    (ap (λ b. clear b x) (sym (before 0 (omega arith))))
-    (cleared-replace
-    (λ j. d (suc j))
-    (λ j. e (suc j))
-    p
-    ys
-    xs
-    (λ q h. before (suc q) (omega arith))
-    (λ q h. let k : suc q + length ys - 1 ≡ suc (q + length ys - 1) = omega arith in behind (suc q) (omega arith) ∙ ap d k)
-    ∙ ap
-    (λ zs. replaceAt p zs (cleared (λ j. e (suc j)) xs))
-    (cleared-agree (λ j. d (suc (p + j))) (λ j. d (suc p + j)) (λ q. let k : suc (p + q) ≡ suc p + q = omega arith in ap d k) ys))
+times-idle : (i : ℕ) (cs : List Idle) → times i (map rests cs) ≡ 0
+unfolding occurrences
+times-idle i [] = refl
+times-idle i (c ∷ cs) = times-idle i cs
 
--- ---- one step
+-- after a replacement
+times-replace : (i p : ℕ) (laid zs : List Live) (z : Live) → getElem? zs p ≡ some z →
+    times i (replaceAt p laid zs) + times i (z ∷ []) ≡ times i laid + times i zs
+unfolding replaceAt
+times-replace i p laid [] z f = absurd (none-found p z f)
+times-replace i zero laid (x ∷ zs) z f =
+    let same : x ≡ z = cc in
+    rw same (let a = times-append i laid zs in let b = times-append i (z ∷ []) zs in omega arith)
+times-replace i (suc p) laid (x ∷ zs) z f =
+    let h = times-replace i p laid zs z f in
+    let a = times-append i (x ∷ []) (replaceAt p laid zs) in let b = times-append i (x ∷ []) zs in omega arith
 
--- a configuration with the attempts that the future abandons read as not begun
-unfoldable pub clearedBy : List Step → Configuration → Configuration
-unfolding cleared doomed
-clearedBy future h = record { counts = h .counts; components = cleared (λ q. doomed q future) (h .components) }
+-- no number is open twice, and none from j on
+abbrev Numbers : ℕ → List Live → Type 0
+Numbers j zs = (i : ℕ) → (times i zs ≤ 1) × (j ≤ i → times i zs ≡ 0)
 
--- what is said of a position before a step, against what is said of the position that its component has afterwards
-doomed-before : (s : Step) (future : List Step) (p q : ℕ) → s .chosen ≡ act p → q < p → doomed q (s ∷ future) ≡ doomed q future
-unfolding doomed
-doomed-before s future p q e h = rw (e, le-leb (suc q) p h)
+-- what a step lays down is open already, but for the attempt that it opens
+stepped-times : {σ : State} {j : ℕ} {z : Live} {e : Entry} {r : Rule} {σ′ : State} {laid : List Live} →
+    Stepped σ j z e r σ′ laid → (i : ℕ) →
+    times i laid ≤ times i (z ∷ []) + same i j
+unfolding occurrences
+stepped-times (put p a) i = omega arith
+stepped-times (took p n a P) i = let h = times-idle i (opens P) in omega arith
+stepped-times (repeated p n a P) i = let h = times-idle i (opens P ++ (repeating n a P ∷ [])) in omega arith
+stepped-times (began p n M) i = omega arith
+stepped-times (retried p k n M s x δ) i = omega arith
+stepped-times (failed p k n M s x δ now) i = omega arith
+stepped-times (committed p k n M s x δ now) i = let h = times-idle i (map output (WT δ)) in omega arith
+stepped-times (evolved p m k n M s u w x q late) i = omega arith
 
-doomed-here : (s : Step) (future : List Step) (p : ℕ) → s .chosen ≡ act p → doomed p (s ∷ future) ≡ abandons (s .rule)
-unfolding doomed
-doomed-here s future p e = rw (e, lt-leb (suc p) p (omega arith), eq-eqb p p refl)
+-- the rules that have an effect
+abbrev acting : Rule → Bool
+acting r = leb (ruleNumber r) 3 || eqb (ruleNumber r) 7
 
-doomed-behind : (s : Step) (future : List Step) (p q : ℕ) → s .chosen ≡ act p → p < q → doomed q (s ∷ future) ≡ doomed (q + laid s - 1) future
-unfolding doomed
-doomed-behind s future p q e h = rw (e, lt-leb (suc q) p (omega arith), ne-eqb q p (λ k. omega arith))
+-- three kinds of steps: with an effect, an end of an attempt without one, and a step on the way of an attempt; the
+-- first two leave no attempt open in their place
+data Kind (r : Rule) (laid : List Live) : Type 0 where
+  effective : acting r ≡ true → aborts r ≡ false → ((i : ℕ) → times i laid ≡ 0) → Kind r laid
+  abandoning : acting r ≡ false → aborts r ≡ true → ((i : ℕ) → times i laid ≡ 0) → Kind r laid
+  inward : acting r ≡ false → aborts r ≡ false → Kind r laid
 
--- the step by a rule at an entry
-abbrev stepBy : Configuration → Entry → Rule → Configuration → Step
-stepBy h e r f = record { chosen = e; rule = r; before = h; result = f }
+stepped-kind : {σ : State} {j : ℕ} {z : Live} {e : Entry} {r : Rule} {σ′ : State} {laid : List Live} →
+    Stepped σ j z e r σ′ laid → Kind r laid
+unfolding ruleNumber aborts occurrences
+stepped-kind (put p a) = effective refl refl (λ i. refl)
+stepped-kind (took p n a P) = effective refl refl (λ i. times-idle i (opens P))
+stepped-kind (repeated p n a P) = effective refl refl (λ i. times-idle i (opens P ++ (repeating n a P ∷ [])))
+stepped-kind (began p n M) = inward refl refl
+stepped-kind (retried p k n M s x δ) = abandoning refl refl (λ i. refl)
+stepped-kind (failed p k n M s x δ now) = abandoning refl refl (λ i. refl)
+stepped-kind (committed p k n M s x δ now) = effective refl refl (λ i. times-idle i (map output (WT δ)))
+stepped-kind (evolved p m k n M s u w x q late) =
+    inward
+    (rw (lt-leb (ruleNumber x) 3 (omega arith), ne-eqb (ruleNumber x) 7 (λ e. omega arith)))
+    (rw (ne-eqb (ruleNumber x) 5 (λ e. omega arith), ne-eqb (ruleNumber x) 6 (λ e. omega arith)))
 
--- what a step is in the run without abandoned attempts: nothing, where it belongs to one, else the same step, by a rule that
--- abandons nothing
-abbrev Shadow : Configuration → Entry → List Step → Rule → Configuration → Bool → Type 0
-Shadow h e future r f true = (clearedBy (stepBy h e r f ∷ future) h ≡ clearedBy future f) × (effect r ≡ [])
-Shadow h e future r f false = (choose (clearedBy (stepBy h e r f ∷ future) h) e ≡ moved r (clearedBy future f)) × (abandons r ≡ false)
-
-abbrev Shadows : Configuration → Entry → List Step → Answer → Type 0
-Shadows h e future (moved r f) = Shadow h e future r f (abandonedBy r e future)
-Shadows h e future (refused n) = Unit {0}
-
--- an act that belongs to no abandoned attempt abandons nothing
-kept-abandons-none : (r : Rule) (p : ℕ) (future : List Step) → abandonedBy r (act p) future ≡ false → abandons r ≡ false
-unfolding abandonedBy
-kept-abandons-none (OUT a) p future e = refl
-kept-abandons-none (IN a) p future e = refl
-kept-abandons-none (REP a) p future e = refl
-kept-abandons-none ATST p future e = refl
-kept-abandons-none ATRE p future e = e
-kept-abandons-none ATFAIL p future e = e
-kept-abandons-none (ATOK δ) p future e = refl
-kept-abandons-none ARDOK p future e = refl
-kept-abandons-none ARDF p future e = refl
-kept-abandons-none AWR p future e = refl
-kept-abandons-none AOI p future e = refl
-kept-abandons-none AOF p future e = refl
-kept-abandons-none AOE p future e = refl
-
--- a move inside has no effect and abandons nothing
-inner-plain : (r : Rule) → InnerRule r → (effect r ≡ []) × (abandons r ≡ false)
-unfolding effect abandons
-inner-plain (OUT a) i = absurd i
-inner-plain (IN a) i = absurd i
-inner-plain (REP a) i = absurd i
-inner-plain ATST i = absurd i
-inner-plain ATRE i = absurd i
-inner-plain ATFAIL i = absurd i
-inner-plain (ATOK δ) i = absurd i
-inner-plain ARDOK i = (refl, refl)
-inner-plain ARDF i = (refl, refl)
-inner-plain AWR i = (refl, refl)
-inner-plain AOI i = (refl, refl)
-inner-plain AOF i = (refl, refl)
-inner-plain AOE i = (refl, refl)
-
-module _ (h : Configuration) (p : ℕ) (c : Component) (found : getElem? (h .components) p ≡ some c) (future : List Step) where
-  -- what a move of that component leaves
-  abbrev leaves : State → List Component → Configuration
-  leaves σ ys = record { counts = σ; components = replaceAt p ys (h .components) }
-
-  -- a step lays down as many components as its move gives
-  laid-length : (e : Entry) (r : Rule) (σ : State) (ys : List Component) → laid (stepBy h e r (leaves σ ys)) ≡ length ys
-  unfolding laid
-  laid-length e r σ ys = let k = length-replaceAt (h .components) ys p (found-below (h .components) p c found) in omega arith
-
-  -- what an act leaves, cleared for the future, is the same replacement in what it met, cleared for the future with that act
-  act-cleared : (r : Rule) (σ : State) (ys : List Component) →
-      cleared (λ q. doomed q future) (replaceAt p ys (h .components))
-      ≡ replaceAt p (cleared (λ j. doomed (p + j) future) ys) (cleared (λ q. doomed q (stepBy h (act p) r (leaves σ ys) ∷ future)) (h .components))
-  act-cleared r σ ys =
-      let s : Step = stepBy h (act p) r (leaves σ ys) in
-      cleared-replace
-      (λ q. doomed q future)
-      (λ q. doomed q (s ∷ future))
-      p
-      ys
-      (h .components)
-      (λ q k. doomed-before s future p q refl k)
-      (λ q k. doomed-behind s future p q refl k ∙ ap (λ n. doomed (q + n - 1) future) (laid-length (act p) r σ ys))
-
-  -- the same of a move inside, which changes no position
-  inside-cleared : (k : ℕ) (r : Rule) (σ : State) (y : Component) →
-      cleared (λ q. doomed q future) (replaceAt p (y ∷ []) (h .components))
-      ≡ replaceAt p (cleared (λ j. doomed (p + j) future) (y ∷ [])) (cleared (λ q. doomed q (stepBy h (inside p k) r (leaves σ (y ∷ [])) ∷ future)) (h .components))
-  unfolding doomed
-  inside-cleared k r σ y =
-      cleared-replace
-      (λ q. doomed q future)
-      (λ q. doomed q future)
-      p
-      (y ∷ [])
-      (h .components)
-      (λ q j. refl)
-      (λ q j. let i : q ≡ q + 1 - 1 = omega arith in ap (λ n. doomed n future) i)
-
-  -- a step with the same component and the same move in both runs
-  same-step : (e : Entry) (r : Rule) (σ : State) (ys : List Component) → abandonedBy r e future ≡ false → abandons r ≡ false →
-      ((g : Configuration) → g .counts ≡ h .counts → getElem? (g .components) p ≡ some c → choose g e ≡ settles p (moves r σ ys) g) →
-      cleared (λ j. doomed (p + j) future) ys ≡ ys → clear (doomed p (stepBy h e r (leaves σ ys) ∷ future)) c ≡ c →
-      cleared (λ q. doomed q future) (replaceAt p ys (h .components))
-      ≡ replaceAt p (cleared (λ j. doomed (p + j) future) ys) (cleared (λ q. doomed q (stepBy h e r (leaves σ ys) ∷ future)) (h .components)) →
-      Shadows h e future (settles p (moves r σ ys) h)
-  unfolding settles clearedBy
-  same-step e r σ ys lasts abandons-none chosen ys-stay c-stays behind = go (leb (length (replaceAt p ys (h .components))) 64) refl
-    where
-      doomedNow : ℕ → Bool
-      doomedNow q = doomed q (stepBy h e r (leaves σ ys) ∷ future)
-
-      found-cleared : getElem? (cleared doomedNow (h .components)) p ≡ some c
-      found-cleared = cleared-at doomedNow (h .components) p ∙ rw found (ap {B = Option Component} some c-stays)
-
-      replaced : replaceAt p ys (cleared doomedNow (h .components)) ≡ cleared (λ q. doomed q future) (replaceAt p ys (h .components))
-      replaced = sym (behind ∙ ap (λ zs. replaceAt p zs (cleared doomedNow (h .components))) ys-stay)
-
-      go : (b : Bool) → leb (length (replaceAt p ys (h .components))) 64 ≡ b → Shadows h e future (cond b (moved r (leaves σ ys)) (refused 19))
-      go true small =
-          rw lasts (
-            chosen (record { counts = h .counts; components = cleared doomedNow (h .components) }) refl found-cleared ∙ rw (replaced, cleared-length, small),
-            abandons-none,
-          )
-      go false large = tt
-
-  -- a step of an abandoned attempt: its component, cleared, is the same before and after it
-  skipped-step : (e : Entry) (r : Rule) (y : Component) → abandonedBy r e future ≡ true → effect r ≡ [] →
-      clear (doomed p (stepBy h e r (leaves (h .counts) (y ∷ [])) ∷ future)) c ≡ clear (doomed p future) y →
-      cleared (λ q. doomed q future) (replaceAt p (y ∷ []) (h .components))
-      ≡ replaceAt
-      p
-      (cleared (λ j. doomed (p + j) future) (y ∷ []))
-      (cleared (λ q. doomed q (stepBy h e r (leaves (h .counts) (y ∷ [])) ∷ future)) (h .components)) →
-      Shadows h e future (settles p (moves r (h .counts) (y ∷ [])) h)
-  unfolding settles clearedBy cleared
-  skipped-step e r y belongs no-effect c-same behind = go (leb (length (replaceAt p (y ∷ []) (h .components))) 64)
-    where
-      doomedNow : ℕ → Bool
-      doomedNow q = doomed q (stepBy h e r (leaves (h .counts) (y ∷ [])) ∷ future)
-
-      found-cleared : getElem? (cleared doomedNow (h .components)) p ≡ some (clear (doomed (p + 0) future) y)
-      found-cleared =
-          let k : p ≡ p + 0 = omega arith in
-          cleared-at doomedNow (h .components) p ∙ rw found (ap {B = Option Component} some (c-same ∙ ap (λ q. clear (doomed q future) y) k))
-
-      same : cleared doomedNow (h .components) ≡ cleared (λ q. doomed q future) (replaceAt p (y ∷ []) (h .components))
-      same = sym (behind ∙ replaceAt-same (cleared doomedNow (h .components)) p (clear (doomed (p + 0) future) y) found-cleared)
-
-      go : (b : Bool) → Shadows h e future (cond b (moved r (leaves (h .counts) (y ∷ []))) (refused 19))
-      go true = rw belongs (λ i. record { counts = h .counts; components = same i }, no-effect)
-      go false = tt
-
-  -- both for an act, which abandons the component's attempt exactly where its rule does
-  same-act : (r : Rule) (σ : State) (ys : List Component) → acts (h .counts) c ≡ moves r σ ys → abandonedBy r (act p) future ≡ false →
-      cleared (λ j. doomed (p + j) future) ys ≡ ys → clear (abandons r) c ≡ c → Shadows h (act p) future (settles p (moves r σ ys) h)
-  unfolding positionOf localMove
-  same-act r σ ys move lasts ys-stay c-stays =
-      same-step
-      (act p)
-      r
-      σ
-      ys
-      lasts
-      (kept-abandons-none r p future lasts)
-      (λ g counts there. chosen-at g (act p) c there ∙ rw (counts, move))
-      ys-stay
-      (rw (doomed-here (stepBy h (act p) r (leaves σ ys)) future p refl) c-stays)
-      (act-cleared r σ ys)
-
-  skipped-act : (r : Rule) (y : Component) → abandonedBy r (act p) future ≡ true → effect r ≡ [] →
-      clear (abandons r) c ≡ clear (doomed p future) y → Shadows h (act p) future (settles p (moves r (h .counts) (y ∷ [])) h)
-  skipped-act r y belongs no-effect c-same =
-      skipped-step
-      (act p)
-      r
-      y
-      belongs
-      no-effect
-      (rw (doomed-here (stepBy h (act p) r (leaves (h .counts) (y ∷ []))) future p refl) c-same)
-      (act-cleared r (h .counts) (y ∷ []))
-
-module _ (h : Configuration) (p : ℕ) (future : List Step) where
-  -- an act of an idle component that leaves idle ones
-  idle-act : (x : Idle) → getElem? (h .components) p ≡ some (idle x) → (r : Rule) (σ : State) (cs : List Idle) →
-      acts (h .counts) (idle x) ≡ moves r σ (map idle cs) → abandonedBy r (act p) future ≡ false → Shadows h (act p) future (settles p (moves r σ (map idle cs)) h)
-  idle-act x found r σ cs e lasts =
-      same-act h p (idle x) found future r σ (map idle cs) e lasts (cleared-idle (λ j. doomed (p + j) future) (λ x. x) cs) (clear-idle (abandons r) x)
-
-  -- a take, an output
-  takes-act : (x : Idle) → getElem? (h .components) p ≡ some (idle x) → (a : Name) (r : Rule) (cs : List Idle) →
-      acts (h .counts) (idle x) ≡ takes (h .counts) a r cs → abandonedBy r (act p) future ≡ false → Shadows h (act p) future (settles p (takes (h .counts) a r cs) h)
-  unfolding takes settles
-  takes-act x found a r cs e lasts = go (eqb (count (h .counts) a) 0) refl
-    where
-      go : (b : Bool) → eqb (count (h .counts) a) 0 ≡ b →
-          Shadows h (act p) future (settles p (cond b (stays 18) (moves r (spent (h .counts) a) (map idle cs))) h)
-      go true t = tt
-      go false t = idle-act x found r (spent (h .counts) a) cs (e ∙ rw t) lasts
-
-  puts-act : (a : Name) → getElem? (h .components) p ≡ some (idle (output a)) → Shadows h (act p) future (settles p (puts (h .counts) a) h)
-  unfolding puts settles acts abandonedBy
-  puts-act a found = go (leb 255 (count (h .counts) a)) refl
-    where
-      go : (b : Bool) → leb 255 (count (h .counts) a) ≡ b → Shadows h (act p) future (settles p (cond b (stays 20) (moves (OUT a) (gained (h .counts) a) [])) h)
-      go true t = tt
-      go false t = idle-act (output a) found (OUT a) (gained (h .counts) a) [] (rw t) refl
-
-  -- an attempt opens: where it will be abandoned nothing changes
-  opens-act : (n : ℕ) (M : Expression) → getElem? (h .components) p ≡ some (idle (block n M)) →
-      Shadows h (act p) future (settles p (moves ATST (h .counts) (transaction n M (h .counts) (leaf M emptyLog) ∷ [])) h)
-  unfolding acts abandonedBy cleared clear effect
-  opens-act n M found = go (doomed p future) refl
-    where
-      begun : Component
-      begun = transaction n M (h .counts) (leaf M emptyLog)
-
-      go : (b : Bool) → doomed p future ≡ b → Shadows h (act p) future (settles p (moves ATST (h .counts) (begun ∷ [])) h)
-      go true d = skipped-act h p (idle (block n M)) found future ATST begun d refl (rw d)
-      go false d =
-          let here : p + 0 ≡ p = omega arith in
-          same-act h p (idle (block n M)) found future ATST (h .counts) (begun ∷ []) refl d (rw (here, d)) refl
-
-  -- an attempt is abandoned: nothing changes
-  abandons-act : (n : ℕ) (M : Expression) (s : State) (t : Tree) → getElem? (h .components) p ≡ some (transaction n M s t) → (r : Rule) →
-      opensOne r ≡ false → abandons r ≡ true → effect r ≡ [] → Shadows h (act p) future (settles p (moves r (h .counts) (idle (block n M) ∷ [])) h)
-  unfolding abandonedBy clear
-  abandons-act n M s t found r late ends no-effect =
-      let same : clear (abandons r) (transaction n M s t) ≡ clear (doomed p future) (idle (block n M)) = rw ends (sym (clear-idle (doomed p future) (block n M))) in
-      skipped-act h p (transaction n M s t) found future r (idle (block n M)) (rw (late, ends)) no-effect same
-
-  -- an attempt commits: it was not to be abandoned
-  commits-act : (n : ℕ) (M : Expression) (s : State) (e : ℕ) (δ : Log) → getElem? (h .components) p ≡ some (transaction n M s (leaf (endT e) δ)) →
-      Shadows h (act p) future (settles p (commits (h .counts) n M δ) h)
-  unfolding commits acts abandonedBy clear effect
-  commits-act n M s e δ found = go (readable (h .counts) δ) refl
-    where
-      c : Component
-      c = transaction n M s (leaf (endT e) δ)
-
-      σ : State
-      σ = without (h .counts) (RD δ)
-
-      ys : List Component
-      ys = map (λ a. idle (output a)) (WT δ)
-
-      go : (b : Bool) → readable (h .counts) δ ≡ b →
-          Shadows h (act p) future (settles p (cond b (moves (ATOK δ) σ ys) (moves ATFAIL (h .counts) (idle (block n M) ∷ []))) h)
-      go true t = same-act h p c found future (ATOK δ) σ ys (rw t) refl (cleared-idle (λ j. doomed (p + j) future) output (WT δ)) refl
-      go false t = abandons-act n M s (leaf (endT e) δ) found ATFAIL refl refl refl
-
-  -- every act
-  act-shadows : (c : Component) → getElem? (h .components) p ≡ some c → Shadows h (act p) future (settles p (acts (h .counts) c) h)
-  unfolding acts abandonedBy settles effect
-  act-shadows (idle (taking n a P)) found = takes-act (taking n a P) found a (IN a) (opens P) refl refl
-  act-shadows (idle (repeating n a P)) found = takes-act (repeating n a P) found a (REP a) (opens P ++ (repeating n a P ∷ [])) refl refl
-  act-shadows (idle (block n M)) found = opens-act n M found
-  act-shadows (idle (output a)) found = puts-act a found
-  act-shadows (transaction n M s (leaf (endT e) δ)) found = commits-act n M s e δ found
-  act-shadows (transaction n M s (leaf (retryT e) δ)) found = abandons-act n M s (leaf (retryT e) δ) found ATRE refl refl refl
-  act-shadows (transaction n M s (leaf (rdT e a N) δ)) found = tt
-  act-shadows (transaction n M s (leaf (wtT e a N) δ)) found = tt
-  act-shadows (transaction n M s (leaf (orElseT e N N′) δ)) found = tt
-  act-shadows (transaction n M s (fork l r)) found = tt
-
-module _ (h : Configuration) (p k : ℕ) (future : List Step) where
-  -- a move inside an attempt: nothing where it will be abandoned, else the same move
-  evolves-inside : (n : ℕ) (M : Expression) (s : State) (t u : Tree) (r : Rule) → getElem? (h .components) p ≡ some (transaction n M s t) →
-      inner s t k ≡ evolves r u → InnerRule r → Shadows h (inside p k) future (settles p (moves r (h .counts) (transaction n M s u ∷ [])) h)
-  unfolding abandonedBy cleared clear positionOf localMove innerLocal doomed
-  evolves-inside n M s t u r found evolved ruled = go (doomed p future) refl
-    where
-      go : (b : Bool) → doomed p future ≡ b → Shadows h (inside p k) future (settles p (moves r (h .counts) (transaction n M s u ∷ [])) h)
-      go true d =
-          skipped-step
-          h
-          p
-          (transaction n M s t)
-          found
-          future
-          (inside p k)
-          r
-          (transaction n M s u)
-          d
-          (inner-plain r ruled .0)
-          (rw d)
-          (inside-cleared h p (transaction n M s t) found future k r (h .counts) (transaction n M s u))
-      go false d =
-          same-step
-          h
-          p
-          (transaction n M s t)
-          found
-          future
-          (inside p k)
-          r
-          (h .counts)
-          (transaction n M s u ∷ [])
-          d
-          (inner-plain r ruled .1)
-          (λ g counts there. chosen-at g (inside p k) (transaction n M s t) there ∙ rw (evolved, counts))
-          (let i : p + 0 ≡ p = omega arith in rw (i, d))
-          (rw d)
-          (inside-cleared h p (transaction n M s t) found future k r (h .counts) (transaction n M s u))
-
-  -- every choice inside
-  inside-shadows : (c : Component) → getElem? (h .components) p ≡ some c → Shadows h (inside p k) future (settles p (actsInside (h .counts) c k) h)
-  unfolding actsInside innerLocal settles
-  inside-shadows (idle c) found = tt
-  inside-shadows (transaction n M s t) found = go (inner s t k) refl (inner-rule s t k)
-    where
-      go : (i : Inner) → inner s t k ≡ i → ByInnerRule t i → Shadows h (inside p k) future (settles p (innerLocal (h .counts) n M s i) h)
-      go (evolves r u) e ruled = evolves-inside n M s t u r found e ruled
-      go resting e ruled = tt
-      go (past j) e ruled = tt
-
--- every choice: refused, or a step with its shadow in the run without abandoned attempts
-shadows : (h : Configuration) (e : Entry) (future : List Step) → Shadows h e future (choose h e)
-unfolding choose at
-shadows h (act p) future = go (getElem? (h .components) p) refl
+-- one step more
+numbers-step : {σ : State} {j : ℕ} {z : Live} {e : Entry} {r : Rule} {σ′ : State} {laid : List Live} (p : ℕ)
+    (zs : List Live) → Stepped σ j z e r σ′ laid →
+    getElem? zs p ≡ some z → Numbers j zs → Numbers (suc j) (replaceAt p laid zs)
+numbers-step {j = j} {z = z} {laid = laid} p zs s f k i = elim (ℕ-discrete i j) [ yes e ↦ at e | no d ↦ off d ]
   where
-    go : (o : Option Component) → getElem? (h .components) p ≡ o → Shadows h (act p) future (at o (λ c. settles p (acts (h .counts) c) h))
-    go none e = tt
-    go (some c) e = act-shadows h p future c e
-shadows h (inside p k) future = go (getElem? (h .components) p) refl
+    at : i ≡ j → (times i (replaceAt p laid zs) ≤ 1) × (suc j ≤ i → times i (replaceAt p laid zs) ≡ 0)
+    at e =
+        let new = stepped-times s i in
+        let h = times-replace i p laid zs z f in
+        let none-yet = k i .1 (omega arith) in
+        let one : same i j ≡ 1 = rw e (same-self j) in
+        (omega arith, λ l. absurd (omega arith))
+
+    off : ¬ (i ≡ j) → (times i (replaceAt p laid zs) ≤ 1) × (suc j ≤ i → times i (replaceAt p laid zs) ≡ 0)
+    off d =
+        let new = stepped-times s i in
+        let h = times-replace i p laid zs z f in
+        let before = k i .0 in
+        let zero-there = same-other i j d in
+        (omega arith, λ l. let none-yet = k i .1 (omega arith) in omega arith)
+
+-- the attempt of a step has a number up to j, and stands nowhere else
+attempt-here : (j p : ℕ) (zs : List Live) (z : Live) → getElem? zs p ≡ some z → Numbers j zs →
+    (attempt j z < suc j) × (times (attempt j z) zs ≤ times (attempt j z) (z ∷ []))
+unfolding occurrences
+attempt-here j p zs (rests c) f k = let none-yet = k j .1 (omega arith) in (omega arith, omega arith)
+attempt-here j p zs (tries i n M s u) f k =
+    let h = times-replace i p [] zs (tries i n M s u) f in
+    let one = same-self i in
+    let at-most = k i .0 in
+    (elim (decLt i (suc j)) [ yes l ↦ l | no l ↦ absurd (let none-yet = k i .1 (omega arith) in omega arith) ], omega arith)
+
+-- a number up to j that is not open belongs to no step from j on, and stays closed
+absent : {j : ℕ} {h g : Configuration} {zs ws : List Live} {ms : List Member} → Trace j h zs ms g ws → (i : ℕ) →
+    i < j → times i zs ≡ 0 →
+    All (λ m. ¬ (m .attempt ≡ i)) ms × (times i ws ≡ 0)
+unfolding occurrences
+absent (ended all) i l k = (tt, k)
+absent {j} {zs = zs} (next e r z laid found s local few rest) i l k =
+    let gone = times-replace i (positionOf e) [] zs z found in
+    let after = times-replace i (positionOf e) laid zs z found in
+    let new = stepped-times s i in
+    let older = same-other i j (λ x. omega arith) in
+    let later = absent rest i (omega arith) (omega arith) in
+    ((other z (omega arith), later .0), later .1)
   where
-    go : (o : Option Component) → getElem? (h .components) p ≡ o → Shadows h (inside p k) future (at o (λ c. settles p (actsInside (h .counts) c k) h))
-    go none e = tt
-    go (some c) e = inside-shadows h p k future c e
+    other : (z : Live) → times i (z ∷ []) ≡ 0 → ¬ (attempt j z ≡ i)
+    other (rests c) none-there x = omega arith
+    other (tries a n M s u) none-there x = let one : same i a ≡ 1 = rw x (same-self i) in omega arith
 
--- ---- the whole history
+-- ---- the run without some attempts
 
--- the kept choices of a history are all accepted from g, to the same last configuration, with the same effects, and abandon
--- nothing
-pub record KeptFrom (g h : Configuration) (history : List Step) : Type 0 where
-  pub runs : Runs g (kept history) (lastOf h history)
-  pub same-effects : effects (steps g (kept history)) ≡ effects history
-  pub no-abandoned : All (λ u. abandons (u .rule) ≡ false) (steps g (kept history))
+-- an attempt is kept where its number is not among those to leave out
+abbrev spared : List ℕ → ℕ → Bool
+spared L i = eqb (occurrences i L) 0
 
--- where nothing is done, and where one more step is
-nothing-done : (h : Configuration) → KeptFrom (clearedBy [] h) h []
-unfolding steps kept clearedBy doomed effects
-nothing-done h =
+-- a component, its attempt read as not begun where it is left out
+abbrev clear : List ℕ → Live → Component
+clear L (rests c) = idle c
+clear L (tries i n M s u) = cond (spared L i) (transaction n M s u) (idle (block n M))
+
+abbrev cleared : List ℕ → Configuration → List Live → Configuration
+cleared L h zs = record { counts = h .counts; components = map (clear L) zs }
+
+-- idle components are the same in both
+idle-clear : (L : List ℕ) (cs : List Idle) → map (clear L) (map rests cs) ≡ map component (map rests cs)
+idle-clear L cs = map-map (clear L) rests cs ∙ sym (map-map component rests cs)
+
+-- a choice of an attempt that is kept meets the same component and lays down the same
+stepped-kept : {σ : State} {j : ℕ} {z : Live} {e : Entry} {r : Rule} {σ′ : State} {laid : List Live} (L : List ℕ) →
+    Stepped σ j z e r σ′ laid →
+    spared L (attempt j z) ≡ true → (clear L z ≡ component z) × (map (clear L) laid ≡ map component laid)
+stepped-kept L (put p a) q = (refl, refl)
+stepped-kept L (took p n a P) q = (refl, idle-clear L (opens P))
+stepped-kept L (repeated p n a P) q = (refl, idle-clear L (opens P ++ (repeating n a P ∷ [])))
+stepped-kept L (began p n M) q = (refl, rw q)
+stepped-kept L (retried p i n M s x δ) q = (rw q, refl)
+stepped-kept L (failed p i n M s x δ now) q = (rw q, refl)
+stepped-kept L (committed p i n M s x δ now) q = (rw q, idle-clear L (map output (WT δ)))
+stepped-kept L (evolved p k i n M s u w x m late) q = (rw q, rw q)
+
+-- one without effect, of an attempt that is left out, changes nothing
+stepped-skipped : {σ : State} {j : ℕ} {z : Live} {e : Entry} {r : Rule} {σ′ : State} {laid : List Live} (L : List ℕ) →
+    Stepped σ j z e r σ′ laid →
+    spared L (attempt j z) ≡ false → acting r ≡ false →
+    (y : Live) × (laid ≡ y ∷ []) × (clear L z ≡ clear L y) × (σ ≡ σ′)
+unfolding ruleNumber
+stepped-skipped L (put p a) q quiet = absurd (true≢false quiet)
+stepped-skipped L (took p n a P) q quiet = absurd (true≢false quiet)
+stepped-skipped L (repeated p n a P) q quiet = absurd (true≢false quiet)
+stepped-skipped L (began p n M) q quiet = (_, refl, rw q, refl)
+stepped-skipped L (retried p i n M s x δ) q quiet = (_, refl, rw q, refl)
+stepped-skipped L (failed p i n M s x δ now) q quiet = (_, refl, rw q, refl)
+stepped-skipped L (committed p i n M s x δ now) q quiet = absurd (true≢false quiet)
+stepped-skipped L (evolved p k i n M s u w x m late) q quiet = (_, refl, rw q, refl)
+
+module _ (L : List ℕ) (h f : Configuration) (zs : List Live) (e : Entry) (r : Rule) (z : Live) (laid : List Live)
+    (found : getElem? zs (positionOf e) ≡ some z) where
+  -- so it is accepted without them too
+  choose-kept : localMove (h .counts) (component z) e ≡ moves r (f .counts) (map component laid) →
+      length (replaceAt (positionOf e) laid zs) ≤ 64 →
+      (clear L z ≡ component z) × (map (clear L) laid ≡ map component laid) →
+      answerTo (cleared L h zs) e ≡ moved r (cleared L f (replaceAt (positionOf e) laid zs))
+  choose-kept local fits k =
+      let p : ℕ = positionOf e in
+      let both = map-replaceAt (clear L) zs laid p in
+      let few : length (replaceAt p (map (clear L) laid) (map (clear L) zs)) ≤ 64 = rw (← both, length-map) fits in
+      accepted-made (cleared L h zs) e r (f .counts) (clear L z) (map (clear L) laid) (found-map (clear L) zs p z found)
+      (rw (k .0, k .1) local) few
+      ∙ λ i. moved r (record { counts = f .counts; components = sym both i })
+
+  -- or leaves what is there
+  same-skipped : (y : Live) × (laid ≡ y ∷ []) × (clear L z ≡ clear L y) × (h .counts ≡ f .counts) →
+      cleared L h zs ≡ cleared L f (replaceAt (positionOf e) laid zs)
+  same-skipped (y, one, c, σ) =
+      let p : ℕ = positionOf e in
+      let there : getElem? (map (clear L) zs) p ≡ some (clear L y) = found-map (clear L) zs p z found ∙ ap some c in
+      let both : map (clear L) (replaceAt p laid zs) ≡ map (clear L) zs =
+      rw one (map-replaceAt (clear L) zs (y ∷ []) p ∙ replaceAt-same (map (clear L) zs) p (clear L y) there) in
+      λ i. record { counts = σ i; components = sym both i }
+
+-- ---- the whole run
+
+-- which attempts are left out fits a step: those that it abandons, and none by which it has an effect
+Fits : List ℕ → Member → Type 0
+Fits L m =
+    (aborts (m .step .rule) ≡ true → spared L (m .attempt) ≡ false) ×
+    (acting (m .step .rule) ≡ true → spared L (m .attempt) ≡ true)
+
+-- no attempt that is still open is left out
+abbrev Open : List ℕ → Live → Type 0
+Open L (rests c) = Unit {0}
+Open L (tries i n M s u) = spared L i ≡ true
+
+open-cleared : (L : List ℕ) (zs : List Live) → All (Open L) zs → map component zs ≡ map (clear L) zs
+open-cleared L [] k = refl
+open-cleared L (rests c ∷ zs) k = ap (_∷_ (idle c)) (open-cleared L zs (k .1))
+open-cleared L (tries i n M s u ∷ zs) k = rw (k .0) (ap (_∷_ (transaction n M s u)) (open-cleared L zs (k .1)))
+
+-- entries accepted from h to g, against the steps ss of a run: the same effects, nothing abandoned, and as many
+-- commits
+pub record KeptFrom (h : Configuration) (es : List Entry) (g : Configuration) (ss : List Step) : Type 0 where
+  pub runs : Runs h es g
+  pub same-effects : effects (steps h es) ≡ effects ss
+  pub none-abandoned : All (λ u. aborts (u .rule) ≡ false) (steps h es)
+  pub counters : (c d : Counters) → c .commits ≡ d .commits →
+      tallied c (steps h es) ≡ record { commits = (tallied d ss) .commits; failed = c .failed; retries = c .retries }
+
+-- a rule that abandons nothing leaves two counters
+counted-spares : (r : Rule) (c : Counters) → eqb (ruleNumber r) 5 ≡ false → eqb (ruleNumber r) 6 ≡ false →
+    ((counted r c) .failed ≡ c .failed) × ((counted r c) .retries ≡ c .retries)
+unfolding counted
+counted-spares r c five six = (rw six, rw five)
+
+-- a step that is kept
+kept-on : (h f : Configuration) (e : Entry) (r : Rule) (es : List Entry) (g b o : Configuration) (ss : List Step) →
+    answerTo h e ≡ moved r f → aborts r ≡ false →
+    KeptFrom f es g ss → KeptFrom h (e ∷ es) g (record { chosen = e; rule = r; before = b; result = o } ∷ ss)
+unfolding steps effects tallied passing aborts
+kept-on h f e r es g b o ss q spares k =
+    let n = or-false (eqb (ruleNumber r) 5) (eqb (ruleNumber r) 6) spares in
     record {
-      runs = subst (λ g. Runs g [] h) (λ i. record { counts = h .counts; components = sym (cleared-none (h .components)) i }) rested;
-      same-effects = refl;
-      no-abandoned = tt;
+      runs = ran r q (k .runs);
+      same-effects = rw q (ap (λ rs. cond (acting r) (r ∷ rs) rs) (k .same-effects));
+      none-abandoned = rw q (spares, k .none-abandoned);
+      counters =
+          λ c d same.
+          let commits = (tallied (counted r d) ss) .commits in
+          let z = counted-spares r c (n .0) (n .1) in
+          rw q (k .counters (counted r c) (counted r d) (rw same) ∙
+          ap (λ f. record { commits = commits; failed = f; retries = (counted r c) .retries }) (z .0) ∙
+          ap (λ t. record { commits = commits; failed = c .failed; retries = t }) (z .1));
     }
 
-step-done : (h : Configuration) (e : Entry) (r : Rule) (f : Configuration) (future : List Step) → Shadow h e future r f (abandonedBy r e future) →
-    KeptFrom (clearedBy future f) f future → KeptFrom (clearedBy (stepBy h e r f ∷ future) h) h (stepBy h e r f ∷ future)
-unfolding kept steps stepsOn effects
-step-done h e r f future = go (abandonedBy r e future) refl
+-- a step that is left out
+kept-skip : (h : Configuration) (e : Entry) (r : Rule) (es : List Entry) (g b o : Configuration) (ss : List Step) →
+    acting r ≡ false →
+    KeptFrom h es g ss → KeptFrom h es g (record { chosen = e; rule = r; before = b; result = o } ∷ ss)
+unfolding effects tallied passing
+kept-skip h e r es g b o ss quiet k =
+    let n = or-false (leb (ruleNumber r) 3) (eqb (ruleNumber r) 7) quiet in
+    record {
+      runs = k .runs;
+      same-effects = k .same-effects ∙ rw quiet;
+      none-abandoned = k .none-abandoned;
+      counters = λ c d same. k .counters c (counted r d) (same ∙ rw (n .1));
+    }
+
+-- the choices of the attempts that are not left out
+abbrev keptBy : List ℕ → List Member → List Entry
+keptBy L ms = map (λ m. m .step .chosen) (passing (λ m. spared L (m .attempt)) ms)
+
+-- a test that cannot pass
+fails : (b : Bool) → (b ≡ true → ⊥) → b ≡ false
+fails true h = absurd (h refl)
+fails false h = refl
+
+-- without attempts that fit the steps, and are all closed at the end, the run leads where it led
+kept-trace : {j : ℕ} {h g : Configuration} {zs ws : List Live} {ms : List Member} → Trace j h zs ms g ws →
+    (L : List ℕ) → All (Fits L) ms → All (Open L) ws →
+    KeptFrom (cleared L h zs) (keptBy L ms) g (map (λ m. m .step) ms)
+unfolding passing steps effects tallied Fits
+kept-trace {h = h} {zs = zs} (ended all) L fits rests-open =
+    subst (λ x. KeptFrom x [] h []) (λ i. record { counts = h .counts; components = (all ∙ open-cleared L zs rests-open) i })
+    (record {
+      runs = rested;
+      same-effects = refl;
+      none-abandoned = tt;
+      counters = λ c d e. λ i. record { commits = e i; failed = c .failed; retries = c .retries };
+    })
+kept-trace {j} {h} {zs = zs} (next {f = f} {g = g} {ms = ms} e r z laid found s local few rest) L fits rests-open =
+    go (spared L (attempt j z)) refl (kept-trace rest L (fits .1) rests-open)
   where
-    go : (b : Bool) → abandonedBy r e future ≡ b → Shadow h e future r f b → KeptFrom (clearedBy future f) f future →
-        KeptFrom (clearedBy (stepBy h e r f ∷ future) h) h (stepBy h e r f ∷ future)
-    go true b s k =
-        record {
-          runs = rw (b, s .0) (k .runs);
-          same-effects = rw (b, s .0, s .1) (k .same-effects);
-          no-abandoned = rw (b, s .0) (k .no-abandoned);
-        }
-    go false b s k =
-        record {
-          runs = rw b (ran r (s .0) (k .runs));
-          same-effects = rw (b, s .0) (ap (_++_ (effect r)) (k .same-effects));
-          no-abandoned = rw (b, s .0) (s .1, k .no-abandoned);
-        }
+    m : Member
+    m = record { step = record { chosen = e; rule = r; before = h; result = f }; attempt = attempt j z }
 
--- From any configuration, without its attempts that will be abandoned.
-pub kept-from-cleared : (h : Configuration) (es : List Entry) → KeptFrom (clearedBy (steps h es) h) h (steps h es)
-unfolding steps
-kept-from-cleared h [] = nothing-done h
-kept-from-cleared h (e ∷ es) = go (choose h e) (λ future. shadows h e future) (λ f. kept-from-cleared f es)
+    go : (b : Bool) → spared L (attempt j z) ≡ b →
+        KeptFrom (cleared L f (replaceAt (positionOf e) laid zs)) (keptBy L ms) g (map (λ m. m .step) ms) →
+        KeptFrom (cleared L h zs) (keptBy L (m ∷ ms)) g (m .step ∷ map (λ m. m .step) ms)
+    go true q k =
+        let spares = fails (aborts r) (λ a. true≢false (sym q ∙ fits .0 .0 a)) in
+        rw q (kept-on (cleared L h zs) _ e r _ g h f _ (choose-kept L h f zs e r z laid found local few (stepped-kept L s q)) spares k)
+    go false q k =
+        let quiet = fails (acting r) (λ a. true≢false (sym (fits .0 .1 a) ∙ q)) in
+        rw (q, same-skipped L h f zs e r z laid found (stepped-skipped L s q quiet)) (kept-skip _ e r _ g h f _ quiet k)
+
+-- ---- the abandoned attempts
+
+-- steps of other attempts abandon nothing of it
+absent-abandoned : (k : ℕ) (ms : List Member) → All (λ m. ¬ (m .attempt ≡ k)) ms → occurrences k (aborted ms) ≡ 0
+unfolding aborted occurrences
+absent-abandoned k [] others = refl
+absent-abandoned k (m ∷ ms) others = go (aborts (m .step .rule)) (absent-abandoned k ms (others .1))
   where
-    next : Rule → Configuration → List Step
-    next r f = stepBy h e r f ∷ steps f es
+    go : (b : Bool) → occurrences k (aborted ms) ≡ 0 →
+        occurrences k
+        (map (λ m. m .attempt) (cond b (m ∷ passing (λ m. aborts (m .step .rule)) ms) (passing (λ m. aborts (m .step .rule)) ms)))
+        ≡ 0
+    go true h = let d = same-other k (m .attempt) (λ x. others .0 (sym x)) in omega arith
+    go false h = h
 
-    go : (a : Answer) → ((future : List Step) → Shadows h e future a) → ((f : Configuration) → KeptFrom (clearedBy (steps f es) f) f (steps f es)) →
-        KeptFrom (clearedBy (stepsOn a next) h) h (stepsOn a next)
-    go (moved r f) s rest = step-done h e r f (steps f es) (s (steps f es)) (rest f)
-    go (refused n) s rest = nothing-done h
+-- one more attempt to leave out
+fits-more : (k : ℕ) (L : List ℕ) (ms : List Member) → All (λ m. ¬ (m .attempt ≡ k)) ms → All (Fits L) ms →
+    All (Fits (k ∷ L)) ms
+unfolding Fits occurrences
+fits-more k L [] others fits = tt
+fits-more k L (m ∷ ms) others fits =
+    let d = same-other (m .attempt) k (others .0) in
+    let same-there : occurrences (m .attempt) (k ∷ L) ≡ occurrences (m .attempt) L = omega arith in
+    ((λ a. rw same-there (fits .0 .0 a), λ a. rw same-there (fits .0 .1 a)), fits-more k L ms (others .1) (fits .1))
 
--- From a configuration with no attempt at all.
-pub kept-runs-idle : (σ : State) (cs : List Idle) (es : List Entry) →
-    let h : Configuration = record { counts = σ; components = map idle cs } in KeptFrom h h (steps h es)
-unfolding clearedBy
-kept-runs-idle σ cs es =
-    let h : Configuration = record { counts = σ; components = map idle cs } in
-    let same : clearedBy (steps h es) h ≡ h = λ i. record { counts = σ; components = cleared-idle (λ q. doomed q (steps h es)) (λ x. x) cs i } in
-    subst (λ g. KeptFrom g h (steps h es)) same (kept-from-cleared h es)
+open-more : (k : ℕ) (L : List ℕ) (ws : List Live) → times k ws ≡ 0 → All (Open L) ws → All (Open (k ∷ L)) ws
+unfolding occurrences
+open-more k L [] closed opens-all = tt
+open-more k L (rests c ∷ ws) closed opens-all = (tt, open-more k L ws closed (opens-all .1))
+open-more k L (tries i n M s u ∷ ws) closed opens-all =
+    let d = same-other i k (λ x. let one : same k i ≡ 1 = rw x (same-self k) in omega arith) in
+    let same-there : occurrences i (k ∷ L) ≡ occurrences i L = omega arith in
+    (rw same-there (opens-all .0), open-more k L ws (omega arith) (opens-all .1))
 
--- From the opening.
-pub kept-runs-opening : (t : Table) (es : List Entry) → KeptFrom (opening t) (opening t) (steps (opening t) es)
-unfolding opening
-kept-runs-opening t es = kept-runs-idle (t .tokens) (opens (t .start)) es
+-- the abandoned attempts fit the steps, and none of them is open at the end
+abandoned-fits : {j : ℕ} {h g : Configuration} {zs ws : List Live} {ms : List Member} → Trace j h zs ms g ws →
+    Numbers j zs →
+    All (Fits (aborted ms)) ms × All (Open (aborted ms)) ws
+unfolding aborted passing occurrences Fits
+abandoned-fits {ws = ws} (ended all) k = (tt, go ws)
+  where
+    go : (ws : List Live) → All (Open []) ws
+    go [] = tt
+    go (rests c ∷ ws) = (tt, go ws)
+    go (tries i n M s u ∷ ws) = (refl, go ws)
+abandoned-fits {j} {zs = zs} {ws = ws} (next {h = h} {f = f} {ms = ms} e r z laid found s local few rest) k =
+    go (stepped-kind s) (abandoned-fits rest (numbers-step (positionOf e) zs s found k))
+  where
+    a : ℕ
+    a = attempt j z
 
--- ---- the counters
+    m : Member
+    m = record { step = record { chosen = e; rule = r; before = h; result = f }; attempt = a }
 
--- a count of commits after some rules
-raised : Rule → ℕ → ℕ
-unfolding counted
-raised r n = counted r (record { commits = n; failed = 0; retries = 0 }) .commits
+    closed : ((i : ℕ) → times i laid ≡ 0) → All (λ m. ¬ (m .attempt ≡ a)) ms × (times a ws ≡ 0)
+    closed empty =
+        let here = attempt-here j (positionOf e) zs z found k in
+        let after = times-replace a (positionOf e) laid zs z found in
+        let nothing-laid = empty a in absent rest a (here .0) (let l = here .1 in omega arith)
 
-commitsAfter : ℕ → List Rule → ℕ
-unfolding raised
-commitsAfter n [] = n
-commitsAfter n (r ∷ rs) = commitsAfter (raised r n) rs
+    go : Kind r laid → All (Fits (aborted ms)) ms × All (Open (aborted ms)) ws →
+        All (Fits (aborted (m ∷ ms))) (m ∷ ms) × All (Open (aborted (m ∷ ms))) ws
+    go (effective acts spares empty) (fits, opens-all) =
+        rw spares (
+          (
+            (λ x. absurd (true≢false (sym x)), λ x. eq-eqb (occurrences a (aborted ms)) 0 (absent-abandoned a ms (closed empty .0))),
+            fits,
+          ),
+          opens-all,
+        )
+    go (abandoning quiet ends empty) (fits, opens-all) =
+        let c = closed empty in
+        let one = same-self a in
+        rw ends (
+          (
+            (λ x. ne-eqb (occurrences a (a ∷ aborted ms)) 0 (λ n. omega arith), λ x. absurd (true≢false (sym x ∙ quiet))),
+            fits-more a (aborted ms) ms (c .0) fits,
+          ),
+          open-more a (aborted ms) ws (c .1) opens-all,
+        )
+    go (inward quiet spares) (fits, opens-all) =
+        rw spares (((λ x. absurd (true≢false (sym x)), λ x. absurd (true≢false (sym x ∙ quiet))), fits), opens-all)
 
--- of each rule its effect counts, and so of the rules of some steps
-counted-commits : (r : Rule) (c : Counters) (rs : List Rule) → commitsAfter (counted r c .commits) rs ≡ commitsAfter (c .commits) (effect r ++ rs)
-unfolding counted effect commitsAfter
-counted-commits (OUT a) c rs = refl
-counted-commits (IN a) c rs = refl
-counted-commits (REP a) c rs = refl
-counted-commits ATST c rs = refl
-counted-commits ATRE c rs = refl
-counted-commits ATFAIL c rs = refl
-counted-commits (ATOK δ) c rs = refl
-counted-commits ARDOK c rs = refl
-counted-commits ARDF c rs = refl
-counted-commits AWR c rs = refl
-counted-commits AOI c rs = refl
-counted-commits AOF c rs = refl
-counted-commits AOE c rs = refl
+-- ---- from the opening
 
-tallied-commits : (ss : List Step) (c : Counters) → tallied c ss .commits ≡ commitsAfter (c .commits) (effects ss)
-unfolding tallied effects commitsAfter
-tallied-commits [] c = refl
-tallied-commits (s ∷ ss) c = tallied-commits ss (counted (s .rule) c) ∙ counted-commits (s .rule) c (effects ss)
+-- the steps of the members are the steps
+members-steps : (a : Numbered) (ss : List Step) → map (λ m. m .step) (members a ss) ≡ ss
+unfolding members
+members-steps a [] = refl
+members-steps a (s ∷ ss) = ap (_∷_ s) (members-steps (numberedStep a (s .chosen)) ss)
 
--- Two lists of steps with the same effects count the same commits.
-pub same-commits : (c : Counters) (ss us : List Step) → effects ss ≡ effects us → tallied c ss .commits ≡ tallied c us .commits
-same-commits c ss us e = tallied-commits ss c ∙ ap (commitsAfter (c .commits)) e ∙ sym (tallied-commits us c)
-
--- the counters of abandoned attempts are the same in both
-abbrev SameAbandoned : Counters → Counters → Type 0
-SameAbandoned c d = (c .failed ≡ d .failed) × (c .retries ≡ d .retries)
-
--- a rule that abandons nothing leaves them, and so do the rules of some steps
-counted-abandons-none : (r : Rule) (c : Counters) → abandons r ≡ false → SameAbandoned (counted r c) c
-unfolding counted abandons
-counted-abandons-none (OUT a) c e = (refl, refl)
-counted-abandons-none (IN a) c e = (refl, refl)
-counted-abandons-none (REP a) c e = (refl, refl)
-counted-abandons-none ATST c e = (refl, refl)
-counted-abandons-none ATRE c e = absurd (true≢false e)
-counted-abandons-none ATFAIL c e = absurd (true≢false e)
-counted-abandons-none (ATOK δ) c e = (refl, refl)
-counted-abandons-none ARDOK c e = (refl, refl)
-counted-abandons-none ARDF c e = (refl, refl)
-counted-abandons-none AWR c e = (refl, refl)
-counted-abandons-none AOI c e = (refl, refl)
-counted-abandons-none AOF c e = (refl, refl)
-counted-abandons-none AOE c e = (refl, refl)
-
-tallied-abandons-none : (ss : List Step) (c : Counters) → All (λ u. abandons (u .rule) ≡ false) ss → SameAbandoned (tallied c ss) c
-unfolding tallied
-tallied-abandons-none [] c spared = (refl, refl)
-tallied-abandons-none (s ∷ ss) c spared =
-    let one = counted-abandons-none (s .rule) c (spared .0) in
-    let rest = tallied-abandons-none ss (counted (s .rule) c) (spared .1) in (rest .0 ∙ one .0, rest .1 ∙ one .1)
-
--- ---- in the claim's terms
-
-module _ (table : List ℕ) (t : Table) (buffer : List ℕ) (first : Counters) (cs : List Call) where
-  -- the claims about the run without abandoned attempts
-  pub record KeptClaims : Type 0 where
-    pub kept-whole : length (historyKept table t buffer first cs) ≡ length (kept (history table t buffer first cs))
-    pub kept-hall : bytesOf (lastOf (opening t) (historyKept table t buffer first cs)) ≡ finishes table t buffer first cs .hall
-    pub kept-counts : atomicKept table t buffer first cs .counts ≡ atomic table t buffer first cs .counts
-    pub kept-stations :
-        map (λ x. x .station) (atomicKept table t buffer first cs .stations) ≡ map (λ x. x .station) (atomic table t buffer first cs .stations)
-    pub kept-commits : atomicKept table t buffer first cs .counters .commits ≡ atomic table t buffer first cs .counters .commits
-    pub kept-none : All (λ u. abandons (u .rule) ≡ false) (historyKept table t buffer first cs)
-    pub kept-failed : atomicKept table t buffer first cs .counters .failed ≡ first .failed
-    pub kept-retries : atomicKept table t buffer first cs .counters .retries ≡ first .retries
-    pub kept-effects : effects (historyKept table t buffer first cs) ≡ effects (history table t buffer first cs)
-
-  -- Abandoned attempts never happened.
-  pub kept-claims : Forward table t buffer first cs → KeptClaims
-  unfolding history historyKept atomic atomicKept atomicStart
-  kept-claims f =
-      let es = kept (steps (opening t) (done table t buffer first cs)) in
-      let k = kept-runs-opening t (done table t buffer first cs) in
-      let stepped = runs-steps (k .runs) in
-      let paced = runs-related (k .runs) (atomicStart t first) (opening-related t first) in
-      let same = tallied-abandons-none (steps (opening t) es) first (k .no-abandoned) in
-      record {
-        kept-whole = stepped .0;
-        kept-hall = ap bytesOf (stepped .1) ∙ sym (f .hall);
-        kept-counts = sym (paced .0 .counts) ∙ f .counts;
-        kept-stations = sym (related-stations _ _ (paced .0)) ∙ f .stations;
-        kept-commits =
-            ap (λ c. c .commits) (paced .1)
-            ∙ same-commits first (steps (opening t) es) (steps (opening t) (done table t buffer first cs)) (k .same-effects)
-            ∙ sym (ap (λ c. c .commits) (f .counted-rules));
-        kept-none = k .no-abandoned;
-        kept-failed = ap (λ c. c .failed) (paced .1) ∙ same .0;
-        kept-retries = ap (λ c. c .retries) (paced .1) ∙ same .1;
-        kept-effects = k .same-effects;
-      }
+-- Without the choices of its abandoned attempts a run from the opening leads where it led.
+pub kept-runs : (t : Table) (c : Counters) {es : List Entry} {g : Configuration} → Runs (opening t) es g →
+    KeptFrom (opening t) (withoutAborted (members (numberedStart t c) (steps (opening t) es))) g (steps (opening t) es)
+unfolding withoutAborted opening numberedStart
+kept-runs t c {es} {g} m =
+    let a : Numbered = numberedStart t c in
+    let cs = opens (t .start) in
+    let ms = members a (steps (opening t) es) in
+    let L = aborted ms in
+    let run = trace m a (map rests cs) (opening-paced t c) in
+    let told = abandoned-fits (run .1) (λ i. let none-open = times-idle i cs in (omega arith, λ l. none-open)) in
+    let begins : cleared L (opening t) (map rests cs) ≡ opening t =
+    λ i. record { counts = t .tokens; components = map-map (clear L) rests cs i } in
+    rw (begins, members-steps a (steps (opening t) es)) at (kept-trace (run .1) L (told .0) (told .1))

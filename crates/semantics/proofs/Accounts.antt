@@ -1,29 +1,34 @@
--- The counts after a run: the balance of each channel, the choices done, the counters.
--- The balance is a law of the calculus, carried over by soundness.
+-- The counts after a run and after a list of calls: the balance and the net of each channel, the choices done, the
+-- counters. The balance is a law of the calculus, carried over by soundness.
 -- Assumes nothing.
-use Prim.Native.Nat.{ℕ, suc, _+_, _≤_, min}
+use Prim.Native.Nat.{ℕ, zero, suc, _+_, _-_, _≤_, min}
 use native.Mathlib.Omega.{arith}
-use mathlib.Core.Path.{_≡_, refl}
+use mathlib.Core.Path.{_≡_, refl, sym, ap, _∙_}
+use mathlib.Core.Bool.{Bool, true, false, cond}
 use mathlib.Core.List.{List, [], _∷_}
 use lib.ListN.{length}
+use lib.Dec.{eqb, ltb}
+use lib.IntN.{pos, negsuc, negℤ, natAbs, _+ℤ_, _-ℤ_, +ℤ-assoc, +ℤ-comm, +ℤ-negℤ-cancel}
 use Rattle.calculus.specs.Syntax.{Name, State, Ongoing, Process, nil, par}
 use Rattle.calculus.specs.State.{count, same, Included}
 use Rattle.calculus.specs.Log.{RD}
-use Rattle.calculus.specs.Reduction.{Rule, OUT, IN, REP, ATST, ATRE, ATFAIL, ATOK, ARDOK, ARDF, AWR, AOI, AOF, AOE, Label, by, COM, Evolves, ardok, ardf, awr, aoi, aof, aoe, aol, aor, Reduces, OUTr, INr, REPr, COMl, COMr, PARL, PARR, ATSTr, ATPASS, ATREr, ATFAILr, ATOKr}
+use Rattle.calculus.specs.Reduction.{Rule, Label, by, COM, Evolves, ardok, ardf, awr, aoi, aof, aoe, aol, aor, Reduces, OUTr, INr, REPr, COMl, COMr, PARL, PARR, ATSTr, ATPASS, ATREr, ATFAILr, ATOKr}
 use Rattle.calculus.proofs.States.{count-plus, count-without}
-use Rattle.semantics.specs.Terms.{Term}
-use Rattle.semantics.specs.Configuration.{Component, Configuration}
-use Rattle.semantics.specs.Stored.{WellFormed}
-use Rattle.semantics.specs.Standing.{componentProcess, Stands, nothing, alone, beside}
-use Rattle.semantics.specs.GoodTable.{GoodTable}
-use Rattle.semantics.specs.Moves.{Entry, moved, choose, ruleNumber}
-use Rattle.semantics.specs.Run.{entries, Counters, counterTop, counted, RunAnswer, run, schedule, Step, steps, lastOf}
-use Rattle.semantics.specs.Correspondence.{Reduction}
-use Rattle.semantics.specs.Accounts.{adds, removes, total, byRule, RunAccounts}
+use Rattle.semantics.specs.Definitions.Terms.{Term}
+use Rattle.semantics.specs.Definitions.Configuration.{Component, Configuration}
+use Rattle.semantics.specs.Definitions.Stored.{WellFormed}
+use Rattle.semantics.specs.Claims.Denotation.{componentProcess, Denotes, nothing, alone, beside}
+use Rattle.semantics.specs.Checks.AcceptedTables.{GoodTable}
+use Rattle.semantics.specs.Definitions.Moves.{Entry, moved, answerTo, ruleNumber}
+use Rattle.semantics.specs.Definitions.Run.{ScheduleItem, entries, Counters, counterTop, countedAt, counted, net, RunAnswer, runFrom, run, schedule, Step, steps}
+use Rattle.semantics.specs.Claims.Correspondence.{OneReduction}
+use Rattle.semantics.specs.Claims.Accounts.{adds, removes, total, byRule, Accounts, WithinTop, RunAccounts, CallsAccounts}
 use Rattle.semantics.proofs.Moves.{run-induction}
 use Rattle.semantics.proofs.GoodTable.{accepted-is-good}
 use Rattle.semantics.proofs.WellFormedKept.{count-byte, well-formed-step}
 use Rattle.semantics.proofs.Soundness.{reduction-step}
+use Rattle.semantics.proofs.Runs.{Runs, rested, ran, runs-keep, runs-steps, tallied}
+use Rattle.semantics.proofs.CallsAsOne.{calls-tell}
 
 -- ---- the balance of one reduction
 
@@ -64,114 +69,128 @@ reduction-balance x (ATOKr {σ} {δ} i o) = let h = count-without (RD δ) σ x i
 -- ---- the balance of one choice
 
 -- every list of components stands for some process
-pub standing : (cs : List Component) → (P : Process) × Stands P cs
+pub standing : (cs : List Component) → (P : Process) × Denotes P cs
 standing [] = (nil, nothing)
 standing (c ∷ cs) = let i = standing cs in (par (componentProcess c) (i .0), beside (alone c refl) (i .1))
 
 -- every accepted choice keeps the balance of every channel
 choice-balance : {ts : List Term} {h : Configuration} (e : Entry) {r : Rule} {g : Configuration} (x : Name) → WellFormed ts h →
-    choose h e ≡ moved r g → count (g .counts) x + removes x r ≡ count (h .counts) x + adds x r
-unfolding Reduction
+    answerTo h e ≡ moved r g → count (g .counts) x + removes x r ≡ count (h .counts) x + adds x r
+unfolding OneReduction
 choice-balance {ts} {h} e {r} {g} x ok q =
     let p = standing (h .components) in
     let i = reduction-step e ok q (p .0) (p .1) in
     reduction-balance x (i .1)
 
--- ---- the counters after one rule
+-- ---- the net
 
--- each counter is raised by its own rule alone, up to its top
-raised : (r : Rule) (c : Counters) → c .commits ≤ counterTop → c .failed ≤ counterTop → c .retries ≤ counterTop →
-    ((counted r c) .commits ≡ min counterTop (c .commits + same 7 (ruleNumber r))) ×
-    ((counted r c) .failed ≡ min counterTop (c .failed + same 6 (ruleNumber r))) ×
-    ((counted r c) .retries ≡ min counterTop (c .retries + same 5 (ruleNumber r)))
-unfolding counted ruleNumber same counterTop
-raised (OUT a) c h k l = (omega arith, omega arith, omega arith)
-raised (IN a) c h k l = (omega arith, omega arith, omega arith)
-raised (REP a) c h k l = (omega arith, omega arith, omega arith)
-raised ATST c h k l = (omega arith, omega arith, omega arith)
-raised ATRE c h k l = (omega arith, omega arith, omega arith)
-raised ATFAIL c h k l = (omega arith, omega arith, omega arith)
-raised (ATOK δ) c h k l = (omega arith, omega arith, omega arith)
-raised ARDOK c h k l = (omega arith, omega arith, omega arith)
-raised ARDF c h k l = (omega arith, omega arith, omega arith)
-raised AWR c h k l = (omega arith, omega arith, omega arith)
-raised AOI c h k l = (omega arith, omega arith, omega arith)
-raised AOF c h k l = (omega arith, omega arith, omega arith)
-raised AOE c h k l = (omega arith, omega arith, omega arith)
+-- a difference of integers follows the balance
+net-of : (a b c d : ℕ) → a + d ≡ b + c → pos a -ℤ pos b ≡ pos c -ℤ pos d
+net-of a b c d e = ap (λ z. z -ℤ pos b) last ∙ +ℤ-negℤ-cancel (pos c -ℤ pos d) (pos b)
+  where
+    last : pos a ≡ (pos c -ℤ pos d) +ℤ pos b
+    last =
+        sym (+ℤ-negℤ-cancel (pos a) (pos d)) ∙ ap (λ n. pos n -ℤ pos d) e ∙ +ℤ-assoc (pos b) (pos c) (negℤ (pos d))
+        ∙ +ℤ-comm (pos b) (pos c -ℤ pos d)
+
+-- of two counts it stays within the larger
+net-small : (a b : ℕ) → a ≤ 255 → b ≤ 255 → natAbs (pos a -ℤ pos b) ≤ 255
+net-small a zero h k = omega arith
+net-small a (suc b) h k = go (ltb a (suc b))
+  where
+    go : (t : Bool) → natAbs (cond t (negsuc (suc b - suc a)) (pos (a - suc b))) ≤ 255
+    go true = omega arith
+    go false = omega arith
+
+-- ---- the counters
+
+-- a counter is raised by the rule of its number alone, up to its top
+raised : (n : ℕ) (r : Rule) (k : ℕ) → k ≤ counterTop → countedAt n r k ≡ min counterTop (k + same (ruleNumber r) n)
+unfolding countedAt same
+raised n r k h = go (eqb (ruleNumber r) n)
+  where
+    go : (b : Bool) → cond b (min counterTop (suc k)) k ≡ min counterTop (k + cond b 1 0)
+    go true = omega arith
+    go false = omega arith
+
+-- the counters after some steps
+tallied-accounts : (ss : List Step) (c : Counters) → WithinTop c →
+    ((tallied c ss) .commits ≡ min counterTop (c .commits + byRule 7 ss)) × ((tallied c ss) .failed ≡ min counterTop (c .failed + byRule 6 ss)) ×
+    ((tallied c ss) .retries ≡ min counterTop (c .retries + byRule 5 ss))
+unfolding tallied byRule counted
+tallied-accounts [] c top = let a = top .0 in let b = top .1 in let d = top .2 in (omega arith, omega arith, omega arith)
+tallied-accounts (s ∷ ss) c top =
+    let a = raised 7 (s .rule) (c .commits) (top .0) in
+    let b = raised 6 (s .rule) (c .failed) (top .1) in
+    let d = raised 5 (s .rule) (c .retries) (top .2) in
+    let i = tallied-accounts ss (counted (s .rule) c) (omega arith, omega arith, omega arith) in
+    let x = i .0 in let y = i .1 in let z = i .2 in
+    (omega arith, omega arith, omega arith)
+
+-- ---- accepted choices
+
+module _ {ts : List Term} (good : GoodTable ts) where
+  -- they keep the balance of every channel
+  runs-balance : {h g : Configuration} {es : List Entry} → Runs h es g → WellFormed ts h → (x : Name) →
+      count (g .counts) x + total (removes x) (steps h es) ≡ count (h .counts) x + total (adds x) (steps h es)
+  unfolding steps total
+  runs-balance rested ok x = refl
+  runs-balance (ran {e = e} r q more) ok x =
+      let i = runs-balance more (well-formed-step e good ok q) x in let one = choice-balance e x ok q in rw q (omega arith)
+
+  -- and have the accounts of their steps
+  runs-accounts : {h g : Configuration} {es : List Entry} → Runs h es g → WellFormed ts h → (c : Counters) → WithinTop c →
+      Accounts h g c (tallied c (steps h es)) (steps h es)
+  unfolding net
+  runs-accounts {h} {g} {es} m ok c top =
+      let kept = runs-keep (WellFormed ts) (λ h e r g w q. well-formed-step e good w q) m ok in
+      let counters = tallied-accounts (steps h es) c top in
+      record {
+        leaves = runs-steps m .1;
+        balance = runs-balance m ok;
+        net-is = λ x. net-of (count (g .counts) x) (count (h .counts) x) (total (adds x) (steps h es)) (total (removes x) (steps h es)) (runs-balance m ok x);
+        net-within =
+            λ x. net-small (count (g .counts) x) (count (h .counts) x) (count-byte (g .counts) x (kept .channelCounts)) (count-byte (h .counts) x (ok .channelCounts));
+        commits = counters .0;
+        failed = counters .1;
+        retries = counters .2;
+      }
 
 -- ---- a run
 
--- counters that are within their top
-pub record WithinTop (c : Counters) : Type 0 where
-  pub commits : c .commits ≤ counterTop
-  pub failed : c .failed ≤ counterTop
-  pub retries : c .retries ≤ counterTop
-
--- the accounts of a run that had d choices done before it
-record Kept (h : Configuration) (c : Counters) (d : ℕ) (ss : List Step) (a : RunAnswer) : Type 0 where
-  balance : (x : Name) → count (a .configuration .counts) x + total (removes x) ss ≡ count (h .counts) x + total (adds x) ss
-  byte : (x : Name) → count (a .configuration .counts) x ≤ 255
-  leaves : lastOf h ss ≡ a .configuration
+-- a run that had d choices done before it: the choices behind its steps, all accepted
+record Follows (h : Configuration) (c : Counters) (d : ℕ) (ss : List Step) (a : RunAnswer) : Type 0 where
+  chosen : List Entry
+  runs : Runs h chosen (a .configuration)
+  stepped : steps h chosen ≡ ss
+  tally : a .counters ≡ tallied c ss
   moves : a .done ≡ d + length ss
-  commits : a .counters .commits ≡ min counterTop (c .commits + byRule 7 ss)
-  failed : a .counters .failed ≡ min counterTop (c .failed + byRule 6 ss)
-  retries : a .counters .retries ≡ min counterTop (c .retries + byRule 5 ss)
 
--- a run that stops at once
-kept-none : (ts : List Term) (n p d : ℕ) (h : Configuration) (c : Counters) → WellFormed ts h → WithinTop c →
-    Kept h c d [] (record { number = n; place = p; done = d; configuration = h; counters = c })
-unfolding total byRule
-kept-none ts n p d h c ok top = record {
-  balance = λ x. refl;
-  byte = λ x. count-byte (h .counts) x (ok .sixteen);
-  leaves = refl;
-  moves = omega arith;
-  commits = omega arith;
-  failed = omega arith;
-  retries = omega arith;
-}
+-- every run
+run-follows : (items : List ScheduleItem) (h : Configuration) (c : Counters) (p d : ℕ) → Follows h c d (steps h (entries items)) (runFrom h c p d items)
+unfolding steps tallied
+run-follows = run-induction Follows
+    (λ n p d h c. record { chosen = []; runs = rested; stepped = refl; tally = refl; moves = omega arith })
+    (λ e r h g c d ss a q rest. record {
+      chosen = e ∷ rest .chosen;
+      runs = ran r q (rest .runs);
+      stepped = rw (q, rest .stepped);
+      tally = rest .tally;
+      moves = let m = rest .moves in omega arith;
+    })
 
--- one accepted choice before a run
-kept-one : {ts : List Term} → GoodTable ts → (e : Entry) (r : Rule) (h g : Configuration) (c : Counters) (d : ℕ) (ss : List Step) (a : RunAnswer) →
-    choose h e ≡ moved r g → (WellFormed ts g → WithinTop (counted r c) → Kept g (counted r c) (suc d) ss a) → WellFormed ts h → WithinTop c →
-    Kept h c d (record { chosen = e; rule = r; before = h; result = g } ∷ ss) a
-unfolding total byRule
-kept-one good e r h g c d ss a q rest ok top =
-    let up = raised r c (top .commits) (top .failed) (top .retries) in
-    let commits-up = up .0 in
-    let failed-up = up .1 in
-    let retries-up = up .2 in
-    let within : WithinTop (counted r c) = record { commits = omega arith; failed = omega arith; retries = omega arith } in
-    let i = rest (well-formed-step e good ok q) within in
-    record {
-      balance = λ x. let b = i .balance x in let one = choice-balance e x ok q in omega arith;
-      byte = i .byte;
-      leaves = i .leaves;
-      moves = let m = i .moves in omega arith;
-      commits = let m = i .commits in omega arith;
-      failed = let m = i .failed in omega arith;
-      retries = let m = i .retries in omega arith;
-    }
-
--- the claim, for the bytes of every accepted table
+-- the claim of a run, for the bytes of every accepted table
 pub run-accounts : RunAccounts
-unfolding RunAccounts
-run-accounts bs t a h ok c top-commits top-failed top-retries choices =
-    let good = accepted-is-good bs t (a .1) in
-    let i : Kept h c 0 (steps h (entries (schedule choices))) (run h c choices) =
-    run-induction
-    (λ h c d ss a. WellFormed (t .terms) h → WithinTop c → Kept h c d ss a)
-    (λ n p d h c ok top. kept-none (t .terms) n p d h c ok top)
-    (λ e r h g c d ss a q rest ok top. kept-one good e r h g c d ss a q rest ok top)
-    (schedule choices) h c 0 0 ok (record { commits = top-commits; failed = top-failed; retries = top-retries }) in
-    let m = i .moves in
-    record {
-      balance = i .balance;
-      net-above = λ x. let b = i .byte x in omega arith;
-      net-below = λ x. let b = count-byte (h .counts) x (ok .sixteen) in omega arith;
-      leaves = i .leaves;
-      moves = omega arith;
-      commits = i .commits;
-      failed = i .failed;
-      retries = i .retries;
-    }
+unfolding RunAccounts run
+run-accounts bs t a h ok c top choices =
+    let f = run-follows (schedule choices) h c 0 0 in
+    let k = runs-accounts (accepted-is-good bs t (a .1)) (f .runs) ok c top in
+    let m = f .moves in
+    (omega arith, rw (f .tally, ← f .stepped) k)
+
+-- and of a list of calls
+pub calls-accounts : CallsAccounts
+unfolding CallsAccounts
+calls-accounts bs t a h ok l stored top cs =
+    let k = calls-tell bs t (a .1) l h stored ok cs in
+    (k .after, k .hall, runs-steps (k .runs) .0, rw (k .tally) (runs-accounts (accepted-is-good bs t (a .1)) (k .runs) ok (l .counters) top))

@@ -1,5 +1,6 @@
--- ATOK's outputs in any order: such a reduction is one with the outputs in log order, up to the order of those outputs.
--- Hence completeness for that reading too, and that a configuration with no accepted choice has no reduction within the limits.
+-- ATOK's outputs in any order: such a reduction is one with the outputs in log order, up to the order of those
+-- outputs. Hence completeness for that reading too, and that a configuration with no accepted choice has no reduction
+-- within the limits.
 -- Assumes nothing.
 use Prim.Native.Nat.{_≤_}
 use native.Mathlib.Omega.{arith}
@@ -11,11 +12,12 @@ use Rattle.calculus.specs.Syntax.{Name, State, Process, par}
 use Rattle.calculus.specs.State.{occurrences, SameNames}
 use Rattle.calculus.specs.Log.{WT}
 use Rattle.calculus.specs.Reduction.{Label, by, COM, Reduces, OUTr, INr, REPr, COMl, COMr, PARL, PARR, ATSTr, ATPASS, ATREr, ATFAILr, ATOKr, LogOrder, AnyOrder, outputs}
+use Rattle.calculus.proofs.Reductions.{as-printed}
 use Rattle.calculus.proofs.States.{same-self, same-other, occurrences-append}
-use Rattle.semantics.specs.Configuration.{Configuration}
-use Rattle.semantics.specs.Calls.{Quiescent}
-use Rattle.semantics.specs.Correspondence.{Answered, Completeness, Reordered, unchanged, shuffled, within, CompletenessAnyOrder, StillIsStill}
-use Rattle.semantics.specs.Standing.{parallel, WithinLimits}
+use Rattle.semantics.specs.Definitions.Configuration.{Configuration}
+use Rattle.semantics.specs.Definitions.Calls.{Quiescent}
+use Rattle.semantics.specs.Claims.Correspondence.{LogOrderAsPrinted, HasChoices, Completeness, Reordered, unchanged, shuffled, within, CompletenessAnyOrder, StillIsStill}
+use Rattle.semantics.specs.Claims.Denotation.{parallel, WithinLimits}
 use Rattle.semantics.proofs.Communication.{none-occurs}
 use Rattle.semantics.proofs.Completeness.{completeness}
 
@@ -87,6 +89,10 @@ in-log-order (ATOKr {δ = δ} {bs = bs} d o) = (outputs (WT δ), shuffled bs (WT
 
 -- ---- the claims
 
+pub log-order-as-printed : LogOrderAsPrinted
+unfolding LogOrderAsPrinted
+log-order-as-printed l P P′ σ σ′ d = as-printed d
+
 -- completeness with ATOK's outputs in any order, up to the order of those outputs
 pub completeness-any-order : CompletenessAnyOrder
 unfolding CompletenessAnyOrder Completeness
@@ -95,8 +101,8 @@ completeness-any-order bs t acc h ok P s l P′ σ′ d b =
     (P″, same, e, completeness bs t acc h ok P s l P″ σ′ e (reordered-within l (h .counts) σ′ same b))
 
 -- where a reduction is answered some choice is accepted
-answered-moves : (l : Label) (h : Configuration) (P : Process) (σ : State) → Answered l h P σ → Quiescent h → ⊥
-unfolding Answered Quiescent
+answered-moves : (l : Label) (h : Configuration) (P : Process) (σ : State) → HasChoices l h P σ → Quiescent h → ⊥
+unfolding HasChoices Quiescent
 answered-moves (by r) h P σ x still = rw (x .3) at (still (x .0) (x .2))
 answered-moves (COM a) h P σ x still = rw (x .7) at (still (x .0) (x .5))
 

@@ -1,5 +1,5 @@
--- The forward half of demand 3: a list of calls, whatever it refuses on the way, is one run of the choices done from the
--- opening, and that run keeps pace with the atomic run.
+-- A list of calls, whatever it refuses on the way, is one run of the choices done from the opening, and no call is
+-- refused 1 to 11.
 -- Assumes nothing.
 use Prim.Native.Nat.{ℕ, zero, suc, _+_, _≤_}
 use native.Mathlib.Omega.{arith}
@@ -15,32 +15,29 @@ use Rattle.calculus.specs.Syntax.{Name, State}
 use Rattle.calculus.specs.State.{count, without}
 use Rattle.calculus.specs.Log.{RD, WT}
 use Rattle.calculus.specs.Reduction.{Rule, OUT, ATFAIL, ATOK}
-use Rattle.semantics.specs.Basics.{All, replaceAt}
-use Rattle.semantics.specs.Terms.{Expression, endT, retryT, rdT, wtT, orElseT}
-use Rattle.semantics.specs.Table.{Table, accepted, readTable}
-use Rattle.semantics.specs.Logs.{readable, gained, spent}
-use Rattle.semantics.specs.Configuration.{Idle, taking, repeating, block, output, Tree, leaf, fork, Component, idle, transaction, Configuration, opening, opens}
-use Rattle.semantics.specs.Stored.{WellFormed, hallBytes, bytesOf, configurationOf}
-use Rattle.semantics.specs.Moves.{Entry, act, inside, Answer, moved, refused, settles, at, choose, Local, moves, stays, takes, puts, ends, acts, actsInside, Inner, evolves, resting, past, inner, innerLocal}
-use Rattle.semantics.specs.Run.{Item, entry, malformed, schedule, entries, Counters, counted, RunAnswer, goesOn, runFrom, run, steps}
-use Rattle.semantics.specs.AtomicRun.{atomicStart}
-use Rattle.semantics.specs.Calls.{admitted, formTested, sizeTested, tableTested, admission, openSized, openTested, Lent, RunCall, ranOn, runAdmitted, runCall, Call, runChoices, called, calls, callEntries, doneIn}
-use Rattle.semantics.specs.Correspondence.{Accepts}
-use Rattle.semantics.specs.Atomicity.{unbegun, lastOf, answers, firstLent, CommitsOk, AlwaysAttemptsOk, begins, finishes, done, history, atomic}
-use Rattle.semantics.specs.GoodTable.{GoodTable}
+use Rattle.semantics.specs.Definitions.Basics.{All, replaceAt}
+use Rattle.semantics.specs.Definitions.Terms.{Expression, endT, retryT, rdT, wtT, orElseT}
+use Rattle.semantics.specs.Definitions.Table.{Table, accepted, readTable}
+use Rattle.semantics.specs.Definitions.Logs.{readable, addToken, takeToken}
+use Rattle.semantics.specs.Definitions.Configuration.{Idle, taking, repeating, block, output, Tree, leaf, fork, Component, idle, transaction, Configuration, opening, opens}
+use Rattle.semantics.specs.Definitions.Stored.{WellFormed, hallBytes, bytesOf}
+use Rattle.semantics.specs.Definitions.Moves.{Entry, act, inside, Answer, moved, refused, applyAt, atPosition, answerTo, LocalAnswer, moves, blocked, takes, puts, ends, acts, actsInside, Inner, evolves, noRule, outOfRange, inner, innerLocal}
+use Rattle.semantics.specs.Definitions.Run.{ScheduleItem, entry, malformed, schedule, entries, Counters, counted, RunAnswer, continueRun, runFrom, run, steps}
+use Rattle.semantics.specs.Definitions.Calls.{admitted, formTested, sizeTested, tableTested, admission, openSized, openTested, Buffers, RunCall, runResult, runAdmitted, runCall, Call, runChoices, callAnswer, afterCalls, callEntries, entriesDone}
+use Rattle.semantics.specs.Claims.Correspondence.{Accepts}
+use Rattle.semantics.specs.Claims.Atomicity.{answers, firstBuffers}
+use Rattle.semantics.specs.Checks.AcceptedTables.{GoodTable}
 use Rattle.semantics.proofs.GoodTable.{accepted-is-good}
 use Rattle.semantics.proofs.RoundTrip.{stored-fits, read-back, opening-is-well-formed}
 use Rattle.semantics.proofs.WellFormedKept.{well-formed-step}
-use Rattle.semantics.proofs.Simulation.{related-stations, opening-related}
-use Rattle.semantics.proofs.Runs.{Runs, rested, ran, runs-append, runs-keep, runs-steps, tallied, tallied-append, runs-related}
-use Rattle.semantics.proofs.PathClause.{steps-tell, opening-known}
+use Rattle.semantics.proofs.Runs.{Runs, rested, ran, runs-append, runs-keep, tallied, tallied-append}
 
 -- ---- refusals of choices are 12 and above
 
 -- a refusal by a component's move is 12 or above
-abbrev pub LocalHigh : Local → Type 0
+abbrev pub LocalHigh : LocalAnswer → Type 0
 LocalHigh (moves r σ cs) = Unit {0}
-LocalHigh (stays n) = 12 ≤ n
+LocalHigh (blocked n) = 12 ≤ n
 
 -- a refusal of a choice
 abbrev pub AnswerHigh : Answer → Type 0
@@ -48,7 +45,7 @@ AnswerHigh (moved r g) = Unit {0}
 AnswerHigh (refused n) = 12 ≤ n
 
 -- a refusal of a schedule's bytes
-abbrev pub ItemHigh : Item → Type 0
+abbrev pub ItemHigh : ScheduleItem → Type 0
 ItemHigh (entry e w) = Unit {0}
 ItemHigh (malformed n) = 12 ≤ n
 
@@ -57,7 +54,7 @@ takes-high : (σ : State) (a : Name) (r : Rule) (cs : List Idle) → LocalHigh (
 unfolding takes
 takes-high σ a r cs = go (eqb (count σ a) 0)
   where
-    go : (b : Bool) → LocalHigh (cond b (stays 18) (moves r (spent σ a) (map idle cs)))
+    go : (b : Bool) → LocalHigh (cond b (blocked 18) (moves r (takeToken σ a) (map idle cs)))
     go true = omega arith
     go false = tt
 
@@ -66,7 +63,7 @@ puts-high : (σ : State) (a : Name) → LocalHigh (puts σ a)
 unfolding puts
 puts-high σ a = go (leb 255 (count σ a))
   where
-    go : (b : Bool) → LocalHigh (cond b (stays 20) (moves (OUT a) (gained σ a) []))
+    go : (b : Bool) → LocalHigh (cond b (blocked 20) (moves (OUT a) (addToken σ a) []))
     go true = omega arith
     go false = tt
 
@@ -102,13 +99,13 @@ inside-high σ (transaction n M s t) k = go (inner s t k)
   where
     go : (i : Inner) → LocalHigh (innerLocal σ n M s i)
     go (evolves r u) = tt
-    go resting = omega arith
-    go (past j) = omega arith
+    go noRule = omega arith
+    go (outOfRange j) = omega arith
 
 -- at a position
-settles-high : (p : ℕ) (l : Local) (h : Configuration) → LocalHigh l → AnswerHigh (settles p l h)
-unfolding settles
-settles-high p (stays n) h i = i
+settles-high : (p : ℕ) (l : LocalAnswer) (h : Configuration) → LocalHigh l → AnswerHigh (applyAt p l h)
+unfolding applyAt
+settles-high p (blocked n) h i = i
 settles-high p (moves r σ cs) h i = go (leb (length (replaceAt p cs (h .components))) 64)
   where
     go : (b : Bool) → AnswerHigh (cond b (moved r (record { counts = σ; components = replaceAt p cs (h .components) })) (refused 19))
@@ -116,16 +113,16 @@ settles-high p (moves r σ cs) h i = go (leb (length (replaceAt p cs (h .compone
     go false = omega arith
 
 -- of any choice
-choose-high : (h : Configuration) (e : Entry) → AnswerHigh (choose h e)
-unfolding choose
+choose-high : (h : Configuration) (e : Entry) → AnswerHigh (answerTo h e)
+unfolding answerTo
 choose-high h (act p) = go (getElem? (h .components) p)
   where
-    go : (o : Option Component) → AnswerHigh (at o (λ c. settles p (acts (h .counts) c) h))
+    go : (o : Option Component) → AnswerHigh (atPosition o (λ c. applyAt p (acts (h .counts) c) h))
     go none = omega arith
     go (some c) = settles-high p (acts (h .counts) c) h (acts-high (h .counts) c)
 choose-high h (inside p k) = go (getElem? (h .components) p)
   where
-    go : (o : Option Component) → AnswerHigh (at o (λ c. settles p (actsInside (h .counts) c k) h))
+    go : (o : Option Component) → AnswerHigh (atPosition o (λ c. applyAt p (actsInside (h .counts) c k) h))
     go none = omega arith
     go (some c) = settles-high p (actsInside (h .counts) c k) h (inside-high (h .counts) c k)
 
@@ -148,7 +145,7 @@ abbrev pub NotTurnedDown : ℕ → Type 0
 NotTurnedDown n = (n ≡ 0) ⊎ (12 ≤ n)
 
 -- what a run over items from h with so many entries done before it answers
-pub record RunTells (h : Configuration) (c : Counters) (before : ℕ) (items : List Item) (a : RunAnswer) : Type 0 where
+pub record RunTells (h : Configuration) (c : Counters) (before : ℕ) (items : List ScheduleItem) (a : RunAnswer) : Type 0 where
   pub more : ℕ
   pub done : a .done ≡ before + more
   pub runs : Runs h (take more (entries items)) (a .configuration)
@@ -156,15 +153,15 @@ pub record RunTells (h : Configuration) (c : Counters) (before : ℕ) (items : L
   pub number : NotTurnedDown (a .number)
 
 -- the rest of a run does the entries that it counts, and refuses with 0 or with 12 and above
-run-from-tells : (items : List Item) → All ItemHigh items → (h : Configuration) (c : Counters) (p d : ℕ) → RunTells h c d items (runFrom h c p d items)
+run-from-tells : (items : List ScheduleItem) → All ItemHigh items → (h : Configuration) (c : Counters) (p d : ℕ) → RunTells h c d items (runFrom h c p d items)
 unfolding runFrom entries steps tallied
 run-from-tells [] high h c p d = record { more = 0; done = omega arith; runs = rested; tally = refl; number = inl refl }
 run-from-tells (malformed n ∷ items) high h c p d = record { more = 0; done = omega arith; runs = rested; tally = refl; number = inr (high .0) }
-run-from-tells (entry e w ∷ items) high h c p d = go (choose h e) refl (choose-high h e) (λ g k. run-from-tells items (high .1) g k (p + w) (suc d))
+run-from-tells (entry e w ∷ items) high h c p d = go (answerTo h e) refl (choose-high h e) (λ g k. run-from-tells items (high .1) g k (p + w) (suc d))
   where
-    go : (a : Answer) → choose h e ≡ a → AnswerHigh a → ((g : Configuration) (k : Counters) → RunTells g k (suc d) items (runFrom g k (p + w) (suc d) items)) →
+    go : (a : Answer) → answerTo h e ≡ a → AnswerHigh a → ((g : Configuration) (k : Counters) → RunTells g k (suc d) items (runFrom g k (p + w) (suc d) items)) →
         RunTells h c d (entry e w ∷ items)
-        (goesOn a (λ n. record { number = n; place = p; done = d; configuration = h; counters = c }) (λ r g. runFrom g (counted r c) (p + w) (suc d) items))
+        (continueRun a (λ n. record { number = n; place = p; done = d; configuration = h; counters = c }) (λ r g. runFrom g (counted r c) (p + w) (suc d) items))
     go (moved r g) q i rest =
         let t = rest g (counted r c) in
         record { more = suc (t .more); done = t .done ∙ omega arith; runs = ran r q (t .runs); tally = rw q (t .tally); number = t .number }
@@ -197,51 +194,51 @@ module _ (table : List ℕ) (t : Table) (reads : readTable table ≡ accepted t)
       ap (formTested t) (read-back (t .terms) h good w)
 
   -- a call on them is a run
-  pub stored-run : (l : Lent) (h : Configuration) → l .hall ≡ bytesOf h → WellFormed (t .terms) h → (bs : List ℕ) →
-      runCall table l bs ≡ ranOn (run h (l .counters) bs)
+  pub stored-run : (l : Buffers) (h : Configuration) → l .hall ≡ bytesOf h → WellFormed (t .terms) h → (bs : List ℕ) →
+      runCall table l bs ≡ runResult (run h (l .counters) bs)
   unfolding runCall
   stored-run l h e w bs = ap (runAdmitted l bs) (ap (admission table) e ∙ stored-admitted h w)
 
   -- what a call on a stored configuration answers and leaves
-  record CallTells (l : Lent) (h : Configuration) (c : Call) (a : RunCall) : Type 0 where
+  record CallTells (l : Buffers) (h : Configuration) (c : Call) (a : RunCall) : Type 0 where
     after : Configuration
     well-formed : WellFormed (t .terms) after
-    hall : a .lent .hall ≡ bytesOf after
+    hall : a .buffers .hall ≡ bytesOf after
     runs : Runs h (take (a .done) (callEntries c)) after
-    tally : a .lent .counters ≡ tallied (l .counters) (steps h (take (a .done) (callEntries c)))
+    tally : a .buffers .counters ≡ tallied (l .counters) (steps h (take (a .done) (callEntries c)))
     number : NotTurnedDown (a .number)
 
   -- each call does the choices that it counts, to the hall that it leaves
-  call-tells : (l : Lent) (h : Configuration) → l .hall ≡ bytesOf h → WellFormed (t .terms) h → (c : Call) → CallTells l h c (called table l c)
-  unfolding called callEntries ranOn
+  call-tells : (l : Buffers) (h : Configuration) → l .hall ≡ bytesOf h → WellFormed (t .terms) h → (c : Call) → CallTells l h c (callAnswer table l c)
+  unfolding callAnswer callEntries runResult
   call-tells l h e w (runChoices bs) = rw (stored-run l h e w bs) told
     where
       a : RunAnswer
       a = run h (l .counters) bs
 
-      told : CallTells l h (runChoices bs) (ranOn a)
+      told : CallTells l h (runChoices bs) (runResult a)
       told =
           let r = run-tells h (l .counters) bs in
           let w′ = runs-keep (WellFormed (t .terms)) (λ h e r g w q. well-formed-step e good w q) (r .0) w in
           record { after = a .configuration; well-formed = w′; hall = refl; runs = r .0; tally = r .1; number = r .2 }
 
   -- what a list of calls does: the entries done are one run
-  pub record CallsTell (l : Lent) (h : Configuration) (cs : List Call) : Type 0 where
+  pub record CallsTell (l : Buffers) (h : Configuration) (cs : List Call) : Type 0 where
     pub after : Configuration
     pub well-formed : WellFormed (t .terms) after
-    pub hall : (calls table l cs) .hall ≡ bytesOf after
-    pub runs : Runs h (doneIn table l cs) after
-    pub tally : (calls table l cs) .counters ≡ tallied (l .counters) (steps h (doneIn table l cs))
+    pub hall : (afterCalls table l cs) .hall ≡ bytesOf after
+    pub runs : Runs h (entriesDone table l cs) after
+    pub tally : (afterCalls table l cs) .counters ≡ tallied (l .counters) (steps h (entriesDone table l cs))
     pub numbers : All (λ a. NotTurnedDown (a .number)) (answers table l cs)
 
   -- the calls, one after another, are one run of the choices done
-  pub calls-tell : (l : Lent) (h : Configuration) → l .hall ≡ bytesOf h → WellFormed (t .terms) h → (cs : List Call) → CallsTell l h cs
-  unfolding calls doneIn answers steps tallied
+  pub calls-tell : (l : Buffers) (h : Configuration) → l .hall ≡ bytesOf h → WellFormed (t .terms) h → (cs : List Call) → CallsTell l h cs
+  unfolding afterCalls entriesDone answers steps tallied
   calls-tell l h e w [] = record { after = h; well-formed = w; hall = e; runs = rested; tally = refl; numbers = tt }
   calls-tell l h e w (c ∷ cs) =
       let one = call-tells l h e w c in
-      let later = doneIn table ((called table l c) .lent) cs in
-      let rest = calls-tell ((called table l c) .lent) (one .after) (one .hall) (one .well-formed) cs in
+      let later = entriesDone table ((callAnswer table l c) .buffers) cs in
+      let rest = calls-tell ((callAnswer table l c) .buffers) (one .after) (one .hall) (one .well-formed) cs in
       record {
         after = rest .after;
         well-formed = rest .well-formed;
@@ -253,55 +250,19 @@ module _ (table : List ℕ) (t : Table) (reads : readTable table ≡ accepted t)
         numbers = (one .number, rest .numbers);
       }
 
--- ---- the forward half of demand 3
+-- ---- from the opening
 
 -- the hall that opening gives
 pub opened-hall : (table : List ℕ) (t : Table) → readTable table ≡ accepted t → (buffer : List ℕ) → length buffer ≡ hallBytes → (first : Counters) →
-    (firstLent table buffer first) .hall ≡ bytesOf (opening t)
-unfolding firstLent openTested
+    (firstBuffers table buffer first) .hall ≡ bytesOf (opening t)
+unfolding firstBuffers openTested
 opened-hall table t reads buffer size first =
     ap (λ a. (openTested buffer a) .hall) reads ∙
     ap (λ b. (openSized t buffer b) .hall) (ap (λ n. eqb n hallBytes) size ∙ eq-eqb hallBytes hallBytes refl)
 
-module _ (table : List ℕ) (t : Table) (buffer : List ℕ) (first : Counters) (cs : List Call) where
-  -- those fields of demand 3 that speak of the calls themselves, and that the one-step run counts the rules of the history
-  pub record Forward : Type 0 where
-    pub never-turned-down : All (λ a. NotTurnedDown (a .number)) (answers table (begins table t buffer first cs) cs)
-    pub whole : length (history table t buffer first cs) ≡ length (done table t buffer first cs)
-    pub hall : (finishes table t buffer first cs) .hall ≡ bytesOf (lastOf (opening t) (history table t buffer first cs))
-    pub read :
-        configurationOf (t .terms) ((finishes table t buffer first cs) .hall) ≡ some (lastOf (opening t) (history table t buffer first cs))
-    pub counts : lastOf (opening t) (history table t buffer first cs) .counts ≡ (atomic table t buffer first cs) .counts
-    pub stations :
-        map unbegun (lastOf (opening t) (history table t buffer first cs) .components)
-        ≡ map (λ x. x .station) ((atomic table t buffer first cs) .stations)
-    pub tally : (finishes table t buffer first cs) .counters ≡ (atomic table t buffer first cs) .counters
-    pub counted-rules : (atomic table t buffer first cs) .counters ≡ tallied first (history table t buffer first cs)
-    pub attempts : AlwaysAttemptsOk [] (opening t) (history table t buffer first cs)
-    pub paths : CommitsOk [] (history table t buffer first cs)
-
--- of every accepted table, buffer of a hall's size, first tally and list of calls
-pub forward : (table : List ℕ) (t : Table) → Accepts table t → (buffer : List ℕ) → length buffer ≡ hallBytes → (first : Counters) (cs : List Call) →
-    Forward table t buffer first cs
-unfolding begins finishes done history atomic
-forward table t accepts buffer size first cs =
-    let reads = accepts .1 in
-    let all = calls-tell table t reads (firstLent table buffer first) (opening t) (opened-hall table t reads buffer size first)
-    (opening-is-well-formed table t (accepts .0) reads) cs in
-    let stepped = runs-steps (all .runs) in
-    let told = steps-tell (doneIn table (firstLent table buffer first) cs) [] (opening t) (opening-known t) in
-    let paced = runs-related (all .runs) (atomicStart t first) (opening-related t first) in
-    record {
-      never-turned-down = all .numbers;
-      whole = stepped .0;
-      hall = all .hall ∙ ap bytesOf (sym (stepped .1));
-      read =
-          ap (configurationOf (t .terms)) (all .hall) ∙ read-back (t .terms) (all .after) (accepted-is-good table t reads) (all .well-formed)
-          ∙ ap some (sym (stepped .1));
-      counts = ap (λ h. h .counts) (stepped .1) ∙ paced .0 .counts;
-      stations = ap (λ h. map unbegun (h .components)) (stepped .1) ∙ related-stations _ _ (paced .0);
-      tally = all .tally ∙ sym (paced .1);
-      counted-rules = paced .1;
-      attempts = told .1;
-      paths = told .0;
-    }
+-- the calls on it are one run of the choices done
+pub opened-calls : (table : List ℕ) (t : Table) (accepts : Accepts table t) (buffer : List ℕ) → length buffer ≡ hallBytes → (first : Counters) (cs : List Call) →
+    CallsTell table t (accepts .1) (firstBuffers table buffer first) (opening t) cs
+opened-calls table t accepts buffer size first cs =
+    calls-tell table t (accepts .1) (firstBuffers table buffer first) (opening t) (opened-hall table t (accepts .1) buffer size first)
+    (opening-is-well-formed table t (accepts .0) (accepts .1)) cs

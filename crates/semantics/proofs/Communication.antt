@@ -1,17 +1,20 @@
--- A communication is two moves: an output that puts a token on the name, then a move that takes exactly that token away.
--- The labels are found by what a reduction does to the counts.
+-- A communication is two moves: an output that puts a token on the name, then a move that takes exactly that token
+-- away. The labels are found by what a reduction does to the counts.
 -- Assumes nothing.
-use Prim.Native.Nat.{suc, _≤_}
+use Prim.Native.Nat.{ℕ, suc, _+_, _≤_}
 use native.Mathlib.Omega.{arith}
 use native.Mathlib.Decide.{ℕ-discrete}
-use mathlib.Core.Path.{_≡_, refl, sym}
+use mathlib.Core.Path.{_≡_, refl, sym, ap, _∙_}
 use mathlib.Core.List.{List, [], _∷_}
-use Rattle.calculus.specs.Syntax.{Name, State, Process, par}
+use Rattle.calculus.specs.Syntax.{Name, State, Ongoing, Process, par}
 use Rattle.calculus.specs.State.{count, same, occurrences, Included, Plus, without}
 use Rattle.calculus.specs.Log.{RD}
-use Rattle.calculus.specs.Reduction.{Rule, OUT, IN, REP, ATOK, Label, by, COM, Reduces, OUTr, INr, REPr, COMl, COMr, PARL, PARR, ATSTr, ATPASS, ATREr, ATFAILr, ATOKr}
+use Rattle.calculus.specs.Reduction.{Rule, OUT, IN, REP, ATOK, Label, by, COM, Evolves, ardok, ardf, awr, aoi, aof, aoe, aol, aor, Reduces, OUTr, INr, REPr, COMl, COMr, PARL, PARR, ATSTr, ATPASS, ATREr, ATFAILr, ATOKr}
 use Rattle.calculus.proofs.States.{same-self, same-other, count-plus, count-without}
-use Rattle.semantics.specs.Correspondence.{TakesOne}
+use Rattle.semantics.specs.Definitions.Logs.{takeToken}
+use Rattle.semantics.specs.Definitions.Moves.{effectOf}
+use Rattle.semantics.specs.Claims.Correspondence.{TakesOne}
+use Rattle.semantics.proofs.Soundness.{spent-plus}
 
 -- ---- names by their occurrences
 
@@ -43,6 +46,22 @@ grown σ a σ′ p = let z = count-plus σ a a σ′ p in let w = same-self a in
 not-itself : (σ : State) (a : Name) → Plus σ a σ → ⊥
 not-itself σ a p = let z = grown σ a σ p in omega arith
 
+-- one name is not none
+none-is-one : (a : Name) → [] ≡ a ∷ [] → ⊥
+none-is-one a e = let z : _≡_ {A = ℕ} 0 1 = cc in omega arith
+
+-- a reduction of Table 3 takes nothing from the counts
+nothing-taken-inside : {r : Rule} {A A′ : Ongoing} → Evolves r A A′ → (effectOf r) .taken ≡ []
+unfolding effectOf
+nothing-taken-inside (ardok i) = refl
+nothing-taken-inside (ardf i) = refl
+nothing-taken-inside awr = refl
+nothing-taken-inside aoi = refl
+nothing-taken-inside aof = refl
+nothing-taken-inside aoe = refl
+nothing-taken-inside (aol d) = nothing-taken-inside d
+nothing-taken-inside (aor d) = nothing-taken-inside d
+
 module _ (Order : List Name → List Name → Type 0) where
   -- a reduction that adds a token of a to the counts is OUT of a
   pub adding-is-out : {l : Label} {P P′ : Process} {σ σ′ : State} (a : Name) → Plus σ a σ′ → Reduces Order l P σ P′ σ′ → l ≡ by (OUT a)
@@ -68,9 +87,9 @@ module _ (Order : List Name → List Name → Type 0) where
   unfolding TakesOne Included
   taking-is-one a p (OUTr {a = b} {σ = σ} {σ′ = σ′} q) = absurd (let y = grown σ′ a σ p in let z = count-plus σ b a σ′ q in omega arith)
   taking-is-one a p (INr {a = b} {σ = σ} {σ′ = σ′} q) =
-      (IN b, refl, sym (same-name a b (let y = grown σ′ a σ p in let z = count-plus σ′ b a σ q in omega arith)))
+      let e : a ≡ b = same-name a b (let y = grown σ′ a σ p in let z = count-plus σ′ b a σ q in omega arith) in (IN b, refl, cc)
   taking-is-one a p (REPr {a = b} {σ = σ} {σ′ = σ′} q) =
-      (REP b, refl, sym (same-name a b (let y = grown σ′ a σ p in let z = count-plus σ′ b a σ q in omega arith)))
+      let e : a ≡ b = same-name a b (let y = grown σ′ a σ p in let z = count-plus σ′ b a σ q in omega arith) in (REP b, refl, cc)
   taking-is-one a p (COMl {σ = σ} q d e) = absurd (not-itself σ a p)
   taking-is-one a p (COMr {σ = σ} q d e) = absurd (not-itself σ a p)
   taking-is-one a p (PARL d) = taking-is-one a p d
@@ -81,6 +100,22 @@ module _ (Order : List Name → List Name → Type 0) where
   taking-is-one a p (ATFAILr {σ = σ} d) = absurd (not-itself σ a p)
   taking-is-one a p (ATOKr {σ = σ} {δ = δ} d o) =
       (ATOK δ, refl, one-occurs a (RD δ) (λ b. let y = count-plus (without σ (RD δ)) a b σ p in let z = count-without (RD δ) σ b in let i = d b in omega arith))
+
+  -- and back: such a rule takes one token of a from the counts and changes no other count
+  pub one-is-taken : {r : Rule} {P P′ : Process} {σ σ′ : State} (a : Name) → TakesOne a r → Reduces Order (by r) P σ P′ σ′ → Plus σ′ a σ
+  unfolding TakesOne Included occurrences without takeToken
+  one-is-taken a t (OUTr q) = absurd (none-is-one a t)
+  one-is-taken a t (INr {a = b} q) = let e : b ≡ a = cc in rw (← e) q
+  one-is-taken a t (REPr {a = b} q) = let e : b ≡ a = cc in rw (← e) q
+  one-is-taken a t (PARL d) = one-is-taken a t d
+  one-is-taken a t (PARR d) = one-is-taken a t d
+  one-is-taken a t ATSTr = absurd (none-is-one a t)
+  one-is-taken a t (ATPASS d) = absurd (none-is-one a (sym (nothing-taken-inside d) ∙ t))
+  one-is-taken a t ATREr = absurd (none-is-one a t)
+  one-is-taken a t (ATFAILr i) = absurd (none-is-one a t)
+  one-is-taken a t (ATOKr {σ = σ} {δ = δ} i o) =
+      let there : occurrences a (RD δ) ≤ count σ a = i a in
+      rw t (spent-plus σ a (λ e. let z : occurrences a (RD δ) ≡ same a a + 0 = ap (occurrences a) t in let w = same-self a in omega arith))
 
   -- ---- a communication as two moves
 

@@ -1,5 +1,6 @@
--- Completeness: each reduction of a process that a well-formed configuration stands for, within the limits, has its choices.
--- First one rule: where in the process the rule acts there is a component, and its move is the rule's. Then COM, as two moves.
+-- Completeness: each reduction of a process that a well-formed configuration stands for, within the limits, has its
+-- choices. First one rule: where in the process the rule acts there is a component, and its move is the rule's. Then
+-- COM, as two moves.
 -- Assumes nothing.
 use Prim.Native.Nat.{ℕ, suc, _+_, _-_, _≤_, _<_}
 use native.Mathlib.Omega.{arith}
@@ -15,15 +16,16 @@ use Rattle.calculus.specs.Syntax.{Name, rd, wt, Log, State, Expr, end, retry, p
 use Rattle.calculus.specs.State.{count, Plus}
 use Rattle.calculus.specs.Log.{WT}
 use Rattle.calculus.specs.Reduction.{Rule, OUT, IN, REP, by, COM, Evolves, ardok, ardf, awr, aoi, aof, aoe, aol, aor, outputs, LogOrder, Reduces, OUTr, INr, REPr, PARL, PARR, ATSTr, ATPASS, ATREr, ATFAILr, ATOKr}
-use Rattle.semantics.specs.Basics.{replaceAt, All}
-use Rattle.semantics.specs.Terms.{Expression, endT, retryT, rdT, wtT, orElseT, Program, Term}
-use Rattle.semantics.specs.Table.{Table}
-use Rattle.semantics.specs.Logs.{emptyLog, gained, spent}
-use Rattle.semantics.specs.Configuration.{Idle, taking, repeating, block, output, Tree, leaf, fork, Component, idle, transaction, Configuration, branchesOf, nodes, opens}
-use Rattle.semantics.specs.Stored.{ComponentOk, WellFormed}
-use Rattle.semantics.specs.Moves.{Entry, act, inside, moves, takes, puts, acts, evolves, past, inner}
-use Rattle.semantics.specs.Correspondence.{Accepts, InBytes, Answered, Completeness}
-use Rattle.semantics.specs.Standing.{expr, proc, ongoingOf, componentProcess, Stands, nothing, alone, beside, parallel, Bounded, WithinLimits}
+use Rattle.calculus.proofs.Reductions.{no-output-inside}
+use Rattle.semantics.specs.Definitions.Basics.{replaceAt, All}
+use Rattle.semantics.specs.Definitions.Terms.{Expression, endT, retryT, rdT, wtT, orElseT, Program, Term}
+use Rattle.semantics.specs.Definitions.Table.{Table}
+use Rattle.semantics.specs.Definitions.Logs.{emptyLog, addToken, takeToken}
+use Rattle.semantics.specs.Definitions.Configuration.{Idle, taking, repeating, block, output, Tree, leaf, fork, Component, idle, transaction, Configuration, branchesOf, nodes, opens}
+use Rattle.semantics.specs.Definitions.Stored.{ComponentOk, WellFormed}
+use Rattle.semantics.specs.Definitions.Moves.{Entry, act, inside, moves, takes, puts, acts, evolves, outOfRange, inner}
+use Rattle.semantics.specs.Claims.Correspondence.{Accepts, InBytes, HasChoices, Completeness}
+use Rattle.semantics.specs.Claims.Denotation.{expr, proc, ongoingOf, componentProcess, Denotes, nothing, alone, beside, parallel, Bounded, WithinLimits}
 use Rattle.semantics.proofs.Lists.{found-below, found-left, found-right, replaceAt-left, replaceAt-right, all-at, all-getD}
 use Rattle.semantics.proofs.Readable.{included-readable, not-included-unreadable}
 use Rattle.semantics.proofs.Moves.{positionOf, localMove, accepted-made}
@@ -99,7 +101,7 @@ of-leaf {E} {M} {σ} {δ} c e =
 -- ---- a move inside a transaction
 
 -- counting on behind a tree's nodes leads past the tree
-passes-over : (s : State) (t : Tree) (j : ℕ) → inner s t (nodes t + j) ≡ past j
+passes-over : (s : State) (t : Tree) (j : ℕ) → inner s t (nodes t + j) ≡ outOfRange j
 unfolding inner nodes
 passes-over s (leaf M δ) j = let p : 1 + j ≡ suc j = omega arith in rw p
 passes-over s (fork l r) j =
@@ -162,7 +164,7 @@ inner-move (aor {A = A} {B = B} d) s t e =
 -- ---- what stands for a process
 
 -- a process stands for as many components as it has in parallel
-pub stands-length : {P : Process} {cs : List Component} → Stands P cs → parallel P ≡ length cs
+pub stands-length : {P : Process} {cs : List Component} → Denotes P cs → parallel P ≡ length cs
 unfolding parallel componentProcess
 stands-length nothing = refl
 stands-length (alone c e) = rw e (single c)
@@ -179,7 +181,7 @@ stands-length (beside {cs = cs} {ds = ds} p q) =
     let w = length-append cs ds in omega arith
 
 -- equal processes stand for the same components
-as-well : {P Q : Process} {cs : List Component} → P ≡ Q → Stands Q cs → Stands P cs
+as-well : {P Q : Process} {cs : List Component} → P ≡ Q → Denotes Q cs → Denotes P cs
 as-well e s = rw e s
 
 -- ---- where a reduction acts
@@ -198,17 +200,17 @@ record Redex (σ : State) (cs : List Component) (r : Rule) (P : Process) (σ′ 
   found : getElem? cs (positionOf entry) ≡ some mover
   made : localMove σ mover entry ≡ moves r σ′ laid
   node : NodeOf entry mover
-  stands : Stands P (replaceAt (positionOf entry) laid cs)
+  stands : Denotes P (replaceAt (positionOf entry) laid cs)
 
 -- by kind 1, of a component that stands alone and is d
-acting : {σ : State} {c d : Component} {r : Rule} {P : Process} {σ′ : State} {ds : List Component} → c ≡ d → acts σ d ≡ moves r σ′ ds → Stands P ds →
+acting : {σ : State} {c d : Component} {r : Rule} {P : Process} {σ′ : State} {ds : List Component} → c ≡ d → acts σ d ≡ moves r σ′ ds → Denotes P ds →
     Redex σ (c ∷ []) r P σ′
 unfolding replaceAt positionOf localMove
 acting {d = d} {ds = ds} e m s = rw e (record { entry = act 0; mover = d; laid = ds; found = refl; made = m; node = tt; stands = rw append-nil s })
 
 -- with more components behind it
 on-the-left : {σ : State} {cs ds : List Component} {r : Rule} {P Q : Process} {σ′ : State} →
-    Redex σ cs r P σ′ → Stands Q ds → Redex σ (cs ++ ds) r (par P Q) σ′
+    Redex σ cs r P σ′ → Denotes Q ds → Redex σ (cs ++ ds) r (par P Q) σ′
 on-the-left {cs = cs} {ds} m q =
     let below = found-below cs (positionOf (m .entry)) (m .mover) (m .found) in
     record {
@@ -227,7 +229,7 @@ moreBefore n (act p) = act (n + p)
 moreBefore n (inside p k) = inside (n + p) k
 
 on-the-right : {σ : State} {cs ds : List Component} {r : Rule} {P Q : Process} {σ′ : State} →
-    Stands P cs → Redex σ ds r Q σ′ → Redex σ (cs ++ ds) r (par P Q) σ′
+    Denotes P cs → Redex σ ds r Q σ′ → Redex σ (cs ++ ds) r (par P Q) σ′
 unfolding positionOf localMove moreBefore
 on-the-right {σ} {cs} {ds} p m =
     let e = m .entry in
@@ -256,8 +258,8 @@ on-the-right {σ} {cs} {ds} p m =
 -- ---- the moves of idle components
 
 -- without one token more, a state is what it was
-spent-back : (σ : State) (a : Name) (σ′ : State) → Plus σ′ a σ → spent σ a ≡ σ′
-unfolding spent
+pub spent-back : (σ : State) (a : Name) (σ′ : State) → Plus σ′ a σ → takeToken σ a ≡ σ′
+unfolding takeToken
 spent-back σ a σ′ p =
     let g : count σ a - 1 ≡ count σ′ a = let z = grown σ′ a σ p in omega arith in
     rw g (rw (p .added) (set-set σ′ a (suc (count σ′ a)) (count σ′ a) ∙ set-getD σ′ a 0))
@@ -278,7 +280,7 @@ puts-made σ a σ′ p h =
 -- ---- one rule
 
 -- each reduction by one rule is the move of some component, where the counts that it leaves are bytes
-redex : {r : Rule} {P P′ : Process} {σ σ′ : State} {cs : List Component} → Reduces LogOrder (by r) P σ P′ σ′ → Stands P cs → All (λ c. c ≤ 255) σ′ →
+redex : {r : Rule} {P P′ : Process} {σ σ′ : State} {cs : List Component} → Reduces LogOrder (by r) P σ P′ σ′ → Denotes P cs → All (λ c. c ≤ 255) σ′ →
     Redex σ cs r P′ σ′
 unfolding acts localMove positionOf replaceAt componentProcess
 redex (OUTr {a} {σ} {σ′} p) (alone c e) h = acting (of-process (out a) c e) (puts-made σ a σ′ p h) nothing
@@ -348,9 +350,9 @@ entry-in-bytes ts (inside p j) (transaction m M s t) h k n =
     let b = k .3 in (omega arith, omega arith)
 
 -- one rule's reduction within the limits has its choice
-one-rule : (ts : List Term) (h : Configuration) → WellFormed ts h → (P : Process) → Stands P (h .components) → (r : Rule) (P′ : Process) (σ′ : State) →
-    Reduces LogOrder (by r) P (h .counts) P′ σ′ → Bounded P′ σ′ → Answered (by r) h P′ σ′
-unfolding Answered Bounded
+one-rule : (ts : List Term) (h : Configuration) → WellFormed ts h → (P : Process) → Denotes P (h .components) → (r : Rule) (P′ : Process) (σ′ : State) →
+    Reduces LogOrder (by r) P (h .counts) P′ σ′ → Bounded P′ σ′ → HasChoices (by r) h P′ σ′
+unfolding HasChoices Bounded
 one-rule ts h ok P s r P′ σ′ d b =
     let m = redex d s (b .0) in
     let p = positionOf (m .entry) in
@@ -364,26 +366,27 @@ one-rule ts h ok P s r P′ σ′ d b =
 
 -- ---- COM
 
--- an output leaves no more components
-out-leaves-no-more : {a : Name} {P P′ : Process} {σ σ′ : State} → Reduces LogOrder (by (OUT a)) P σ P′ σ′ → parallel P′ ≤ parallel P
+-- an output leaves one component fewer
+pub out-leaves-fewer : {Order : List Name → List Name → Type 0} {a : Name} {P P′ : Process} {σ σ′ : State} →
+    Reduces Order (by (OUT a)) P σ P′ σ′ → suc (parallel P′) ≡ parallel P
 unfolding parallel
-out-leaves-no-more (OUTr p) = omega arith
-out-leaves-no-more (PARL d) = let h = out-leaves-no-more d in omega arith
-out-leaves-no-more (PARR d) = let h = out-leaves-no-more d in omega arith
-out-leaves-no-more (ATPASS d) = omega arith
+out-leaves-fewer (OUTr p) = refl
+out-leaves-fewer (PARL d) = let h = out-leaves-fewer d in omega arith
+out-leaves-fewer (PARR d) = let h = out-leaves-fewer d in omega arith
+out-leaves-fewer (ATPASS d) = absurd (no-output-inside d)
 
 -- a communication within the limits has its two choices; the configuration between them is well formed
 two-moves : (bs : List ℕ) (t : Table) → Accepts bs t → (h : Configuration) → WellFormed (t .terms) h →
-    (P : Process) → Stands P (h .components) → (a : Name) (P′ : Process) → TwoMoves LogOrder a P (h .counts) P′ → Bounded P′ (h .counts) → All (λ c. c ≤ 255) (gained (h .counts) a) →
-    Answered (COM a) h P′ (h .counts)
-unfolding Answered Bounded gained
+    (P : Process) → Denotes P (h .components) → (a : Name) (P′ : Process) → TwoMoves LogOrder a P (h .counts) P′ → Bounded P′ (h .counts) → All (λ c. c ≤ 255) (addToken (h .counts) a) →
+    HasChoices (COM a) h P′ (h .counts)
+unfolding HasChoices Bounded addToken
 two-moves bs t acc h ok P s a P′ m b g =
     next (one-rule (t .terms) h ok P s (OUT a) (m .between) (m .gaining) (m .puts) (rw (m .adds .added) g, few))
   where
     few : parallel (m .between) ≤ 64
-    few = let y = out-leaves-no-more (m .puts) in let z = stands-length s in let w = ok .few in omega arith
+    few = let y = out-leaves-fewer (m .puts) in let z = stands-length s in let w = ok .few in omega arith
 
-    next : Answered (by (OUT a)) h (m .between) (m .gaining) → Answered (COM a) h P′ (h .counts)
+    next : HasChoices (by (OUT a)) h (m .between) (m .gaining) → HasChoices (COM a) h P′ (h .counts)
     next x =
         let (e, f, small, first, reached, between) = x in
         let kept = well-formed-step e (accepted-is-good bs t (acc .1)) ok first in

@@ -11,15 +11,28 @@ use mathlib.Core.List.{List, [], _∷_, _++_}
 use lib.ListN.{length}
 use Rattle.calculus.specs.Syntax.{Name, rd, wt, Log, State}
 use Rattle.calculus.specs.Reduction.{Rule, ARDOK, ARDF, AWR, AOI, AOF, AOE}
-use Rattle.semantics.specs.Basics.{All}
-use Rattle.semantics.specs.Terms.{Expression, endT, retryT, rdT, wtT, orElseT, branches}
-use Rattle.semantics.specs.Logs.{emptyLog, readable, firstReadable}
-use Rattle.semantics.specs.Configuration.{Tree, leaf, fork}
-use Rattle.semantics.specs.Moves.{evolves, inner, inLeft, atLeaf, reads, atFork}
-use Rattle.semantics.specs.Converse.{firstFrom, nodesFor}
+use Rattle.semantics.specs.Definitions.Basics.{All}
+use Rattle.semantics.specs.Definitions.Terms.{Expression, endT, retryT, rdT, wtT, orElseT, branches}
+use Rattle.semantics.specs.Definitions.Logs.{emptyLog, readable, firstReadable}
+use Rattle.semantics.specs.Definitions.Configuration.{Tree, leaf, fork}
+use Rattle.semantics.specs.Definitions.Moves.{evolves, inner, inLeft, atLeaf, reads, atFork}
 use Rattle.semantics.proofs.Measures.{branches-positive}
 use Rattle.semantics.proofs.Lists.{all-append}
-use Rattle.semantics.proofs.Outcome.{readable-empty, readable-write, orElseOf, first-from-empty, first-from-end, first-from-retry, first-from-rd, first-from-wt, first-from-orElse, first-from-unreadable}
+use Rattle.semantics.proofs.Outcome.{firstFrom, readable-empty, readable-write, orElseOf, first-from-empty, first-from-end, first-from-retry, first-from-rd, first-from-wt, first-from-orElse, first-from-unreadable}
+
+-- the nodes to move at, for a leaf at preorder node k until it is a single end or retry leaf: the left side of an orElse
+-- first, then the fork, then where the left side failed the right one
+unfoldable pub nodesFor : State → Expression → Log → (k : ℕ) → List ℕ
+unfolding firstFrom readable
+nodesFor s (endT n) δ k = []
+nodesFor s (retryT n) δ k = []
+nodesFor s (rdT n a M) δ k = k ∷ cond (readable s (δ ++ (rd a ∷ []))) (nodesFor s M (δ ++ (rd a ∷ [])) k) []
+nodesFor s (wtT n a M) δ k = k ∷ nodesFor s M (δ ++ (wt a ∷ [])) k
+nodesFor s (orElseT n M N) δ k = k ∷ (nodesFor s M δ (suc k) ++ (k ∷ unlessEnded (firstFrom s M δ) (nodesFor s N δ k)))
+  where
+    unlessEnded : Option Log → List ℕ → List ℕ
+    unlessEnded none ks = ks
+    unlessEnded (some π) ks = []
 
 -- moves inside at a list of nodes, one after another
 pub data Driven (s : State) : Tree → List ℕ → Tree → Type 0 where

@@ -1,23 +1,23 @@
--- The moves inside an attempt, in any order, come to an end and to one end only: the four claims of specs/InnerMoves.
+-- The moves inside an attempt, in any order, come to an end and to one end only: the claims of specs/InnerMoves.
 -- Assumes nothing.
-use Prim.Native.Nat.{ℕ, zero, suc, _+_, _<_}
+use Prim.Native.Nat.{ℕ, zero, suc, _≤_, _<_}
 use native.Mathlib.Omega.{arith}
-use mathlib.Core.Path.{_≡_, refl, sym}
-use mathlib.Core.Bool.{Bool, true, false}
+use mathlib.Core.Path.{_≡_, refl, sym, ap, _∙_}
+use mathlib.Core.Bool.{Bool, true, false, cond}
 use mathlib.Core.Option.{some}
 use mathlib.Core.List.{List, [], _∷_, _++_}
 use lib.ListN.{length, getElem?}
 use borrow.Author.Tests.{le-leb}
 use Rattle.calculus.specs.Syntax.{Name, rd, wt, Log, State}
-use Rattle.calculus.specs.Reduction.{Rule, OUT, IN, REP, ATST, ATRE, ATFAIL, ATOK, ARDOK, ARDF, AWR, AOI, AOF, AOE}
-use Rattle.semantics.specs.Basics.{replaceAt}
-use Rattle.semantics.specs.Terms.{Expression, endT, retryT, rdT, wtT, orElseT}
-use Rattle.semantics.specs.Logs.{readable}
-use Rattle.semantics.specs.Configuration.{Tree, leaf, fork, Component, transaction, Configuration, branchesOf}
-use Rattle.semantics.specs.Stored.{ComponentOk}
-use Rattle.semantics.specs.Moves.{inside, moved, moves, at, choose, Inner, evolves, resting, past, inner, innerLocal}
-use Rattle.semantics.specs.Correspondence.{InBytes}
-use Rattle.semantics.specs.InnerMoves.{weight, Settled, Moves, unmoved, movedOn, MovesEnd, MovesGoOn, SettledRests, EndsWith, MovesSettleFirstPath}
+use Rattle.calculus.specs.Reduction.{Rule, ARDOK, ARDF, AWR, AOI, AOF, AOE}
+use Rattle.semantics.specs.Definitions.Basics.{replaceAt}
+use Rattle.semantics.specs.Definitions.Terms.{Expression, endT, retryT, rdT, wtT, orElseT}
+use Rattle.semantics.specs.Definitions.Logs.{readable}
+use Rattle.semantics.specs.Definitions.Configuration.{Tree, leaf, fork, Component, transaction, Configuration, branchesOf}
+use Rattle.semantics.specs.Definitions.Stored.{ComponentOk}
+use Rattle.semantics.specs.Definitions.Moves.{inside, moved, moves, atPosition, answerTo, Inner, evolves, noRule, outOfRange, inner, innerLocal, ruleNumber}
+use Rattle.semantics.specs.Claims.Correspondence.{InBytes}
+use Rattle.semantics.specs.Claims.InnerMoves.{weight, Settled, Moves, unmoved, movedOn, MovesEnd, MovesGoOn, SettledRests, OneEnd, EndsWith, MovesSettleFirstPath}
 use Rattle.semantics.proofs.Measures.{tree-branches-positive}
 use Rattle.semantics.proofs.Lists.{found-below, length-replaceAt, all-at}
 use Rattle.semantics.proofs.Moves.{positionOf, localMove, accepted-inverts, Moving, inner-induction}
@@ -88,6 +88,66 @@ settled-rests s (fork l m) h k r v e = h
 
 -- ---- the one end
 
+-- a fork that has come to rest in its left side: an end there remains, a retry gives way to the right side
+settledFork : Tree → Tree → Tree
+settledFork (leaf (endT n) δ) r = leaf (endT n) δ
+settledFork (leaf (retryT n) δ) r = r
+settledFork (leaf (rdT n a M) δ) r = fork (leaf (rdT n a M) δ) r
+settledFork (leaf (wtT n a M) δ) r = fork (leaf (wtT n a M) δ) r
+settledFork (leaf (orElseT n M N) δ) r = fork (leaf (orElseT n M N) δ) r
+settledFork (fork l m) r = fork (fork l m) r
+
+-- the tree in which moves at a snapshot end: of a leaf, and of every tree
+finalLeaf : State → Expression → Log → Tree
+finalLeaf s (endT n) δ = leaf (endT n) δ
+finalLeaf s (retryT n) δ = leaf (retryT n) δ
+finalLeaf s (rdT n a M) δ =
+    cond (readable s (δ ++ (rd a ∷ []))) (finalLeaf s M (δ ++ (rd a ∷ []))) (leaf (retryT 255) δ)
+finalLeaf s (wtT n a M) δ = finalLeaf s M (δ ++ (wt a ∷ []))
+finalLeaf s (orElseT n M N) δ = settledFork (finalLeaf s M δ) (finalLeaf s N δ)
+
+final : State → Tree → Tree
+final s (leaf M δ) = finalLeaf s M δ
+final s (fork l r) = settledFork (final s l) (final s r)
+
+-- every move inside keeps it
+inner-keeps-final : (s : State) (t : Tree) (k : ℕ) → Moving (λ t r u. final s u ≡ final s t) t (inner s t k)
+unfolding final finalLeaf settledFork
+inner-keeps-final s = inner-induction (record {
+  ardok = λ n a M δ e. rw e;
+  ardf = λ n a M δ e. rw e;
+  awr = λ n a M δ. refl;
+  aoi = λ n M N δ. refl;
+  aof = λ n δ r. refl;
+  aoe = λ n δ r. refl;
+  aol = λ l r u e h. ap (λ x. settledFork x (final s r)) h;
+  aor = λ l r u e h. ap (settledFork (final s l)) h;
+})
+
+-- and so do any number of them
+moves-keep-final : {s : State} {t u : Tree} → Moves s t u → final s u ≡ final s t
+moves-keep-final unmoved = refl
+moves-keep-final {s} (movedOn {t = t} {u = u} k r e m) =
+    let one : final s u ≡ final s t = rw e at (inner-keeps-final s t k) in moves-keep-final m ∙ one
+
+-- a single end or retry leaf is its own final tree
+settled-final : (s : State) (t : Tree) → Settled t → final s t ≡ t
+unfolding final finalLeaf
+settled-final s (leaf (endT n) δ) h = refl
+settled-final s (leaf (retryT n) δ) h = refl
+settled-final s (leaf (rdT n a M) δ) h = absurd h
+settled-final s (leaf (wtT n a M) δ) h = absurd h
+settled-final s (leaf (orElseT n M N) δ) h = absurd h
+settled-final s (fork l r) h = absurd h
+
+-- so two of them that were reached from one tree are the same
+pub one-end : OneEnd
+unfolding OneEnd
+one-end s u v w m h n k =
+    sym (settled-final s v h) ∙ moves-keep-final m ∙ sym (moves-keep-final n) ∙ settled-final s w k
+
+-- ---- the first readable path
+
 -- a settled tree that is true to its block ends as the block's first path says
 ends-with : (s : State) (M : Expression) (u : Tree) → Settled u → Faithful s M u → EndsWith s M u
 ends-with s M (leaf (endT n) δ) h f = faithful-end s M n δ f
@@ -115,34 +175,16 @@ moves-settle-first-path s M u m h = ends-with s M u h (moves-keep s M m (faithfu
 
 -- ---- the rules of the moves inside
 
--- the six rules of moves inside
-abbrev pub InnerRule : Rule → Type 0
-InnerRule (OUT a) = ⊥
-InnerRule (IN a) = ⊥
-InnerRule (REP a) = ⊥
-InnerRule ATST = ⊥
-InnerRule ATRE = ⊥
-InnerRule ATFAIL = ⊥
-InnerRule (ATOK δ) = ⊥
-InnerRule ARDOK = Unit {0}
-InnerRule ARDF = Unit {0}
-InnerRule AWR = Unit {0}
-InnerRule AOI = Unit {0}
-InnerRule AOF = Unit {0}
-InnerRule AOE = Unit {0}
-
--- a move inside is by one of them
-abbrev pub ByInnerRule : Tree → Inner → Type 0
-ByInnerRule t i = Moving (λ t r u. InnerRule r) t i
-
-pub inner-rule : (s : State) (t : Tree) (k : ℕ) → ByInnerRule t (inner s t k)
+-- a move inside is by one of the rules 8 to 13
+pub inner-rule : (s : State) (t : Tree) (k : ℕ) → Moving (λ t r u. 8 ≤ ruleNumber r) t (inner s t k)
+unfolding ruleNumber
 inner-rule s = inner-induction (record {
-  ardok = λ n a M δ e. tt;
-  ardf = λ n a M δ e. tt;
-  awr = λ n a M δ. tt;
-  aoi = λ n M N δ. tt;
-  aof = λ n δ r. tt;
-  aoe = λ n δ r. tt;
+  ardok = λ n a M δ e. omega arith;
+  ardf = λ n a M δ e. omega arith;
+  awr = λ n a M δ. omega arith;
+  aoi = λ n M N δ. omega arith;
+  aof = λ n δ r. omega arith;
+  aoe = λ n δ r. omega arith;
   aol = λ l r u e h. h;
   aor = λ l r u e h. h;
 })
@@ -159,12 +201,12 @@ inside-moved σ p k n M s u r σ′ cs q = go (inner s u k) refl q
     go : (i : Inner) → inner s u k ≡ i → innerLocal σ n M s i ≡ moves r σ′ cs →
         (v : Tree) × (inner s u k ≡ evolves r v) × (σ ≡ σ′) × (transaction n M s v ∷ [] ≡ cs)
     go (evolves r′ v) i q = let z : r′ ≡ r = cc in (v, rw (← z) i, cc, cc)
-    go resting i q = let z : _≡_ {A = ℕ} 0 1 = cc in absurd (omega arith)
-    go (past j) i q = let z : _≡_ {A = ℕ} 0 1 = cc in absurd (omega arith)
+    go noRule i q = let z : _≡_ {A = ℕ} 0 1 = cc in absurd (omega arith)
+    go (outOfRange j) i q = let z : _≡_ {A = ℕ} 0 1 = cc in absurd (omega arith)
 
 -- an accepted move inside the attempt at p is a move of its nodes, and changes nothing else
 pub inside-alone : (h : Configuration) (p k n : ℕ) (M : Expression) (s : State) (u : Tree) →
-    getElem? (h .components) p ≡ some (transaction n M s u) → (r : Rule) (g : Configuration) → choose h (inside p k) ≡ moved r g →
+    getElem? (h .components) p ≡ some (transaction n M s u) → (r : Rule) (g : Configuration) → answerTo h (inside p k) ≡ moved r g →
     (v : Tree) × (inner s u k ≡ evolves r v) × (g .counts ≡ h .counts) × (g .components ≡ replaceAt p (transaction n M s v ∷ []) (h .components))
 unfolding positionOf
 inside-alone h p k n M s u e r g q =
@@ -184,10 +226,10 @@ moves-end bs t a h w p k n M s u e r g q =
 
 -- an attempt that is no single end or retry leaf has a move inside it
 pub moves-go-on : MovesGoOn
-unfolding MovesGoOn InBytes choose ComponentOk
+unfolding MovesGoOn InBytes answerTo ComponentOk
 moves-go-on bs t a h w p n M s u e live = go (mover s u live)
   where
-    go : Mover s u → (k : ℕ) × (r : Rule) × (g : Configuration) × InBytes (inside p k) × (choose h (inside p k) ≡ moved r g)
+    go : Mover s u → (k : ℕ) × (r : Rule) × (g : Configuration) × InBytes (inside p k) × (answerTo h (inside p k) ≡ moved r g)
     go (k, r, v, q, b) =
         let below = found-below (h .components) p (transaction n M s u) e in
         let few = w .few in

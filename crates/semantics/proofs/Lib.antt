@@ -1,4 +1,6 @@
--- The proofs of the claims in specs/, and the laws they rest on.
+-- The proofs of the claims in specs/, and the laws they rest on. The worked examples come first: the laws of lists and of reading
+-- name them, and all else rests on those.
+pub mod Examples
 pub mod Lists
 pub mod Reading
 pub mod Readable
@@ -12,10 +14,12 @@ pub mod Soundness
 pub mod Accounts
 pub mod Communication
 pub mod Completeness
+pub mod Handover
 pub mod AnyOrder
 pub mod Limits
 pub mod Outcome
 pub mod InnerMoves
+pub mod PrintedMoves
 pub mod Simulation
 pub mod PathClause
 pub mod Runs
@@ -23,11 +27,14 @@ pub mod CallsAsOne
 pub mod Abandoned
 pub mod Drive
 pub mod Converse
+pub mod ConverseSteps
 pub mod RecordShapes
 pub mod ChoiceConditions
 pub mod TableConditions
 pub mod HallConditions
 pub mod RunConditions
 pub mod CallConditions
+pub mod Suggestions
 pub mod Theorems
-pub mod Examples
+pub mod GainExamples
+pub mod PrintedRun

@@ -3,12 +3,15 @@
 use Prim.Native.Nat.{ℕ, zero, suc, _+_, _≤_, _<_}
 use native.Mathlib.Nat.{le-of-suc-le-suc, not-suc-le-zero, zero-add, suc-add}
 use native.Mathlib.Omega.{arith}
-use mathlib.Core.Path.{_≡_, refl, sym, ap, _∙_}
+use mathlib.Core.Path.{_≡_, refl, sym, ap, ap₂, _∙_}
 use mathlib.Core.Logic.{_⊎_, inl, inr}
-use mathlib.Core.Option.{none, some}
+use mathlib.Core.Option.{none, some, Option·map}
 use mathlib.Core.List.{List, [], _∷_, _++_, map, append-assoc, map-append}
 use lib.ListN.{length, getD, drop, set, replicate, getElem?, length-append}
-use Rattle.semantics.specs.Basics.{replaceAt, All}
+use Rattle.semantics.specs.Definitions.Basics.{replaceAt, All}
+-- the worked examples are checked before any law, so that a wrong definition is first refused by a row that shows it
+use Rattle.semantics.proofs.Examples as Worked
+use Rattle.semantics.proofs.GainExamples as WorkedHistories
 
 -- ---- the element at a position
 
@@ -68,6 +71,24 @@ pub found-map {ℓ κ} : {A : Type ℓ} {B : Type κ} (f : A → B) (xs : List A
 found-map f [] p x e = absurd (none-found p x e)
 found-map f (y ∷ ys) zero x e = cc
 found-map f (y ∷ ys) (suc p) x e = found-map f ys p x e
+
+-- whether or not there is one
+pub found-map? {ℓ κ} : {A : Type ℓ} {B : Type κ} (f : A → B) (xs : List A) (p : ℕ) → getElem? (map f xs) p ≡ Option·map f (getElem? xs p)
+found-map? f [] p = refl
+found-map? f (x ∷ xs) zero = refl
+found-map? f (x ∷ xs) (suc p) = found-map? f xs p
+
+-- and back: where an image has an element there, the list has one that it comes from
+pub found-back {ℓ κ} : {A : Type ℓ} {B : Type κ} (f : A → B) (xs : List A) (p : ℕ) (y : B) → getElem? (map f xs) p ≡ some y →
+    (x : A) × (getElem? xs p ≡ some x) × (f x ≡ y)
+found-back f [] p y e = absurd (none-found p y e)
+found-back f (x ∷ xs) zero y e = (x, refl, cc)
+found-back f (x ∷ xs) (suc p) y e = found-back f xs p y e
+
+-- two functions that agree have the same images
+pub map-agree {ℓ κ} : {A : Type ℓ} {B : Type κ} (f g : A → B) → ((x : A) → f x ≡ g x) → (xs : List A) → map f xs ≡ map g xs
+map-agree f g h [] = refl
+map-agree f g h (x ∷ xs) = ap₂ _∷_ (h x) (map-agree f g h xs)
 
 -- ---- one element gives way to several
 
@@ -197,6 +218,11 @@ module _ {ℓ} {A : Type ℓ} (P : A → Type 0) where
   all-getD [] i d h k = k
   all-getD (y ∷ ys) zero d h k = h .0
   all-getD (y ∷ ys) (suc i) d h k = all-getD ys i d (h .1) k
+
+-- of one property another follows
+pub all-weaken {ℓ} : {A : Type ℓ} (P Q : A → Type 0) → ((x : A) → P x → Q x) → (xs : List A) → All P xs → All Q xs
+all-weaken P Q f [] h = tt
+all-weaken P Q f (x ∷ xs) h = (f x (h .0), all-weaken P Q f xs (h .1))
 
 -- a property of every image
 pub all-map {ℓ κ} : {A : Type ℓ} {B : Type κ} (f : A → B) (P : B → Type 0) (xs : List A) → All (λ x. P (f x)) xs → All P (map f xs)

@@ -2,8 +2,8 @@
 -- Assumes nothing.
 use Prim.Native.Nat.{_≤_}
 use native.Mathlib.Omega.{arith}
-use Rattle.semantics.specs.Terms.{Expression, endT, retryT, rdT, wtT, orElseT, branches}
-use Rattle.semantics.specs.Configuration.{Tree, leaf, fork, branchesOf}
+use Rattle.semantics.specs.Definitions.Terms.{Expression, endT, retryT, rdT, wtT, orElseT, branches}
+use Rattle.semantics.specs.Definitions.Configuration.{Tree, leaf, fork, branchesOf}
 
 -- every expression has a branch
 pub branches-positive : (M : Expression) → 1 ≤ branches M

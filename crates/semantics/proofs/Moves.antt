@@ -12,12 +12,12 @@ use lib.Dec.{leb}
 use borrow.Author.Tests.{leb-true, le-leb}
 use Rattle.calculus.specs.Syntax.{Name, rd, wt, Log, State}
 use Rattle.calculus.specs.Reduction.{Rule, ARDOK, ARDF, AWR, AOI, AOF, AOE}
-use Rattle.semantics.specs.Basics.{replaceAt}
-use Rattle.semantics.specs.Terms.{Expression, endT, retryT, rdT, wtT, orElseT}
-use Rattle.semantics.specs.Logs.{readable}
-use Rattle.semantics.specs.Configuration.{Tree, leaf, fork, Component, Configuration}
-use Rattle.semantics.specs.Moves.{Entry, act, inside, Local, moves, stays, acts, Inner, evolves, resting, past, atLeaf, atFork, inRight, inLeft, inner, actsInside, Answer, moved, refused, settles, at, choose}
-use Rattle.semantics.specs.Run.{Item, entry, malformed, entries, Counters, counted, RunAnswer, goesOn, runFrom, Step, stepsOn, steps}
+use Rattle.semantics.specs.Definitions.Basics.{replaceAt}
+use Rattle.semantics.specs.Definitions.Terms.{Expression, endT, retryT, rdT, wtT, orElseT}
+use Rattle.semantics.specs.Definitions.Logs.{readable}
+use Rattle.semantics.specs.Definitions.Configuration.{Tree, leaf, fork, Component, Configuration}
+use Rattle.semantics.specs.Definitions.Moves.{Entry, act, inside, LocalAnswer, moves, blocked, acts, Inner, evolves, noRule, outOfRange, atLeaf, atFork, inRight, inLeft, inner, actsInside, Answer, moved, refused, applyAt, atPosition, answerTo}
+use Rattle.semantics.specs.Definitions.Run.{ScheduleItem, entry, malformed, entries, Counters, counted, RunAnswer, continueRun, runFrom, Step, continueSteps, steps}
 use Rattle.semantics.proofs.Reading.{by-cases}
 
 -- the position that an entry names
@@ -26,7 +26,7 @@ positionOf (act p) = p
 positionOf (inside p k) = p
 
 -- what an entry asks of the component there
-unfoldable pub localMove : State → Component → Entry → Local
+unfoldable pub localMove : State → Component → Entry → LocalAnswer
 unfolding acts actsInside
 localMove σ c (act p) = acts σ c
 localMove σ c (inside p k) = actsInside σ c k
@@ -43,22 +43,22 @@ pub record Accepted (h : Configuration) (e : Entry) (r : Rule) (g : Configuratio
 
 -- a choice as a local move at a position
 pub choose-at : (h : Configuration) (e : Entry) →
-    choose h e ≡ at (getElem? (h .components) (positionOf e)) (λ c. settles (positionOf e) (localMove (h .counts) c e) h)
-unfolding choose positionOf localMove
+    answerTo h e ≡ atPosition (getElem? (h .components) (positionOf e)) (λ c. applyAt (positionOf e) (localMove (h .counts) c e) h)
+unfolding answerTo positionOf localMove
 choose-at h (act p) = refl
 choose-at h (inside p k) = refl
 
 -- where a component is there
 pub chosen-at : (h : Configuration) (e : Entry) (c : Component) → getElem? (h .components) (positionOf e) ≡ some c →
-    choose h e ≡ settles (positionOf e) (localMove (h .counts) c e) h
-unfolding at
+    answerTo h e ≡ applyAt (positionOf e) (localMove (h .counts) c e) h
+unfolding atPosition
 chosen-at h e c f = choose-at h e ∙ rw f
 
 -- a local move that is accepted at a position
-settled-inverts : (p : ℕ) (l : Local) (h : Configuration) (r : Rule) (g : Configuration) → settles p l h ≡ moved r g →
+settled-inverts : (p : ℕ) (l : LocalAnswer) (h : Configuration) (r : Rule) (g : Configuration) → applyAt p l h ≡ moved r g →
     (cs : List Component) × (l ≡ moves r (g .counts) cs) × (g .components ≡ replaceAt p cs (h .components)) × (length (g .components) ≤ 64)
-unfolding settles
-settled-inverts p (stays n) h r g e = absurd (let z : _≡_ {A = ℕ} 0 1 = cc in omega arith)
+unfolding applyAt
+settled-inverts p (blocked n) h r g e = absurd (let z : _≡_ {A = ℕ} 0 1 = cc in omega arith)
 settled-inverts p (moves q σ cs) h r g e = go (leb (length (replaceAt p cs (h .components))) 64) refl
   where
     laidDown : Configuration
@@ -74,14 +74,14 @@ settled-inverts p (moves q σ cs) h r g e = go (leb (length (replaceAt p cs (h .
     go false t = let f : refused 19 ≡ moved r g = rw t at e in absurd (let z : _≡_ {A = ℕ} 0 1 = cc in omega arith)
 
 -- every accepted choice comes apart so
-pub accepted-inverts : (h : Configuration) (e : Entry) (r : Rule) (g : Configuration) → choose h e ≡ moved r g → Accepted h e r g
-unfolding at
+pub accepted-inverts : (h : Configuration) (e : Entry) (r : Rule) (g : Configuration) → answerTo h e ≡ moved r g → Accepted h e r g
+unfolding atPosition
 accepted-inverts h e r g q = go (getElem? (h .components) (positionOf e)) refl
   where
     go : (o : Option Component) → getElem? (h .components) (positionOf e) ≡ o → Accepted h e r g
     go none f = let z : refused 14 ≡ moved r g = rw (choose-at h e, f) at q in absurd (let o : _≡_ {A = ℕ} 0 1 = cc in omega arith)
     go (some c) f =
-        let s : settles (positionOf e) (localMove (h .counts) c e) h ≡ moved r g = rw (choose-at h e, f) at q in
+        let s : applyAt (positionOf e) (localMove (h .counts) c e) h ≡ moved r g = rw (choose-at h e, f) at q in
         let i = settled-inverts (positionOf e) (localMove (h .counts) c e) h r g s in
         record { component = c; found = f; laid = i .0; local = i .1; placed = i .2; fits = i .3 }
 
@@ -89,8 +89,8 @@ accepted-inverts h e r g q = go (getElem? (h .components) (positionOf e)) refl
 pub accepted-made : (h : Configuration) (e : Entry) (r : Rule) (σ : State) (c : Component) (cs : List Component) →
     getElem? (h .components) (positionOf e) ≡ some c → localMove (h .counts) c e ≡ moves r σ cs →
     length (replaceAt (positionOf e) cs (h .components)) ≤ 64 →
-    choose h e ≡ moved r (record { counts = σ; components = replaceAt (positionOf e) cs (h .components) })
-unfolding settles
+    answerTo h e ≡ moved r (record { counts = σ; components = replaceAt (positionOf e) cs (h .components) })
+unfolding applyAt
 accepted-made h e r σ c cs f l k = chosen-at h e c f ∙ rw (l, le-leb _ 64 k)
 
 -- ---- a move inside a transaction
@@ -98,8 +98,8 @@ accepted-made h e r σ c cs f l k = chosen-at h e c f ∙ rw (l, le-leb _ 64 k)
 -- a property of the tree, the rule and the tree afterwards, of an answer that is a move
 abbrev pub Moving : (Tree → Rule → Tree → Type 0) → Tree → Inner → Type 0
 Moving Q t (evolves r u) = Q t r u
-Moving Q t resting = Unit {0}
-Moving Q t (past k) = Unit {0}
+Moving Q t noRule = Unit {0}
+Moving Q t (outOfRange k) = Unit {0}
 
 -- it holds of each of the six rules, and of a fork where it holds of the side that moves
 pub record EachRule (s : State) (Q : Tree → Rule → Tree → Type 0) : Type 0 where
@@ -136,15 +136,15 @@ module _ {s : State} {Q : Tree → Rule → Tree → Type 0} (each : EachRule s 
   right-moving : (l r : Tree) (i : Inner) → Moving Q r i → Moving Q (fork l r) (inRight l i)
   unfolding inRight
   right-moving l r (evolves e u) h = each .aor l r u e h
-  right-moving l r resting h = tt
-  right-moving l r (past k) h = tt
+  right-moving l r noRule h = tt
+  right-moving l r (outOfRange k) h = tt
 
   -- in its left side, or past it
   left-moving : (l r : Tree) (i : Inner) (next : ℕ → Inner) → Moving Q l i → ((j : ℕ) → Moving Q (fork l r) (next j)) → Moving Q (fork l r) (inLeft r i next)
   unfolding inLeft
   left-moving l r (evolves e u) next h f = each .aol l r u e h
-  left-moving l r resting next h f = tt
-  left-moving l r (past j) next h f = f j
+  left-moving l r noRule next h f = tt
+  left-moving l r (outOfRange j) next h f = f j
 
   -- it holds of every move inside
   pub inner-induction : (t : Tree) (k : ℕ) → Moving Q t (inner s t k)
@@ -162,18 +162,18 @@ module _ {s : State} {Q : Tree → Rule → Tree → Type 0} (each : EachRule s 
 -- its first configuration and counters, the choices done before it, its steps and its answer
 pub run-induction : (Q : Configuration → Counters → ℕ → List Step → RunAnswer → Type 0) →
     ((n p d : ℕ) (h : Configuration) (c : Counters) → Q h c d [] (record { number = n; place = p; done = d; configuration = h; counters = c })) →
-    ((e : Entry) (r : Rule) (h g : Configuration) (c : Counters) (d : ℕ) (ss : List Step) (a : RunAnswer) → choose h e ≡ moved r g →
+    ((e : Entry) (r : Rule) (h g : Configuration) (c : Counters) (d : ℕ) (ss : List Step) (a : RunAnswer) → answerTo h e ≡ moved r g →
     Q g (counted r c) (suc d) ss a → Q h c d (record { chosen = e; rule = r; before = h; result = g } ∷ ss) a) →
-    (items : List Item) (h : Configuration) (c : Counters) (p d : ℕ) → Q h c d (steps h (entries items)) (runFrom h c p d items)
+    (items : List ScheduleItem) (h : Configuration) (c : Counters) (p d : ℕ) → Q h c d (steps h (entries items)) (runFrom h c p d items)
 unfolding runFrom entries steps
 run-induction Q stops goes [] h c p d = stops 0 p d h c
 run-induction Q stops goes (malformed n ∷ items) h c p d = stops n p d h c
-run-induction Q stops goes (entry e w ∷ items) h c p d = go (choose h e) refl (λ r g. run-induction Q stops goes items g (counted r c) (p + w) (suc d))
+run-induction Q stops goes (entry e w ∷ items) h c p d = go (answerTo h e) refl (λ r g. run-induction Q stops goes items g (counted r c) (p + w) (suc d))
   where
-    go : (x : Answer) → choose h e ≡ x →
+    go : (x : Answer) → answerTo h e ≡ x →
         ((r : Rule) (g : Configuration) → Q g (counted r c) (suc d) (steps g (entries items)) (runFrom g (counted r c) (p + w) (suc d) items)) →
         Q h c d
-        (stepsOn x (λ r g. record { chosen = e; rule = r; before = h; result = g } ∷ steps g (entries items)))
-        (goesOn x (λ n. record { number = n; place = p; done = d; configuration = h; counters = c }) (λ r g. runFrom g (counted r c) (p + w) (suc d) items))
+        (continueSteps x (λ r g. record { chosen = e; rule = r; before = h; result = g } ∷ steps g (entries items)))
+        (continueRun x (λ n. record { number = n; place = p; done = d; configuration = h; counters = c }) (λ r g. runFrom g (counted r c) (p + w) (suc d) items))
     go (moved r g) q rest = goes e r h g c d (steps g (entries items)) (runFrom g (counted r c) (p + w) (suc d) items) q (rest r g)
     go (refused n) q rest = stops n p d h c

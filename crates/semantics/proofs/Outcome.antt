@@ -10,12 +10,11 @@ use mathlib.Core.List.{List, [], _∷_, _++_, map, append-nil, append-assoc, map
 use Rattle.calculus.specs.Syntax.{Name, Action, rd, wt, Log, State}
 use Rattle.calculus.specs.Reduction.{Rule}
 use Rattle.calculus.proofs.Logs.{empty-included, prefix-included, write-included}
-use Rattle.semantics.specs.Basics.{firstOf}
-use Rattle.semantics.specs.Terms.{Expression, endT, retryT, rdT, wtT, orElseT}
-use Rattle.semantics.specs.Logs.{emptyLog, readable, paths, firstReadable}
-use Rattle.semantics.specs.Configuration.{Tree, leaf, fork}
-use Rattle.semantics.specs.Moves.{Inner, evolves, resting, past, inner}
-use Rattle.semantics.specs.Converse.{firstFrom}
+use Rattle.semantics.specs.Definitions.Basics.{firstOf}
+use Rattle.semantics.specs.Definitions.Terms.{Expression, endT, retryT, rdT, wtT, orElseT}
+use Rattle.semantics.specs.Definitions.Logs.{emptyLog, readable, paths, firstReadable}
+use Rattle.semantics.specs.Definitions.Configuration.{Tree, leaf, fork}
+use Rattle.semantics.specs.Definitions.Moves.{Inner, evolves, noRule, outOfRange, inner}
 use Rattle.semantics.proofs.Readable.{readable-included, included-readable}
 use Rattle.semantics.proofs.Moves.{Moving, inner-induction}
 
@@ -35,6 +34,11 @@ readable-write σ δ a e =
     included-readable σ (δ ++ (wt a ∷ [])) (rw (write-included δ a []) (rw append-nil (readable-included σ δ e)))
 
 -- ---- the first readable path of an expression from a log on
+
+-- what an expression ends with from a log on: its first readable path
+unfoldable pub firstFrom : State → Expression → Log → Option Log
+unfolding firstOf readable paths
+firstFrom s M δ = firstOf (readable s) (map (λ π. δ ++ π) (paths M))
 
 -- the first of two options, or else the second
 unfoldable pub orElseOf : Option Log → Option Log → Option Log
@@ -173,8 +177,8 @@ faithful-start s M = record { comes = outcome-start s M; logs = readable-start s
 -- of a move inside a tree that is true to its block M
 abbrev pub StaysFaithful : State → Expression → Inner → Type 0
 StaysFaithful s M (evolves r u) = Faithful s M u
-StaysFaithful s M resting = Unit {0}
-StaysFaithful s M (past k) = Unit {0}
+StaysFaithful s M noRule = Unit {0}
+StaysFaithful s M (outOfRange k) = Unit {0}
 
 -- every move inside keeps it so
 pub faithful-move : (s : State) (M : Expression) (t : Tree) (k : ℕ) → Faithful s M t → StaysFaithful s M (inner s t k)
@@ -182,8 +186,8 @@ faithful-move s M t k f = go (inner s t k) (inner-keeps s t k)
   where
     go : (i : Inner) → Moving (Keeps s) t i → StaysFaithful s M i
     go (evolves r u) h = let k = h (f .logs) in record { comes = k .0 ∙ f .comes; logs = k .1 }
-    go resting h = tt
-    go (past j) h = tt
+    go noRule h = tt
+    go (outOfRange j) h = tt
 
 -- at a single end leaf the log is the first readable path
 pub faithful-end : (s : State) (M : Expression) (n : ℕ) (δ : Log) → Faithful s M (leaf (endT n) δ) → firstReadable s M ≡ some δ

@@ -13,8 +13,8 @@ use Rattle.calculus.specs.Syntax.{Name, Log, State}
 use Rattle.calculus.specs.State.{count, occurrences, Included}
 use Rattle.calculus.specs.Log.{RD}
 use Rattle.calculus.proofs.States.{same-other}
-use Rattle.semantics.specs.Basics.{allOf}
-use Rattle.semantics.specs.Logs.{within, readable}
+use Rattle.semantics.specs.Definitions.Basics.{allOf}
+use Rattle.semantics.specs.Definitions.Logs.{readsWithin, readable}
 use Rattle.semantics.proofs.Reading.{and-true}
 
 -- ---- the test of a list of names
@@ -38,16 +38,16 @@ pass-of-occurring p (b ∷ bs) a e h = elim (ℕ-discrete a b) [ yes q ↦ here 
     later q rest = let z = same-other a b q in rest (and-true (p b) (allOf p bs) e .1) (omega arith)
 
 -- the test of names against counts is multiset inclusion
-pub within-included : (bs : List Name) (σ : State) → within bs σ ≡ true → Included bs σ
-unfolding within Included
+pub within-included : (bs : List Name) (σ : State) → readsWithin bs σ ≡ true → Included bs σ
+unfolding readsWithin Included
 within-included bs σ e a = go (occurrences a bs) refl
   where
     go : (n : ℕ) → occurrences a bs ≡ n → occurrences a bs ≤ count σ a
     go zero q = omega arith
     go (suc n) q = leb-true (occurrences a bs) (count σ a) (pass-of-occurring (λ b. leb (occurrences b bs) (count σ b)) bs a e (omega arith))
 
-pub included-within : (bs : List Name) (σ : State) → Included bs σ → within bs σ ≡ true
-unfolding within Included
+pub included-within : (bs : List Name) (σ : State) → Included bs σ → readsWithin bs σ ≡ true
+unfolding readsWithin Included
 included-within bs σ h = all-pass (λ a. leb (occurrences a bs) (count σ a)) bs (λ a. le-leb (occurrences a bs) (count σ a) (h a))
 
 -- ---- the test of a log

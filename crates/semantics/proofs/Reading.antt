@@ -9,7 +9,11 @@ use mathlib.Core.List.{List, [], _∷_}
 use lib.ListN.{length, replicate}
 use lib.Dec.{eqb}
 use borrow.Author.Tests.{eqb-true}
-use Rattle.semantics.specs.Basics.{given, provided, allOf, zeros}
+use Rattle.semantics.specs.Definitions.Basics.{onlyIf, allOf, zeros}
+use mathlib.Core.Option.{bind}
+-- the worked examples are checked before any law, so that a wrong definition is first refused by a row that shows it
+use Rattle.semantics.proofs.Examples as Worked
+use Rattle.semantics.proofs.GainExamples as WorkedHistories
 
 -- ---- tests
 
@@ -30,15 +34,15 @@ and-true false b e = let z : _≡_ {A = ℕ} 0 1 = cc in absurd (omega arith)
 -- ---- options
 
 -- where going on gives a value, there was one to go on with
-pub given-some {ℓ κ λ′} : {A : Type ℓ} {B : Type κ} {C : Type λ′} (o : Option A) (k : A → Option B) (y : B) → given o k ≡ some y →
+pub given-some {ℓ κ λ′} : {A : Type ℓ} {B : Type κ} {C : Type λ′} (o : Option A) (k : A → Option B) (y : B) → bind o k ≡ some y →
     ((a : A) → o ≡ some a → k a ≡ some y → C) → C
-unfolding given
+unfolding bind
 given-some none k y e next = let z : _≡_ {A = ℕ} 0 1 = cc in absurd (omega arith)
 given-some (some a) k y e next = next a refl e
 
 -- where a tested value is given, the test passed
-pub provided-some {ℓ} : {A : Type ℓ} (b : Bool) (a y : A) → provided b a ≡ some y → (b ≡ true) × (a ≡ y)
-unfolding provided
+pub provided-some {ℓ} : {A : Type ℓ} (b : Bool) (a y : A) → onlyIf b a ≡ some y → (b ≡ true) × (a ≡ y)
+unfolding onlyIf
 provided-some true a y e = (refl, cc)
 provided-some false a y e = let z : _≡_ {A = ℕ} 0 1 = cc in absurd (omega arith)
 

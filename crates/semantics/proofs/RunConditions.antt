@@ -8,10 +8,10 @@ use mathlib.Core.Logic.{_≢_}
 use mathlib.Core.List.{List, [], _∷_}
 use lib.ListN.{length, take, drop}
 use Rattle.calculus.specs.Reduction.{Rule}
-use Rattle.semantics.specs.Configuration.{Configuration}
-use Rattle.semantics.specs.Moves.{Entry, act, inside, Answer, moved, refused, choose}
-use Rattle.semantics.specs.Run.{schedule, entries, entryBytes, scheduleBytes, Counters, counted, RunAnswer, goesOn, runFrom, run}
-use Rattle.semantics.specs.Conditions.{First, ChoiceCondition, Stops, at-end, kind-neither, act-short, inside-short, node-short, act-refused, inside-refused, RunStops, RunNumbers, OneReason}
+use Rattle.semantics.specs.Definitions.Configuration.{Configuration}
+use Rattle.semantics.specs.Definitions.Moves.{Entry, act, inside, Answer, moved, refused, answerTo}
+use Rattle.semantics.specs.Definitions.Run.{schedule, entries, entryBytes, scheduleBytes, Counters, counted, RunAnswer, continueRun, runFrom, run}
+use Rattle.semantics.specs.Checks.Conditions.{FirstCondition, ChoiceCondition, Stops, at-end, kind-neither, act-short, inside-short, node-short, act-refused, inside-refused, RunStops, RunNumbers, OneReason}
 use Rattle.semantics.proofs.Moves.{accepted-inverts}
 use Rattle.semantics.proofs.ChoiceConditions.{first-unique, Reason, choice-reason}
 
@@ -73,13 +73,13 @@ past-inside q k p d bs a r =
     }
 
 -- an entry that is done goes on, one that is refused stops the run
-met : (h : Configuration) (c : Counters) (p d w : ℕ) (bs rest : List ℕ) (e : Entry) (o : Answer) → choose h e ≡ o → Reason (λ m. ChoiceCondition h m e) o →
-    ((n : ℕ) → First (λ m. ChoiceCondition h m e) n → Stops h n bs) →
+met : (h : Configuration) (c : Counters) (p d w : ℕ) (bs rest : List ℕ) (e : Entry) (o : Answer) → answerTo h e ≡ o → Reason (λ m. ChoiceCondition h m e) o →
+    ((n : ℕ) → FirstCondition (λ m. ChoiceCondition h m e) n → Stops h n bs) →
     ((r : Rule) (g : Configuration) → length (g .components) ≤ 64 →
     Ran bs p d (runFrom g (counted r c) (p + w) (suc d) (schedule rest))) →
     Ran bs p d
-    (goesOn o (λ n. record { number = n; place = p; done = d; configuration = h; counters = c }) (λ r g. runFrom g (counted r c) (p + w) (suc d) (schedule rest)))
-unfolding goesOn
+    (continueRun o (λ n. record { number = n; place = p; done = d; configuration = h; counters = c }) (λ r g. runFrom g (counted r c) (p + w) (suc d) (schedule rest)))
+unfolding continueRun
 met h c p d w bs rest e (moved r g) q z stop next = next r g (accepted-inverts h e r g q .fits)
 met h c p d w bs rest e (refused n) q z stop next = stopped h c p d n bs (stop n z)
 
@@ -89,12 +89,12 @@ ran [] h few c p d = stopped h c p d 0 [] at-end
 ran (zero ∷ bs) h few c p d = stopped h c p d 12 (0 ∷ bs) (kind-neither (omega arith) (omega arith))
 ran (suc zero ∷ []) h few c p d = stopped h c p d 13 (1 ∷ []) act-short
 ran (suc zero ∷ q ∷ bs) h few c p d =
-    met h c p d 2 (1 ∷ q ∷ bs) bs (act q) (choose h (act q)) refl (choice-reason h few (act q)) (λ n f. act-refused f)
+    met h c p d 2 (1 ∷ q ∷ bs) bs (act q) (answerTo h (act q)) refl (choice-reason h few (act q)) (λ n f. act-refused f)
     (λ r g fits. past-act q p d bs (runFrom g (counted r c) (p + 2) (suc d) (schedule bs)) (ran bs g fits (counted r c) (p + 2) (suc d)))
 ran (suc (suc zero) ∷ []) h few c p d = stopped h c p d 13 (2 ∷ []) inside-short
 ran (suc (suc zero) ∷ q ∷ []) h few c p d = stopped h c p d 13 (2 ∷ q ∷ []) node-short
 ran (suc (suc zero) ∷ q ∷ k ∷ bs) h few c p d =
-    met h c p d 3 (2 ∷ q ∷ k ∷ bs) bs (inside q k) (choose h (inside q k)) refl (choice-reason h few (inside q k)) (λ n f. inside-refused f)
+    met h c p d 3 (2 ∷ q ∷ k ∷ bs) bs (inside q k) (answerTo h (inside q k)) refl (choice-reason h few (inside q k)) (λ n f. inside-refused f)
     (λ r g fits. past-inside q k p d bs (runFrom g (counted r c) (p + 3) (suc d) (schedule bs)) (ran bs g fits (counted r c) (p + 3) (suc d)))
 ran (suc (suc (suc k)) ∷ bs) h few c p d = stopped h c p d 12 (suc (suc (suc k)) ∷ bs) (kind-neither (omega arith) (omega arith))
 
@@ -116,10 +116,10 @@ abbrev StopsAt : Configuration → List ℕ → ℕ → Type 0
 StopsAt h [] n = n ≡ 0
 StopsAt h (zero ∷ bs) n = n ≡ 12
 StopsAt h (suc zero ∷ []) n = n ≡ 13
-StopsAt h (suc zero ∷ p ∷ bs) n = First (λ m. ChoiceCondition h m (act p)) n
+StopsAt h (suc zero ∷ p ∷ bs) n = FirstCondition (λ m. ChoiceCondition h m (act p)) n
 StopsAt h (suc (suc zero) ∷ []) n = n ≡ 13
 StopsAt h (suc (suc zero) ∷ p ∷ []) n = n ≡ 13
-StopsAt h (suc (suc zero) ∷ p ∷ k ∷ bs) n = First (λ m. ChoiceCondition h m (inside p k)) n
+StopsAt h (suc (suc zero) ∷ p ∷ k ∷ bs) n = FirstCondition (λ m. ChoiceCondition h m (inside p k)) n
 StopsAt h (suc (suc (suc k)) ∷ bs) n = n ≡ 12
 
 stops-at : (h : Configuration) (n : ℕ) (bs : List ℕ) → Stops h n bs → StopsAt h bs n

@@ -1,22 +1,22 @@
--- Entries accepted one after another: what every accepted choice keeps, the steps, the counters of their rules, and the atomic
--- run that keeps pace with them.
+-- Entries accepted one after another: what every accepted choice keeps, the steps and the counters of their rules.
 -- Assumes nothing.
 use mathlib.Core.Path.{_≡_, refl, ap, _∙_}
-use Prim.Native.Nat.{suc}
+use Prim.Native.Nat.{suc, ℕ, zero}
+use native.Mathlib.Omega.{arith}
+use mathlib.Core.Option.{some}
 use mathlib.Core.List.{List, [], _∷_, _++_}
-use lib.ListN.{length}
+use lib.ListN.{length, getElem?, take}
 use Rattle.calculus.specs.Reduction.{Rule}
-use Rattle.semantics.specs.Configuration.{Configuration}
-use Rattle.semantics.specs.Moves.{Entry, moved, choose}
-use Rattle.semantics.specs.Run.{Counters, counted, Step, steps}
-use Rattle.semantics.specs.AtomicRun.{Atomic, fed, fedAll}
-use Rattle.semantics.specs.Atomicity.{lastOf}
-use Rattle.semantics.proofs.Simulation.{Related, step-related}
+use Rattle.semantics.specs.Definitions.Configuration.{Configuration}
+use Rattle.semantics.specs.Definitions.Moves.{Entry, Answer, moved, refused, answerTo}
+use Rattle.semantics.specs.Definitions.Run.{Counters, counted, Step, steps, continueSteps, finalConfiguration}
+use Rattle.semantics.proofs.Lists.{none-found}
 
 -- entries accepted one after another, from one configuration to another
 pub data Runs : Configuration → List Entry → Configuration → Type 0 where
   rested : {h : Configuration} → Runs h [] h
-  ran : {h f g : Configuration} {e : Entry} {es : List Entry} (r : Rule) → choose h e ≡ moved r f → Runs f es g → Runs h (e ∷ es) g
+  ran : {h f g : Configuration} {e : Entry} {es : List Entry} (r : Rule) → answerTo h e ≡ moved r f → Runs f es g →
+      Runs h (e ∷ es) g
 
 -- entries behind entries
 pub runs-append : {h f g : Configuration} {es ds : List Entry} → Runs h es f → Runs f ds g → Runs h (es ++ ds) g
@@ -24,16 +24,29 @@ runs-append rested y = y
 runs-append (ran r q x) y = ran r q (runs-append x y)
 
 -- what every accepted choice keeps, they keep
-pub runs-keep : (P : Configuration → Type 0) → ((h : Configuration) (e : Entry) (r : Rule) (g : Configuration) → P h → choose h e ≡ moved r g → P g) →
+pub runs-keep : (P : Configuration → Type 0) →
+    ((h : Configuration) (e : Entry) (r : Rule) (g : Configuration) → P h → answerTo h e ≡ moved r g → P g) →
     {h g : Configuration} {es : List Entry} → Runs h es g → P h → P g
 runs-keep P step rested p = p
 runs-keep P step (ran {h = h} {f = f} {e = e} r q x) p = runs-keep P step x (step h e r f p q)
 
 -- their steps are as many as they are, and lead where they lead
-pub runs-steps : {h g : Configuration} {es : List Entry} → Runs h es g → (length (steps h es) ≡ length es) × (lastOf h (steps h es) ≡ g)
+pub runs-steps : {h g : Configuration} {es : List Entry} → Runs h es g →
+    (length (steps h es) ≡ length es) × (finalConfiguration h (steps h es) ≡ g)
 unfolding steps
 runs-steps rested = (refl, refl)
 runs-steps (ran r q x) = let i = runs-steps x in rw q (ap suc (i .0), i .1)
+
+-- entries that have as many steps are all accepted
+pub steps-run : (h : Configuration) (es : List Entry) → length (steps h es) ≡ length es → Runs h es (finalConfiguration h (steps h es))
+unfolding steps
+steps-run h [] e = rested
+steps-run h (d ∷ es) e = go (answerTo h d) refl (λ f. steps-run f es)
+  where
+    go : (a : Answer) → answerTo h d ≡ a → ((f : Configuration) → length (steps f es) ≡ length es → Runs f es (finalConfiguration f (steps f es))) →
+        Runs h (d ∷ es) (finalConfiguration h (steps h (d ∷ es)))
+    go (moved r f) q rest = rw q (ran r q (rest f (let k : suc (length (steps f es)) ≡ suc (length es) = rw q at e in omega arith)))
+    go (refused n) q rest = absurd (let k : 0 ≡ suc (length es) = rw q at e in omega arith)
 
 -- the counters after the rules of some steps
 unfoldable pub tallied : Counters → List Step → Counters
@@ -48,11 +61,25 @@ unfolding steps tallied
 tallied-append rested c ds = refl
 tallied-append (ran r q x) c ds = rw q (tallied-append x (counted r c) ds)
 
--- the atomic run, fed accepted entries, keeps pace and counts their rules
-pub runs-related : {h g : Configuration} {es : List Entry} → Runs h es g → (a : Atomic) → Related h a →
-    Related g (fedAll a es) × ((fedAll a es) .counters ≡ tallied (a .counters) (steps h es))
-unfolding fedAll steps tallied
-runs-related rested a rel = (rel, refl)
-runs-related (ran {f = f} {e = e} {es = es} r q x) a rel =
-    let s = step-related _ a e r f rel q in
-    let m = runs-related x (fed a e) (s .0) in (m .0, rw q (m .1 ∙ ap (λ c. tallied c (steps f es)) (s .1)))
+-- the step by number j of the steps ss of the entries es: an accepted choice, from where the steps before it lead
+abbrev pub StepAt : Configuration → List Entry → List Step → ℕ → Step → Type 0
+StepAt h es ss j s =
+    (s .before ≡ finalConfiguration h (take j ss)) × (answerTo (s .before) (s .chosen) ≡ moved (s .rule) (s .result)) ×
+    (s .result ≡ finalConfiguration h (take (suc j) ss)) × (getElem? es j ≡ some (s .chosen))
+
+pub step-at : (h : Configuration) (es : List Entry) (j : ℕ) (s : Step) → getElem? (steps h es) j ≡ some s →
+    StepAt h es (steps h es) j s
+unfolding steps
+step-at h [] j s f = absurd (none-found j s f)
+step-at h (e ∷ es) j s f = go (answerTo h e) refl j f (λ g i k. step-at g es i s k)
+  where
+    next : Rule → Configuration → List Step
+    next r g = record { chosen = e; rule = r; before = h; result = g } ∷ steps g es
+
+    go : (a : Answer) → answerTo h e ≡ a → (j : ℕ) → getElem? (continueSteps a next) j ≡ some s →
+        ((g : Configuration) (i : ℕ) → getElem? (steps g es) i ≡ some s → StepAt g es (steps g es) i s) →
+        StepAt h (e ∷ es) (continueSteps a next) j s
+    go (refused n) q j f rest = absurd (none-found j s f)
+    go (moved r g) q zero f rest =
+        let same : record { chosen = e; rule = r; before = h; result = g } ≡ s = cc in rw (← same) (refl, q, refl, refl)
+    go (moved r g) q (suc j) f rest = rest g j f

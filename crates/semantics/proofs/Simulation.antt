@@ -1,246 +1,412 @@
--- A configuration and the atomic run keep pace: their components agree position by position, a transaction with the block
--- and the note of its snapshot, and each accepted entry, fed to the atomic run, leads to what agrees again.
+-- A configuration and the numbered run keep pace: both are read off one list of components, in which a transaction
+-- has the number of the choice that opened it, and each accepted choice changes that list in one of eight ways.
+-- Without its numbers the numbered run is the one-step run, so that the one-step run over accepted choices is read
+-- off the configuration that they lead to.
 -- Assumes nothing.
-use Prim.Native.Nat.{ℕ, zero, suc}
-use mathlib.Core.Path.{_≡_, refl, sym, ap₂}
+use Prim.Native.Nat.{ℕ, suc, _≤_, _<_}
+use native.Mathlib.Omega.{arith}
+use mathlib.Core.Path.{_≡_, refl, sym, ap, _∙_}
 use mathlib.Core.Bool.{Bool, true, false, cond}
-use mathlib.Core.Option.{some}
+use mathlib.Core.Option.{Option, none, some, Option·map, Option·elim}
 use mathlib.Core.List.{List, [], _∷_, _++_, map, map-map}
-use lib.ListN.{getElem?}
-use lib.Dec.{leb, eqb}
+use lib.ListN.{length, getElem?, length-map}
+use lib.Dec.{leb, ltb, eqb}
+use borrow.Author.Tests.{ltb-true, ltb-false, ne-eqb}
 use Rattle.calculus.specs.Syntax.{Name, Log, State}
 use Rattle.calculus.specs.State.{count, without}
 use Rattle.calculus.specs.Log.{RD, WT}
 use Rattle.calculus.specs.Reduction.{Rule, OUT, IN, REP, ATST, ATRE, ATFAIL, ATOK, ARDOK, ARDF, AWR, AOI, AOF, AOE}
-use Rattle.semantics.specs.Basics.{replaceAt}
-use Rattle.semantics.specs.Terms.{Expression, endT, retryT, rdT, wtT, orElseT}
-use Rattle.semantics.specs.Table.{Table}
-use Rattle.semantics.specs.Logs.{readable, firstReadable, gained, spent}
-use Rattle.semantics.specs.Configuration.{Idle, taking, repeating, block, output, Tree, leaf, fork, Component, idle, transaction, Configuration, opens, opening}
-use Rattle.semantics.specs.Moves.{Entry, act, inside, moved, choose, Local, moves, stays, takes, puts, commits, ends, acts, actsInside, Inner, evolves, resting, past, inner, innerLocal}
-use Rattle.semantics.specs.Run.{Counters, counted}
-use Rattle.semantics.specs.AtomicRun.{Noted, Atomic, unnoted, atomicStart, putting, settled, attempted, blockFed, stationFed, fed}
-use Rattle.semantics.specs.Atomicity.{unbegun}
-use Rattle.semantics.proofs.Outcome.{Faithful, StaysFaithful, faithful-start, faithful-move, faithful-end, faithful-retry}
-use Rattle.semantics.proofs.InnerMoves.{InnerRule, ByInnerRule, inner-rule}
-use Rattle.semantics.proofs.Moves.{positionOf, localMove, accepted-inverts}
-use Rattle.semantics.proofs.Lists.{none-found, replaceAt-same}
+use Rattle.semantics.specs.Definitions.Basics.{All, replaceAt}
+use Rattle.semantics.specs.Definitions.Terms.{Expression, endT, retryT, rdT, wtT, orElseT, Program}
+use Rattle.semantics.specs.Definitions.Table.{Table}
+use Rattle.semantics.specs.Definitions.Logs.{emptyLog, readable, firstReadable, addToken, takeToken}
+use Rattle.semantics.specs.Definitions.Configuration.{Idle, taking, repeating, block, output, Tree, leaf, fork, Component, idle, transaction, Configuration, opens, opening}
+use Rattle.semantics.specs.Definitions.Moves.{Entry, act, inside, moved, answerTo, LocalAnswer, moves, blocked, takes, puts, commits, ends, acts, actsInside, Inner, evolves, noRule, outOfRange, inner, innerLocal, ruleNumber}
+use Rattle.semantics.specs.Definitions.Run.{Counters, counted, saturatingSuc, steps}
+use Rattle.semantics.specs.Definitions.AtomicRun.{WithNote, Atomic, raised, withoutNote, atomicStart, replaceComponent, endAttempt, stepComponent, atomicStep, atomicRun}
+use Rattle.semantics.specs.Claims.NumberedRun.{Note, Numbered, numberedStart, numberedStep, numberedRun, unnumbered, NumberedIsAtomic}
+use Rattle.semantics.specs.Claims.InnerMoves.{Moves, unmoved, MovesSettleFirstPath}
+use Rattle.semantics.specs.Claims.Atomicity.{rolledBack}
+use Rattle.semantics.proofs.Reading.{by-cases}
+use Rattle.semantics.proofs.Lists.{found-map, found-map?, found-back, replaceAt-same, map-replaceAt, all-at, all-replaceAt, all-map, all-every, map-agree}
+use Rattle.semantics.proofs.Moves.{positionOf, localMove, Moving, accepted-inverts}
+use Rattle.semantics.proofs.InnerMoves.{moves-snoc, moves-settle-first-path, inner-rule}
+use Rattle.semantics.proofs.Runs.{Runs, rested, ran, tallied}
 
--- ---- two lists related element by element
+-- ---- components with numbers
 
-module _ {A B : Type 0} (R : A → B → Type 0) where
-  -- as many on both sides, each related to the one at its place
-  abbrev pub Pairwise : List A → List B → Type 0
-  Pairwise [] [] = Unit {0}
-  Pairwise [] (y ∷ ys) = ⊥
-  Pairwise (x ∷ xs) [] = ⊥
-  Pairwise (x ∷ xs) (y ∷ ys) = R x y × Pairwise xs ys
+-- a component, and with a transaction the number of the choice that opened it
+pub data Live : Type 0 where
+  rests : Idle → Live
+  tries : (i n : ℕ) (M : Expression) (s : State) (u : Tree) → Live
 
-  -- related lists behind related lists
-  pub pairwise-append : (xs : List A) (ys : List B) (us : List A) (vs : List B) → Pairwise xs ys → Pairwise us vs → Pairwise (xs ++ us) (ys ++ vs)
-  pairwise-append [] [] us vs h g = g
-  pairwise-append [] (y ∷ ys) us vs h g = absurd h
-  pairwise-append (x ∷ xs) [] us vs h g = absurd h
-  pairwise-append (x ∷ xs) (y ∷ ys) us vs h g = (h .0, pairwise-append xs ys us vs (h .1) g)
+-- the component itself
+abbrev pub component : Live → Component
+component (rests c) = idle c
+component (tries i n M s u) = transaction n M s u
 
-  -- where related elements give way to related lists
-  pub pairwise-replace : (p : ℕ) (us : List A) (vs : List B) (xs : List A) (ys : List B) → Pairwise us vs → Pairwise xs ys →
-      Pairwise (replaceAt p us xs) (replaceAt p vs ys)
-  unfolding replaceAt
-  pairwise-replace p us vs [] [] h g = tt
-  pairwise-replace p us vs [] (y ∷ ys) h g = absurd g
-  pairwise-replace p us vs (x ∷ xs) [] h g = absurd g
-  pairwise-replace zero us vs (x ∷ xs) (y ∷ ys) h g = pairwise-append us vs xs ys h (g .1)
-  pairwise-replace (suc p) us vs (x ∷ xs) (y ∷ ys) h g = (g .0, pairwise-replace p us vs xs ys h (g .1))
+-- its station in the numbered run
+abbrev pub noted : Live → WithNote Note
+noted (rests c) = record { station = c; note = none }
+noted (tries i n M s u) = record { station = block n M; note = some (record { counts = s; opened = i }) }
 
-  -- the element at a place has a partner there
-  pub pairwise-at : (xs : List A) (ys : List B) (p : ℕ) (x : A) → getElem? xs p ≡ some x → Pairwise xs ys →
-      (y : B) × (getElem? ys p ≡ some y) × R x y
-  pairwise-at [] ys p x e h = absurd (none-found p x e)
-  pairwise-at (x ∷ xs) [] p z e h = absurd h
-  pairwise-at (x ∷ xs) (y ∷ ys) zero z e h = let q : x ≡ z = cc in (y, refl, rw (← q) (h .0))
-  pairwise-at (x ∷ xs) (y ∷ ys) (suc p) z e h = pairwise-at xs ys p z e (h .1)
+-- a transaction has come from its block by moves inside it
+abbrev pub Evolved : Live → Type 0
+Evolved (rests c) = Unit {0}
+Evolved (tries i n M s u) = Moves s (leaf M emptyLog) u
 
-  -- two images of one list
-  pub pairwise-map : {C : Type 0} (f : C → A) (g : C → B) → ((c : C) → R (f c) (g c)) → (cs : List C) → Pairwise (map f cs) (map g cs)
-  pairwise-map f g h [] = tt
-  pairwise-map f g h (c ∷ cs) = (h c, pairwise-map f g h cs)
+-- ---- one choice
 
-  -- two functions that agree on related elements
-  pub pairwise-agree : {C : Type 0} (f : A → C) (g : B → C) → ((x : A) (y : B) → R x y → f x ≡ g y) → (xs : List A) (ys : List B) →
-      Pairwise xs ys → map f xs ≡ map g ys
-  pairwise-agree f g k [] [] h = refl
-  pairwise-agree f g k [] (y ∷ ys) h = absurd h
-  pairwise-agree f g k (x ∷ xs) [] h = absurd h
-  pairwise-agree f g k (x ∷ xs) (y ∷ ys) h = ap₂ _∷_ (k x y (h .0)) (pairwise-agree f g k xs ys (h .1))
+-- the eight ways in which an accepted choice, by number j and at the counts σ, changes a component: by which rule, to
+-- which counts, and what stands in its place
+pub data Stepped (σ : State) (j : ℕ) : Live → Entry → Rule → State → List Live → Type 0 where
+  put : (p : ℕ) (a : Name) → Stepped σ j (rests (output a)) (act p) (OUT a) (addToken σ a) []
+  took : (p n : ℕ) (a : Name) (P : Program) →
+      Stepped σ j (rests (taking n a P)) (act p) (IN a) (takeToken σ a) (map rests (opens P))
+  repeated : (p n : ℕ) (a : Name) (P : Program) →
+      Stepped σ j (rests (repeating n a P)) (act p) (REP a) (takeToken σ a) (map rests (opens P ++ (repeating n a P ∷ [])))
+  began : (p n : ℕ) (M : Expression) →
+      Stepped σ j (rests (block n M)) (act p) ATST σ (tries j n M σ (leaf M emptyLog) ∷ [])
+  retried : (p i n : ℕ) (M : Expression) (s : State) (e : ℕ) (δ : Log) →
+      Stepped σ j (tries i n M s (leaf (retryT e) δ)) (act p) ATRE σ (rests (block n M) ∷ [])
+  failed : (p i n : ℕ) (M : Expression) (s : State) (e : ℕ) (δ : Log) → readable σ δ ≡ false →
+      Stepped σ j (tries i n M s (leaf (endT e) δ)) (act p) ATFAIL σ (rests (block n M) ∷ [])
+  committed : (p i n : ℕ) (M : Expression) (s : State) (e : ℕ) (δ : Log) → readable σ δ ≡ true →
+      Stepped σ j (tries i n M s (leaf (endT e) δ)) (act p) (ATOK δ) (without σ (RD δ)) (map rests (map output (WT δ)))
+  evolved : (p k i n : ℕ) (M : Expression) (s : State) (u v : Tree) (r : Rule) → inner s u k ≡ evolves r v →
+      8 ≤ ruleNumber r →
+      Stepped σ j (tries i n M s u) (inside p k) r σ (tries i n M s v ∷ [])
 
--- ---- components and the atomic run's stations
+-- the same of a component's own answer, where it moves
+abbrev Steps : State → ℕ → Live → Entry → LocalAnswer → Type 0
+Steps σ j z e (moves r σ′ cs) = (laid : List Live) × (cs ≡ map component laid) × Stepped σ j z e r σ′ laid
+Steps σ j z e (blocked n) = Unit {0}
 
--- an idle component is a station without a note; a transaction is its block with a note of its snapshot, to which it is true
-abbrev pub Simulates : Component → Noted → Type 0
-Simulates (idle c) x = x ≡ unnoted c
-Simulates (transaction n M s t) x = (x ≡ record { station = block n M; note = some s }) × Faithful s M t
+-- idle components, with nothing to number
+idle-laid : (cs : List Idle) → map idle cs ≡ map component (map rests cs)
+idle-laid cs = sym (map-map component rests cs)
 
--- a configuration and a state of the atomic run that agree
-pub record Related (h : Configuration) (a : Atomic) : Type 0 where
-  pub counts : h .counts ≡ a .counts
-  pub components : Pairwise Simulates (h .components) (a .stations)
+-- kind 1 at an attempt
+ends-steps : (σ : State) (j p i n : ℕ) (M : Expression) (s : State) (u : Tree) →
+    Steps σ j (tries i n M s u) (act p) (ends σ n M u)
+unfolding ends commits
+ends-steps σ j p i n M s (leaf (endT e) δ) =
+    by-cases (Steps σ j (tries i n M s (leaf (endT e) δ)) (act p)) (readable σ δ) _ _
+    (λ q. (map rests (map output (WT δ)), sym (map-map idle output (WT δ)) ∙ idle-laid (map output (WT δ)), committed p i n M s e δ q))
+    (λ q. (rests (block n M) ∷ [], refl, failed p i n M s e δ q))
+ends-steps σ j p i n M s (leaf (retryT e) δ) = (rests (block n M) ∷ [], refl, retried p i n M s e δ)
+ends-steps σ j p i n M s (leaf (rdT e a N) δ) = tt
+ends-steps σ j p i n M s (leaf (wtT e a N) δ) = tt
+ends-steps σ j p i n M s (leaf (orElseT e N N′) δ) = tt
+ends-steps σ j p i n M s (fork l r) = tt
 
--- idle components agree with the same stations without notes
-simulates-idle : (cs : List Idle) → Pairwise Simulates (map idle cs) (map unnoted cs)
-simulates-idle cs = pairwise-map Simulates idle unnoted (λ c. refl) cs
-
--- open attempts read as blocks not begun are the stations
-pub related-stations : (h : Configuration) (a : Atomic) → Related h a → map unbegun (h .components) ≡ map (λ x. x .station) (a .stations)
-unfolding unbegun unnoted
-related-stations h a r = pairwise-agree Simulates unbegun (λ x. x .station) agree (h .components) (a .stations) (r .components)
+-- kind 2 at an attempt
+inside-steps : (σ : State) (j p k i n : ℕ) (M : Expression) (s : State) (u : Tree) →
+    Steps σ j (tries i n M s u) (inside p k) (innerLocal σ n M s (inner s u k))
+unfolding innerLocal
+inside-steps σ j p k i n M s u = go (inner s u k) refl (inner-rule s u k)
   where
-    agree : (c : Component) (x : Noted) → Simulates c x → unbegun c ≡ x .station
-    agree (idle c) x s = rw s
-    agree (transaction n M σ t) x s = rw (s .0)
+    go : (x : Inner) → inner s u k ≡ x → Moving (λ t r u. 8 ≤ ruleNumber r) u x →
+        Steps σ j (tries i n M s u) (inside p k) (innerLocal σ n M s x)
+    go (evolves r v) e late = (tries i n M s v ∷ [], refl, evolved p k i n M s u v r e late)
+    go noRule e late = tt
+    go (outOfRange m) e late = tt
 
--- at the opening they agree
-pub opening-related : (t : Table) (c : Counters) → Related (opening t) (atomicStart t c)
-unfolding opening atomicStart
-opening-related t c = record { counts = refl; components = simulates-idle (opens (t .start)) }
+-- either kind at any component
+local-steps : (σ : State) (j : ℕ) (z : Live) (e : Entry) → Steps σ j z e (localMove σ (component z) e)
+unfolding localMove acts actsInside takes puts
+local-steps σ j (rests (taking n a P)) (act p) =
+    by-cases (Steps σ j (rests (taking n a P)) (act p)) (eqb (count σ a) 0) _ _ (λ q. tt)
+    (λ q. (map rests (opens P), idle-laid (opens P), took p n a P))
+local-steps σ j (rests (repeating n a P)) (act p) =
+    let cs : List Idle = opens P ++ (repeating n a P ∷ []) in
+    by-cases (Steps σ j (rests (repeating n a P)) (act p)) (eqb (count σ a) 0) _ _ (λ q. tt)
+    (λ q. (map rests cs, idle-laid cs, repeated p n a P))
+local-steps σ j (rests (block n M)) (act p) = (tries j n M σ (leaf M emptyLog) ∷ [], refl, began p n M)
+local-steps σ j (rests (output a)) (act p) =
+    by-cases (Steps σ j (rests (output a)) (act p)) (leb 255 (count σ a)) _ _ (λ q. tt) (λ q. ([], refl, put p a))
+local-steps σ j (tries i n M s u) (act p) = ends-steps σ j p i n M s u
+local-steps σ j (rests c) (inside p k) = tt
+local-steps σ j (tries i n M s u) (inside p k) = inside-steps σ j p k i n M s u
 
--- ---- one entry
+-- ---- the counters
 
--- a component at p moved by r and left σ and cs: the atomic run, fed, has these counts, has counted the rule, and put in
--- the same place stations that agree with cs
-pub record Follows (a : Atomic) (p : ℕ) (r : Rule) (σ : State) (cs : List Component) (after : Atomic) : Type 0 where
-  pub counts : σ ≡ after .counts
-  pub counters : after .counters ≡ counted r (a .counters)
-  pub laid : List Noted
-  pub stations : after .stations ≡ replaceAt p laid (a .stations)
-  pub each : Pairwise Simulates cs laid
+-- the one-step run's own way to count is that of a run
+raised-risen : (n : ℕ) → raised n ≡ saturatingSuc n
+unfolding raised saturatingSuc
+raised-risen n =
+    by-cases (λ m. m ≡ saturatingSuc n) (ltb n 4294967295) (suc n) 4294967295
+    (λ q. let l = ltb-true n 4294967295 q in omega arith)
+    (λ q. let l = ltb-false n 4294967295 q in omega arith)
 
--- the same of a component's answer, where it moves
-abbrev pub LocalFollows : Atomic → ℕ → Local → Atomic → Type 0
-LocalFollows a p (moves r σ cs) after = Follows a p r σ cs after
-LocalFollows a p (stays n) after = Unit {0}
-
--- the component gives way to idle ones
-idle-follows : (a : Atomic) (p : ℕ) (r : Rule) (σ : State) (cs : List Idle) (c : Counters) → c ≡ counted r (a .counters) →
-    Follows a p r σ (map idle cs) (putting a p σ cs c)
-unfolding putting
-idle-follows a p r σ cs c e = record { counts = refl; counters = e; laid = map unnoted cs; stations = refl; each = simulates-idle cs }
-
--- IN and REP
-takes-follows : (a : Atomic) (p : ℕ) (b : Name) (r : Rule) (cs : List Idle) → a .counters ≡ counted r (a .counters) →
-    LocalFollows a p (takes (a .counts) b r cs) (putting a p (spent (a .counts) b) cs (a .counters))
-unfolding takes
-takes-follows a p b r cs e = go (eqb (count (a .counts) b) 0)
-  where
-    go : (x : Bool) → LocalFollows a p (cond x (stays 18) (moves r (spent (a .counts) b) (map idle cs)))
-        (putting a p (spent (a .counts) b) cs (a .counters))
-    go true = tt
-    go false = idle-follows a p r (spent (a .counts) b) cs (a .counters) e
-
--- OUT
-puts-follows : (a : Atomic) (p : ℕ) (b : Name) → LocalFollows a p (puts (a .counts) b) (putting a p (gained (a .counts) b) [] (a .counters))
-unfolding puts counted
-puts-follows a p b = go (leb 255 (count (a .counts) b))
-  where
-    go : (x : Bool) → LocalFollows a p (cond x (stays 20) (moves (OUT b) (gained (a .counts) b) []))
-        (putting a p (gained (a .counts) b) [] (a .counters))
-    go true = tt
-    go false = idle-follows a p (OUT b) (gained (a .counts) b) [] (a .counters) refl
-
--- ATOK and ATFAIL: the log of a single end leaf is the path that the note gives
-commits-follows : (a : Atomic) (p n : ℕ) (M : Expression) (δ : Log) →
-    LocalFollows a p (commits (a .counts) n M δ) (settled a p n M δ (readable (a .counts) δ))
-unfolding commits settled counted
-commits-follows a p n M δ = go (readable (a .counts) δ)
-  where
-    done : Follows a p (ATOK δ) (without (a .counts) (RD δ)) (map idle (map output (WT δ))) (settled a p n M δ true)
-    done = idle-follows a p (ATOK δ) (without (a .counts) (RD δ)) (map output (WT δ)) _ refl
-
-    go : (x : Bool) → LocalFollows a p
-        (cond x (moves (ATOK δ) (without (a .counts) (RD δ)) (map (λ b. idle (output b)) (WT δ))) (moves ATFAIL (a .counts) (idle (block n M) ∷ [])))
-        (settled a p n M δ x)
-    go true = rw (map-map idle output (WT δ)) at done
-    go false = idle-follows a p ATFAIL (a .counts) (block n M ∷ []) _ refl
-
--- a commit, a failure or a retry at an attempt's nodes, against the first path readable at the note
-ends-follows : (a : Atomic) (p n : ℕ) (M : Expression) (s : State) (t : Tree) → Faithful s M t →
-    LocalFollows a p (ends (a .counts) n M t) (attempted a p n M (firstReadable s M))
-unfolding ends attempted counted
-ends-follows a p n M s (leaf (endT e) δ) f = rw (faithful-end s M e δ f) (commits-follows a p n M δ)
-ends-follows a p n M s (leaf (retryT e) δ) f = rw (faithful-retry s M e δ f) (idle-follows a p ATRE (a .counts) (block n M ∷ []) _ refl)
-ends-follows a p n M s (leaf (rdT e b N) δ) f = tt
-ends-follows a p n M s (leaf (wtT e b N) δ) f = tt
-ends-follows a p n M s (leaf (orElseT e N N′) δ) f = tt
-ends-follows a p n M s (fork l r) f = tt
-
--- kind 1
-act-follows : (a : Atomic) (p : ℕ) (c : Component) (x : Noted) → Simulates c x →
-    LocalFollows a p (acts (a .counts) c) (stationFed a p (x .station) (x .note))
-unfolding acts stationFed unnoted blockFed counted
-act-follows a p (idle (taking n b P)) x s = rw s (takes-follows a p b (IN b) (opens P) refl)
-act-follows a p (idle (repeating n b P)) x s = rw s (takes-follows a p b (REP b) (opens P ++ (repeating n b P ∷ [])) refl)
-act-follows a p (idle (block n M)) x s =
-    rw s (record {
-      counts = refl;
-      counters = refl;
-      laid = record { station = block n M; note = some (a .counts) } ∷ [];
-      stations = refl;
-      each = ((refl, faithful-start (a .counts) M), tt);
-    })
-act-follows a p (idle (output b)) x s = rw s (puts-follows a p b)
-act-follows a p (transaction n M σ t) x s = rw (s .0) (ends-follows a p n M σ t (s .1))
-
--- kind 2, which changes nothing in the atomic run
-counted-inner : (r : Rule) → InnerRule r → (c : Counters) → c ≡ counted r c
+-- a rule raises at most one counter, by its number
+pub counted-by : (r : Rule) (c : Counters) → counted r c ≡ record {
+  commits = cond (eqb (ruleNumber r) 7) (saturatingSuc (c .commits)) (c .commits);
+  failed = cond (eqb (ruleNumber r) 6) (saturatingSuc (c .failed)) (c .failed);
+  retries = cond (eqb (ruleNumber r) 5) (saturatingSuc (c .retries)) (c .retries);
+}
 unfolding counted
-counted-inner (OUT b) i c = absurd i
-counted-inner (IN b) i c = absurd i
-counted-inner (REP b) i c = absurd i
-counted-inner ATST i c = absurd i
-counted-inner ATRE i c = absurd i
-counted-inner ATFAIL i c = absurd i
-counted-inner (ATOK δ) i c = absurd i
-counted-inner ARDOK i c = refl
-counted-inner ARDF i c = refl
-counted-inner AWR i c = refl
-counted-inner AOI i c = refl
-counted-inner AOF i c = refl
-counted-inner AOE i c = refl
+counted-by r c = refl
 
--- the nodes of one transaction change, and its station with its note stays
-inside-follows : (a : Atomic) (p k : ℕ) (c : Component) (x : Noted) → getElem? (a .stations) p ≡ some x → Simulates c x →
-    LocalFollows a p (actsInside (a .counts) c k) a
-unfolding actsInside
-inside-follows a p k (idle c) x e s = tt
-inside-follows a p k (transaction n M σ t) x e s = go (inner σ t k) (inner-rule σ t k) (faithful-move σ M t k (s .1))
-  where
-    go : (i : Inner) → ByInnerRule t i → StaysFaithful σ M i → LocalFollows a p (innerLocal (a .counts) n M σ i) a
-    go (evolves r u) i f =
-        record {
-          counts = refl;
-          counters = counted-inner r i (a .counters);
-          laid = x ∷ [];
-          stations = sym (replaceAt-same (a .stations) p x e);
-          each = ((s .0, f), tt);
-        }
-    go resting i f = tt
-    go (past j) i f = tt
+-- a move inside raises none
+counted-inside : (r : Rule) (c : Counters) → 8 ≤ ruleNumber r → counted r c ≡ c
+counted-inside r c late =
+    let other : (k : ℕ) → k < 8 → eqb (ruleNumber r) k ≡ false = λ k l. ne-eqb (ruleNumber r) k (λ e. omega arith) in
+    counted-by r c ∙ rw (other 7 (omega arith), other 6 (omega arith), other 5 (omega arith))
 
--- either kind
-fed-follows : (a : Atomic) (e : Entry) (c : Component) (x : Noted) → getElem? (a .stations) (positionOf e) ≡ some x → Simulates c x →
-    LocalFollows a (positionOf e) (localMove (a .counts) c e) (fed a e)
-unfolding positionOf localMove fed
-fed-follows a (act p) c x i s = rw i (act-follows a p c x s)
-fed-follows a (inside p k) c x i s = inside-follows a p k c x i s
+-- ---- the numbered run follows
 
--- an accepted entry, fed to what agrees, leads to what agrees, and counts its rule
-pub step-related : (h : Configuration) (a : Atomic) (e : Entry) (r : Rule) (g : Configuration) → Related h a → choose h e ≡ moved r g →
-    Related g (fed a e) × ((fed a e) .counters ≡ counted r (a .counters))
-step-related h a e r g rel q =
+-- a block with a note is settled by its first path readable at the note
+note-settled : (a : Numbered) (p i n : ℕ) (M : Expression) (s : State) (u : Tree) →
+    getElem? (a .run .stations) p ≡ some (noted (tries i n M s u)) →
+    (numberedStep a (act p)) .run ≡ endAttempt (a .run) p n M (firstReadable s M)
+unfolding numberedStep
+note-settled a p i n M s u f = rw f
+
+-- and that path committed where it is readable at the present counts
+path-tested : (a : Atomic Note) (p n : ℕ) (M : Expression) (δ : Log) →
+    endAttempt a p n M (some δ)
+    ≡ cond
+    (readable (a .counts) δ)
+    (replaceComponent a p (without (a .counts) (RD δ)) (map output (WT δ)) (counted (ATOK δ) (a .counters)))
+    (replaceComponent a p (a .counts) (block n M ∷ []) (counted ATFAIL (a .counters)))
+unfolding endAttempt counted
+path-tested a p n M δ = simp raised-risen
+
+-- a component that changes so changes its station so, and the rule is counted
+fed-stepped : (a : Numbered) (z : Live) (e : Entry) (r : Rule) (σ′ : State) (laid : List Live) →
+    getElem? (a .run .stations) (positionOf e) ≡ some (noted z) → Evolved z →
+    Stepped (a .run .counts) (a .next) z e r σ′ laid →
+    (numberedStep a e) .run
+    ≡ record { counts = σ′; stations = replaceAt (positionOf e) (map noted laid) (a .run .stations); counters = counted r (a .run .counters) }
+unfolding numberedStep positionOf withoutNote counted endAttempt MovesSettleFirstPath
+fed-stepped a z e r σ′ laid f v (put p b) = rw f
+fed-stepped a z e r σ′ laid f v (took p n b P) = rw (f, map-map noted rests (opens P))
+fed-stepped a z e r σ′ laid f v (repeated p n b P) = rw (f, map-map noted rests (opens P ++ (repeating n b P ∷ [])))
+fed-stepped a z e r σ′ laid f v (began p n M) = rw f
+fed-stepped a z e r σ′ laid f v (retried p i n M s x δ) =
+    let none-there : firstReadable s M ≡ none = moves-settle-first-path s M (leaf (retryT x) δ) v tt in
+    note-settled a p i n M s (leaf (retryT x) δ) f ∙ rw (none-there, raised-risen)
+fed-stepped a z e r σ′ laid f v (failed p i n M s x δ now) =
+    let first : firstReadable s M ≡ some δ = moves-settle-first-path s M (leaf (endT x) δ) v tt in
+    note-settled a p i n M s (leaf (endT x) δ) f ∙ rw (first, path-tested, now)
+fed-stepped a z e r σ′ laid f v (committed p i n M s x δ now) =
+    let first : firstReadable s M ≡ some δ = moves-settle-first-path s M (leaf (endT x) δ) v tt in
+    note-settled a p i n M s (leaf (endT x) δ) f ∙ rw (first, path-tested, now, map-map noted rests (map output (WT δ)))
+fed-stepped a z e r σ′ laid f v (evolved p k i n M s u w x q late) =
+    rw (replaceAt-same (a .run .stations) p (noted (tries i n M s u)) f, counted-inside x (a .run .counters) late)
+
+-- ---- keeping pace
+
+-- a configuration and the numbered run, both read off one list
+pub record Paced (h : Configuration) (a : Numbered) (zs : List Live) : Type 0 where
+  pub counts : h .counts ≡ a .run .counts
+  pub components : h .components ≡ map component zs
+  pub stations : a .run .stations ≡ map noted zs
+  pub each : All Evolved zs
+
+-- an accepted choice changes one of its components, and they keep pace
+pub record PacedStep (h : Configuration) (a : Numbered) (zs : List Live) (e : Entry) (r : Rule) (g : Configuration) : Type 0 where
+  pub one : Live
+  pub found : getElem? zs (positionOf e) ≡ some one
+  pub station : getElem? (a .run .stations) (positionOf e) ≡ some (noted one)
+  pub laid : List Live
+  pub stepped : Stepped (h .counts) (a .next) one e r (g .counts) laid
+  pub local : localMove (h .counts) (component one) e ≡ moves r (g .counts) (map component laid)
+  pub fits : length (replaceAt (positionOf e) laid zs) ≤ 64
+  pub paced : Paced g (numberedStep a e) (replaceAt (positionOf e) laid zs)
+  pub counters : (numberedStep a e) .run .counters ≡ counted r (a .run .counters)
+
+-- what is laid down has come from its block too
+stepped-evolved : {σ : State} {j : ℕ} {z : Live} {e : Entry} {r : Rule} {σ′ : State} {laid : List Live} →
+    Stepped σ j z e r σ′ laid →
+    Evolved z → All Evolved laid
+stepped-evolved (put p b) v = tt
+stepped-evolved (took p n b P) v = all-map rests Evolved (opens P) (all-every (λ c. Unit {0}) (λ c. tt) (opens P))
+stepped-evolved (repeated p n b P) v =
+    let cs : List Idle = opens P ++ (repeating n b P ∷ []) in all-map rests Evolved cs (all-every (λ c. Unit {0}) (λ c. tt) cs)
+stepped-evolved (began p n M) v = (unmoved, tt)
+stepped-evolved (retried p i n M s x δ) v = (tt, tt)
+stepped-evolved (failed p i n M s x δ now) v = (tt, tt)
+stepped-evolved (committed p i n M s x δ now) v =
+    let cs : List Idle = map output (WT δ) in all-map rests Evolved cs (all-every (λ c. Unit {0}) (λ c. tt) cs)
+stepped-evolved (evolved p k i n M s u w x q late) v = (moves-snoc k x v q, tt)
+
+-- from the component that changes and what stands in its place
+paced-by : (h : Configuration) (a : Numbered) (zs : List Live) (e : Entry) (r : Rule) (g : Configuration) →
+    Paced h a zs →
+    (z : Live) → getElem? zs (positionOf e) ≡ some z → (laid : List Live) →
+    Stepped (h .counts) (a .next) z e r (g .counts) laid →
+    localMove (h .counts) (component z) e ≡ moves r (g .counts) (map component laid) →
+    g .components ≡ replaceAt (positionOf e) (map component laid) (h .components) → length (g .components) ≤ 64 →
+    PacedStep h a zs e r g
+paced-by h a zs e r g pace z found laid s own placed fits =
+    let p : ℕ = positionOf e in
+    let come = all-at Evolved zs p z (pace .each) found in
+    let there : getElem? (a .run .stations) p ≡ some (noted z) = rw (pace .stations) (found-map noted zs p z found) in
+    let fed = fed-stepped a z e r (g .counts) laid there come (rw (pace .counts) at s) in
+    let after : g .components ≡ map component (replaceAt p laid zs) =
+    placed ∙ rw (pace .components) (sym (map-replaceAt component zs laid p)) in
+    record {
+      one = z;
+      found = found;
+      station = there;
+      laid = laid;
+      stepped = s;
+      local = own;
+      fits = rw (after, length-map) at fits;
+      paced =
+          record {
+            counts = ap (λ x. x .counts) (sym fed);
+            components = after;
+            stations = ap (λ x. x .stations) fed ∙ rw (pace .stations) (sym (map-replaceAt noted zs laid p));
+            each = all-replaceAt Evolved zs laid p (pace .each) (stepped-evolved s come);
+          };
+      counters = ap (λ x. x .counters) fed;
+    }
+
+-- every accepted choice
+pub paced-step : (h : Configuration) (a : Numbered) (zs : List Live) (e : Entry) (r : Rule) (g : Configuration) →
+    Paced h a zs →
+    answerTo h e ≡ moved r g → PacedStep h a zs e r g
+paced-step h a zs e r g pace q =
     let m = accepted-inverts h e r g q in
-    let y = pairwise-at Simulates (h .components) (a .stations) (positionOf e) (m .component) (m .found) (rel .components) in
-    let own : localMove (a .counts) (m .component) e ≡ moves r (g .counts) (m .laid) = rw (← (rel .counts)) (m .local) in
-    let f : Follows a (positionOf e) r (g .counts) (m .laid) (fed a e) = rw own at (fed-follows a e (m .component) (y .0) (y .1) (y .2)) in
-    let all : Pairwise Simulates (g .components) ((fed a e) .stations) =
-    rw (m .placed, f .stations) (pairwise-replace Simulates (positionOf e) (m .laid) (f .laid) (h .components) (a .stations) (f .each) (rel .components)) in
-    (record { counts = f .counts; components = all }, f .counters)
+    let at = found-back component zs (positionOf e) (m .component) (rw (← (pace .components)) (m .found)) in
+    let own : localMove (h .counts) (component (at .0)) e ≡ moves r (g .counts) (m .laid) = rw (at .2) (m .local) in
+    let s : Steps (h .counts) (a .next) (at .0) e (moves r (g .counts) (m .laid)) =
+    rw own at (local-steps (h .counts) (a .next) (at .0) e) in
+    paced-by h a zs e r g pace (at .0) (at .1) (s .0) (s .2) (own ∙ ap (moves r (g .counts)) (s .1))
+    (m .placed ∙ ap (λ cs. replaceAt (positionOf e) cs (h .components)) (s .1)) (m .fits)
+
+-- at the opening no attempt is open
+pub opening-paced : (t : Table) (c : Counters) → Paced (opening t) (numberedStart t c) (map rests (opens (t .start)))
+unfolding opening numberedStart withoutNote
+opening-paced t c =
+    let cs = opens (t .start) in
+    record {
+      counts = refl;
+      components = idle-laid cs;
+      stations = sym (map-map noted rests cs);
+      each = all-map rests Evolved cs (all-every (λ c. Unit {0}) (λ c. tt) cs);
+    }
+
+-- accepted choices one after another, and how they are counted
+pub paced-runs : {h g : Configuration} {es : List Entry} → Runs h es g → (a : Numbered) (zs : List Live) →
+    Paced h a zs →
+    (ws : List Live) × Paced g (numberedRun a es) ws × ((numberedRun a es) .run .counters ≡ tallied (a .run .counters) (steps h es))
+unfolding numberedRun steps tallied
+paced-runs rested a zs pace = (zs, pace, refl)
+paced-runs (ran {h = h} {f = f} {e = e} {es = es} r q x) a zs pace =
+    let s = paced-step h a zs e r f pace q in
+    let rest = paced-runs x (numberedStep a e) (replaceAt (positionOf e) (s .laid) zs) (s .paced) in
+    (rest .0, rest .1, rw q (rest .2 ∙ ap (λ c. tallied c (steps f es)) (s .counters)))
+
+-- ---- without the numbers
+
+-- a station without its number
+abbrev unnumber : WithNote Note → WithNote State
+unnumber x = record { station = x .station; note = Option·map (λ m. m .counts) (x .note) }
+
+-- where a component gives way to others without notes
+unnumbered-putting : (a : Atomic Note) (p : ℕ) (σ : State) (cs : List Idle) (c : Counters) →
+    unnumbered (replaceComponent a p σ cs c) ≡ replaceComponent (unnumbered a) p σ cs c
+unfolding unnumbered replaceComponent
+unnumbered-putting a p σ cs c =
+    let same : map unnumber (replaceAt p (map withoutNote cs) (a .stations)) ≡ replaceAt p (map withoutNote cs) (map unnumber (a .stations)) =
+    rw (map-replaceAt unnumber (a .stations) (map withoutNote cs) p, map-map unnumber withoutNote cs) in
+    λ i. record { counts = σ; stations = same i; counters = c }
+
+-- kind 1 at a component with its note, by number j
+unnumbered-station : (j : ℕ) (a : Atomic Note) (p : ℕ) (c : Idle) (o : Option Note) →
+    unnumbered (stepComponent (λ m. m .counts) (λ σ. record { counts = σ; opened = j }) a p c o)
+    ≡ stepComponent (λ σ. σ) (λ σ. σ) (unnumbered a) p c (Option·map (λ m. m .counts) o)
+unfolding unnumbered stepComponent
+unnumbered-station j a p (output b) o = unnumbered-putting a p _ [] _
+unnumbered-station j a p (taking n b P) o = unnumbered-putting a p _ (opens P) _
+unnumbered-station j a p (repeating n b P) o = unnumbered-putting a p _ (opens P ++ (repeating n b P ∷ [])) _
+unnumbered-station j a p (block n M) none =
+    let begun : WithNote Note = record { station = block n M; note = some (record { counts = a .counts; opened = j }) } in
+    λ i. record { counts = a .counts; stations = map-replaceAt unnumber (a .stations) (begun ∷ []) p i; counters = a .counters }
+unnumbered-station j a p (block n M) (some m) = go (firstReadable (m .counts) M)
+  where
+    now : (δ : Log) (b : Bool) → readable (a .counts) δ ≡ b →
+        unnumbered (endAttempt a p n M (some δ)) ≡ endAttempt (unnumbered a) p n M (some δ)
+    now δ true q = rw q (unnumbered-putting a p _ (map output (WT δ)) _)
+    now δ false q = rw q (unnumbered-putting a p _ (block n M ∷ []) _)
+
+    go : (o : Option Log) → unnumbered (endAttempt a p n M o) ≡ endAttempt (unnumbered a) p n M o
+    go none = unnumbered-putting a p _ (block n M ∷ []) _
+    go (some δ) = now δ (readable (a .counts) δ) refl
+
+-- each entry, and all of them
+unnumbered-fed : (a : Numbered) (e : Entry) →
+    unnumbered ((numberedStep a e) .run) ≡ atomicStep (λ σ. σ) (λ σ. σ) (unnumbered (a .run)) e
+unfolding numberedStep unnumbered
+unnumbered-fed a (inside p k) = refl
+unnumbered-fed a (act p) = rw (found-map? unnumber (a .run .stations) p) (go (getElem? (a .run .stations) p))
+  where
+    go : (o : Option (WithNote Note)) →
+        unnumbered
+        (Option·elim
+        o
+        (a .run)
+        (λ x. stepComponent (λ m. m .counts) (λ σ. record { counts = σ; opened = a .next }) (a .run) p (x .station) (x .note)))
+        ≡ Option·elim
+        (Option·map unnumber o)
+        (unnumbered (a .run))
+        (λ x. stepComponent (λ σ. σ) (λ σ. σ) (unnumbered (a .run)) p (x .station) (x .note))
+    go none = refl
+    go (some x) = unnumbered-station (a .next) (a .run) p (x .station) (x .note)
+
+unnumbered-runs : (es : List Entry) (a : Numbered) →
+    unnumbered ((numberedRun a es) .run) ≡ atomicRun (unnumbered (a .run)) es
+unfolding numberedRun atomicRun
+unnumbered-runs [] a = refl
+unnumbered-runs (e ∷ es) a = unnumbered-runs es (numberedStep a e) ∙ ap (λ s. atomicRun s es) (unnumbered-fed a e)
+
+-- without its numbers the numbered run is the one-step run
+pub numbered-is-atomic : NumberedIsAtomic
+unfolding NumberedIsAtomic unnumbered
+numbered-is-atomic t c es =
+    unnumbered-runs es (numberedStart t c)
+    ∙ ap
+    (λ xs. atomicRun (record { counts = t .tokens; stations = xs; counters = c }) es)
+    (map-map unnumber withoutNote (opens (t .start)))
+
+-- ---- the one-step run over accepted choices
+
+-- the station of a component: a transaction is its block with a note of its snapshot
+abbrev pub stationOf : Component → WithNote State
+stationOf (idle c) = record { station = c; note = none }
+stationOf (transaction n M s u) = record { station = block n M; note = some s }
+
+-- Over accepted choices the one-step run is read off the configuration that they lead to and the rules that they did.
+pub atomic-of-runs : (t : Table) (c : Counters) {es : List Entry} {g : Configuration} → Runs (opening t) es g →
+    atomicRun (atomicStart t c) es
+    ≡ record { counts = g .counts; stations = map stationOf (g .components); counters = tallied c (steps (opening t) es) }
+unfolding unnumbered NumberedIsAtomic numberedStart
+atomic-of-runs t c {es} {g} m = go (paced-runs m (numberedStart t c) (map rests (opens (t .start))) (opening-paced t c))
+  where
+    end : Numbered
+    end = numberedRun (numberedStart t c) es
+
+    same : (z : Live) → unnumber (noted z) ≡ stationOf (component z)
+    same (rests x) = refl
+    same (tries i n M s u) = refl
+
+    go : (ws : List Live) × Paced g end ws × (end .run .counters ≡ tallied c (steps (opening t) es)) →
+        atomicRun (atomicStart t c) es
+        ≡ record { counts = g .counts; stations = map stationOf (g .components); counters = tallied c (steps (opening t) es) }
+    go (ws, pace, told) =
+        let stations : map unnumber (end .run .stations) ≡ map stationOf (g .components) =
+        rw (pace .stations, pace .components, map-map unnumber noted ws, map-map stationOf component ws) (map-agree _ _ same ws) in
+        sym (numbered-is-atomic t c es) ∙ λ i. record { counts = sym (pace .counts) i; stations = stations i; counters = told i }
+
+-- open attempts read as blocks not begun are its stations
+pub unbegun-stations : (cs : List Component) → map rolledBack cs ≡ map (λ x. x .station) (map stationOf cs)
+unfolding rolledBack
+unbegun-stations cs = map-agree _ _ same cs ∙ sym (map-map (λ x. x .station) stationOf cs)
+  where
+    same : (c : Component) → rolledBack c ≡ stationOf c .station
+    same (idle c) = refl
+    same (transaction n M s u) = refl

@@ -1,40 +1,72 @@
 -- The claims of specs/, each as one named theorem.
 -- Assumes nothing.
-use Rattle.semantics.specs.Correspondence.{Soundness, RunSoundness, EveryHallStands, AcceptedIsWithinLimits, Completeness, CompletenessAnyOrder, StillIsStill, KeepsWellFormed}
-use Rattle.semantics.specs.Accounts.{RunAccounts}
-use Rattle.semantics.specs.InnerMoves.{MovesEnd, MovesGoOn, SettledRests, MovesSettleFirstPath}
-use Rattle.semantics.specs.Atomicity.{AtomicityOfCalls}
-use Rattle.semantics.specs.Conditions.{ReadAsPrinted, TableNumbers, MissingAtLength, HallNumbers, OpenNumbers, ChoiceNumbers, RunNumbers, OneReason, RunCallNumbers}
+use Rattle.semantics.specs.Claims.Correspondence.{Soundness, RunSoundness, EveryHallDenotes, AcceptedIsWithinLimits, Completeness, CompletenessAnyOrder, StillIsStill, KeepsWellFormed, OpeningDenotes, Located, LogOrderAsPrinted, HandoverIsCOM}
+use Rattle.semantics.specs.Claims.Accounts.{RunAccounts, CallsAccounts}
+use Rattle.semantics.specs.Checks.ConverseSteps.{StepsAreMoves, ReadableBlocksStep}
+use Rattle.semantics.specs.Claims.InnerMoves.{MovesEnd, MovesGoOn, SettledRests, MovesSettleFirstPath, OneEnd}
+use Rattle.semantics.specs.Checks.PrintedMoves.{OpensAsPrinted, MovesAsPrinted, MovesWorked}
+use Rattle.semantics.specs.Checks.PrintedSuggestions.{AllowedAsPrinted}
+use Rattle.semantics.specs.Claims.Suggestions.{SuggestionExists, SuggestedRuns, StillRunsNone, AnswersDiffer}
+use Rattle.semantics.specs.Claims.Atomicity.{AtomicityOfCalls, initialBuffers, finalBuffers, done, doneWithoutAborted, atomic}
+use Rattle.semantics.specs.Checks.Conditions.{ReadAsPrinted, TableNumbers, MissingAtLength, HallNumbers, CheckNumbers, OpenNumbers, RefusalNumbers, ChoiceNumbers, RunNumbers, OneReason, RunCallNumbers, RunCallZero}
+use mathlib.Core.Path.{refl, sym, ap, _∙_}
+use mathlib.Core.List.{map}
+use Rattle.semantics.specs.Definitions.Stored.{bytesOf, configurationOf}
+use Rattle.semantics.specs.Claims.NumberedRun.{NumberedIsAtomic}
+use Rattle.semantics.specs.Checks.PrintedRun.{TableFound, AcceptedIsFound, PrintedLong, PrintedRefused, PrintedAsCalls}
 use Rattle.semantics.proofs.WellFormedKept as Kept
 use Rattle.semantics.proofs.Soundness as Sound
 use Rattle.semantics.proofs.Accounts as Counting
 use Rattle.semantics.proofs.Completeness as Complete
+use Rattle.semantics.proofs.Handover as Together
 use Rattle.semantics.proofs.AnyOrder as Any
 use Rattle.semantics.proofs.InnerMoves as Inside
-use Rattle.semantics.proofs.CallsAsOne.{forward}
-use Rattle.semantics.proofs.Abandoned.{kept-claims}
+use Rattle.semantics.proofs.PrintedMoves as Printing
+use Rattle.semantics.proofs.CallsAsOne.{opened-calls}
+use Rattle.semantics.proofs.Abandoned.{kept-runs}
+use Rattle.semantics.proofs.GoodTable.{accepted-is-good}
+use Rattle.semantics.proofs.RoundTrip.{read-back}
+use Rattle.semantics.proofs.Runs.{runs-steps}
+use Rattle.semantics.proofs.Simulation as Pace
+use Rattle.semantics.proofs.Simulation.{atomic-of-runs, unbegun-stations}
+use Rattle.semantics.proofs.PathClause.{commits-ok, attempts-ok}
 use Rattle.semantics.proofs.Converse.{converse-holds}
+use Rattle.semantics.proofs.ConverseSteps as Steps
 use Rattle.semantics.proofs.TableConditions as OnTables
 use Rattle.semantics.proofs.HallConditions as OnHalls
 use Rattle.semantics.proofs.ChoiceConditions as OnChoices
 use Rattle.semantics.proofs.RunConditions as OnRuns
 use Rattle.semantics.proofs.CallConditions as OnCalls
+use Rattle.semantics.proofs.Suggestions as Suggesting
 use Rattle.semantics.proofs.RecordShapes as Shapes
 use Rattle.semantics.proofs.Limits as Bounds
+use Rattle.semantics.proofs.PrintedRun as Prints
 
 -- ---- demand 2
+
+pub opening-denotes : OpeningDenotes
+opening-denotes = Sound.opening-denotes
+
+pub every-hall-denotes : EveryHallDenotes
+every-hall-denotes = Bounds.every-hall-denotes
 
 pub soundness : Soundness
 soundness = Sound.soundness
 
-pub run-soundness : RunSoundness
-run-soundness = Sound.run-soundness
+pub located : Located
+located = Sound.located
 
-pub every-hall-stands : EveryHallStands
-every-hall-stands = Bounds.every-hall-stands
+pub log-order-as-printed : LogOrderAsPrinted
+log-order-as-printed = Any.log-order-as-printed
 
 pub accepted-is-within-limits : AcceptedIsWithinLimits
 accepted-is-within-limits = Bounds.accepted-is-within-limits
+
+pub handover-is-com : HandoverIsCOM
+handover-is-com = Together.handover-is-com
+
+pub run-soundness : RunSoundness
+run-soundness = Sound.run-soundness
 
 pub keeps-well-formed : KeepsWellFormed
 keeps-well-formed = Kept.keeps-well-formed
@@ -48,10 +80,41 @@ completeness-any-order = Any.completeness-any-order
 pub still-is-still : StillIsStill
 still-is-still = Any.still-is-still
 
+-- ---- suggestions
+
+pub allowed-as-printed : AllowedAsPrinted
+allowed-as-printed = Suggesting.allowed-as-printed
+
+pub suggestion-exists : SuggestionExists
+suggestion-exists = Suggesting.suggestion-exists
+
+pub suggested-runs : SuggestedRuns
+suggested-runs = Suggesting.suggested-runs
+
+pub still-runs-none : StillRunsNone
+still-runs-none = Suggesting.still-runs-none
+
+pub answers-differ : AnswersDiffer
+answers-differ = Suggesting.answers-differ
+
+-- ---- the moves as the scope prints them
+
+pub opens-as-printed : OpensAsPrinted
+opens-as-printed = Printing.opens-as-printed
+
+pub moves-as-printed : MovesAsPrinted
+moves-as-printed = Printing.moves-as-printed
+
+pub moves-worked : MovesWorked
+moves-worked = Printing.moves-worked
+
 -- ---- the counts after a run
 
 pub run-accounts : RunAccounts
 run-accounts = Counting.run-accounts
+
+pub calls-accounts : CallsAccounts
+calls-accounts = Counting.calls-accounts
 
 -- ---- the moves inside an attempt
 
@@ -64,37 +127,61 @@ moves-go-on = Inside.moves-go-on
 pub settled-rests : SettledRests
 settled-rests = Inside.settled-rests
 
+pub one-end : OneEnd
+one-end = Inside.one-end
+
 pub moves-settle-first-path : MovesSettleFirstPath
 moves-settle-first-path = Inside.moves-settle-first-path
 
 -- ---- demand 3
 
+pub numbered-is-atomic : NumberedIsAtomic
+numbered-is-atomic = Pace.numbered-is-atomic
+
 pub atomicity-of-calls : AtomicityOfCalls
-unfolding AtomicityOfCalls
+unfolding AtomicityOfCalls initialBuffers finalBuffers done doneWithoutAborted atomic
 atomicity-of-calls table t accepts buffer size first cs =
-    let f = forward table t accepts buffer size first cs in
-    let k = kept-claims table t buffer first cs f in
+    let all = opened-calls table t accepts buffer size first cs in
+    let led = runs-steps (all .runs) in
+    let run = atomic-of-runs t first (all .runs) in
+    let spared = kept-runs t first (all .runs) in
+    let kept-led = runs-steps (spared .runs) in
+    let kept-run = atomic-of-runs t first (spared .runs) in
+    let told = spared .counters first first refl in
     record {
-      never-turned-down = f .never-turned-down;
-      whole = f .whole;
-      hall = f .hall;
-      read = f .read;
-      counts = f .counts;
-      stations = f .stations;
-      tally = f .tally;
-      attempts = f .attempts;
-      paths = f .paths;
-      kept-whole = k .kept-whole;
-      kept-hall = k .kept-hall;
-      kept-counts = k .kept-counts;
-      kept-stations = k .kept-stations;
-      kept-commits = k .kept-commits;
-      kept-none = k .kept-none;
-      kept-failed = k .kept-failed;
-      kept-retries = k .kept-retries;
-      kept-effects = k .kept-effects;
+      never-rejected = all .numbers;
+      whole = led .0;
+      hall = all .hall ∙ ap bytesOf (sym (led .1));
+      left = all .after;
+      read =
+          ap (configurationOf (t .terms)) (all .hall)
+          ∙ read-back (t .terms) (all .after) (accepted-is-good table t (accepts .1)) (all .well-formed);
+      counts = ap (λ a. a .counts) (sym run);
+      stations = unbegun-stations (all .after .components) ∙ ap (λ a. map (λ x. x .station) (a .stations)) (sym run);
+      tally = all .tally ∙ ap (λ a. a .counters) (sym run);
+      unaborted-whole = kept-led .0;
+      unaborted-hall = ap bytesOf (kept-led .1) ∙ sym (all .hall);
+      unaborted-atomic =
+          kept-run
+          ∙ λ i. record {
+            counts = sym run i .counts;
+            stations = sym run i .stations;
+            counters =
+                (told
+                ∙ ap (λ a. record { commits = a .counters .commits; failed = first .failed; retries = first .retries }) (sym run)) i;
+          };
+      unaborted-effects = spared .same-effects;
+      unaborted-none = spared .none-abandoned;
+      paths = commits-ok t first (done table t buffer first cs);
+      attempts = λ j h. attempts-ok t first (done table t buffer first cs) j (rw (led .0) h);
       converse = converse-holds table t accepts buffer size first cs;
     }
+
+pub steps-are-moves : StepsAreMoves
+steps-are-moves = Steps.steps-are-moves
+
+pub readable-blocks-step : ReadableBlocksStep
+readable-blocks-step = Steps.readable-blocks-step
 
 -- ---- the numbered conditions
 
@@ -111,8 +198,14 @@ missing-at-length = OnTables.missing-at-length
 pub hall-numbers : HallNumbers
 hall-numbers = OnHalls.hall-numbers
 
+pub check-numbers : CheckNumbers
+check-numbers = OnHalls.check-numbers
+
 pub open-numbers : OpenNumbers
 open-numbers = OnHalls.open-numbers
+
+pub refusal-numbers : RefusalNumbers
+refusal-numbers = OnHalls.refusal-numbers
 
 pub choice-numbers : ChoiceNumbers
 choice-numbers = OnChoices.choice-numbers
@@ -125,3 +218,23 @@ one-reason = OnRuns.one-reason
 
 pub run-call-numbers : RunCallNumbers
 run-call-numbers = OnCalls.run-call-numbers
+
+pub run-call-zero : RunCallZero
+run-call-zero = OnCalls.run-call-zero
+
+-- ---- the printed run
+
+pub table-found : TableFound
+table-found = Prints.table-found
+
+pub accepted-is-found : AcceptedIsFound
+accepted-is-found = Prints.accepted-is-found
+
+pub printed-long : PrintedLong
+printed-long = Prints.printed-long
+
+pub printed-refused : PrintedRefused
+printed-refused = Prints.printed-refused
+
+pub printed-as-calls : PrintedAsCalls
+printed-as-calls = Prints.printed-as-calls

@@ -12,12 +12,13 @@ use lib.Seq.{take-at, drop-at, length-take-le}
 use lib.Dec.{leb, ltb, eqb}
 use borrow.Author.Tests.{leb-true, le-leb, leb-false, lt-leb, eqb-true}
 use Rattle.calculus.specs.Syntax.{Action, rd, wt, Log}
-use Rattle.semantics.specs.Basics.{given, provided, padded, zeros, All}
-use Rattle.semantics.specs.Terms.{Expression, retryT, Term, process, expression, number, pathLength}
-use Rattle.semantics.specs.Configuration.{Tree, leaf, fork, branchesOf}
-use Rattle.semantics.specs.Stored.{actionByte, treeBytes, leafExpression, channelOf, TreeOk, cut, actionOf, logOf, leafFrom, NodeKind, forkN, leafN, otherN, nodeKind, nodeFrom, treeFrom}
-use Rattle.semantics.specs.GoodTable.{termNumber, GoodTable}
-use Rattle.semantics.specs.StoredClaims.{Bytes}
+use Rattle.semantics.specs.Definitions.Basics.{onlyIf, padded, zeros, All}
+use mathlib.Core.Option.{bind}
+use Rattle.semantics.specs.Definitions.Terms.{Expression, retryT, Term, process, expression, number, pathLength}
+use Rattle.semantics.specs.Definitions.Configuration.{Tree, leaf, fork, branchesOf}
+use Rattle.semantics.specs.Definitions.Stored.{actionByte, treeBytes, leafExpression, channelOf, TreeOk, splitBytes, actionOf, logOf, leafFrom, NodeKind, forkN, leafN, otherN, nodeKind, nodeFrom, treeFrom}
+use Rattle.semantics.specs.Checks.AcceptedTables.{termNumber, GoodTable}
+use Rattle.semantics.specs.Checks.StoredForm.{Bytes}
 use Rattle.semantics.proofs.Measures.{branches-positive}
 use Rattle.semantics.proofs.Reading.{and-true, given-some, provided-some, zeros-replicate, replicate-zeros}
 use Rattle.semantics.proofs.Lists.{all-append, all-replicate, found-below}
@@ -25,8 +26,8 @@ use Rattle.semantics.proofs.Lists.{all-append, all-replicate, found-bel
 -- ---- lists of bytes
 
 -- what is cut off and what follows it
-pub cut-back : (n : ℕ) (bs : List ℕ) (c : List ℕ × List ℕ) → cut n bs ≡ some c → (length (c .0) ≡ n) × (bs ≡ c .0 ++ c .1)
-unfolding cut
+pub cut-back : (n : ℕ) (bs : List ℕ) (c : List ℕ × List ℕ) → splitBytes n bs ≡ some c → (length (c .0) ≡ n) × (bs ≡ c .0 ++ c .1)
+unfolding splitBytes
 cut-back n bs c e =
     let h = provided-some (leb n (length bs)) _ c e in
     let l = leb-true n (length bs) (h .0) in
@@ -34,8 +35,8 @@ cut-back n bs c e =
     let q : drop n bs ≡ c .1 = ap (λ x. x .1) (h .1) in
     (rw (← p) (length-take-le n bs l), rw (← p, ← q) (sym (take-append-drop n bs)))
 
-pub cut-forth : (n : ℕ) (xs rest : List ℕ) → length xs ≡ n → cut n (xs ++ rest) ≡ some (xs, rest)
-unfolding cut provided
+pub cut-forth : (n : ℕ) (xs rest : List ℕ) → length xs ≡ n → splitBytes n (xs ++ rest) ≡ some (xs, rest)
+unfolding splitBytes onlyIf
 cut-forth n xs rest e = rw (le-leb n (length (xs ++ rest)) (rw length-append (omega arith)), take-at xs rest n e, drop-at xs rest n e)
 
 pub length-padded : (n : ℕ) (xs : List ℕ) → length xs ≤ n → length (padded n xs) ≡ n
@@ -58,17 +59,17 @@ padded-back n size bs l z =
 -- ---- actions and logs
 
 action-forth : (α : Action) → channelOf α < 16 → actionOf (actionByte α) ≡ some α
-unfolding actionOf actionByte channelOf provided
+unfolding actionOf actionByte channelOf onlyIf
 action-forth (rd a) h = rw (le-leb (suc a) 16 h)
 action-forth (wt a) h =
     let p : 16 + a - 16 ≡ a = omega arith in
     rw (lt-leb (suc (16 + a)) 16 (omega arith), le-leb (suc (16 + a)) 32 (omega arith), p)
 
 action-back : (b : ℕ) (α : Action) → actionOf b ≡ some α → (actionByte α ≡ b) × (channelOf α < 16)
-unfolding actionOf actionByte channelOf provided
+unfolding actionOf actionByte channelOf onlyIf
 action-back b α e = go (ltb b 16) refl (ltb b 32) refl e
   where
-    go : (x : Bool) → ltb b 16 ≡ x → (y : Bool) → ltb b 32 ≡ y → cond x (some (rd b)) (provided y (wt (b - 16))) ≡ some α →
+    go : (x : Bool) → ltb b 16 ≡ x → (y : Bool) → ltb b 32 ≡ y → cond x (some (rd b)) (onlyIf y (wt (b - 16))) ≡ some α →
         (actionByte α ≡ b) × (channelOf α < 16)
     go true p y q h = let z : rd b ≡ α = cc in rw (← z) (refl, leb-true (suc b) 16 p)
     go false p true q h =
@@ -78,7 +79,7 @@ action-back b α e = go (ltb b 16) refl (ltb b 32) refl e
     go false p false q h = let z : _≡_ {A = ℕ} 0 1 = cc in absurd (omega arith)
 
 log-forth : (δ : Log) → All (λ α. channelOf α < 16) δ → logOf (map actionByte δ) ≡ some δ
-unfolding logOf given
+unfolding logOf bind
 log-forth [] h = refl
 log-forth (α ∷ δ) h = rw (action-forth α (h .0), log-forth δ (h .1))
 
@@ -115,7 +116,7 @@ leaf-number ts g n M e = go (eqb n 255) refl (getElem? ts n) refl
 
 leaf-forth : (ts : List Term) (M : Expression) (δ : Log) → TreeOk ts (leaf M δ) →
     leafFrom ts (number M ∷ length δ ∷ padded 16 (map actionByte δ)) ≡ some (leaf M δ)
-unfolding TreeOk leafFrom padded given provided
+unfolding TreeOk leafFrom padded bind onlyIf
 leaf-forth ts M δ h =
     let l = length-map δ actionByte in
     rw (
@@ -181,7 +182,7 @@ node-back ts g sub back k forkN d bs y e =
     let g = back (l .1) r q in
     rw (← z) (rw (fork-byte k d, h .0, g .0, append-assoc) refl, (h .1, g .1))))
 node-back ts g sub back k leafN d bs y e =
-    given-some (cut 18 bs) _ y e (λ c p e′.
+    given-some (splitBytes 18 bs) _ y e (λ c p e′.
     given-some (leafFrom ts (c .0)) _ y e′ (λ t q e″.
     let z : (t, c .1) ≡ y = cc in
     let h = cut-back 18 bs c p in
@@ -200,7 +201,7 @@ tree-back ts g (suc f) (k ∷ bs) y e = node-back ts g (λ x. treeFrom f ts x) (
 -- a tree in order is read back from its bytes, whatever follows them
 pub tree-forth : (ts : List Term) (t : Tree) (f : ℕ) (rest : List ℕ) → TreeOk ts t → length (treeBytes t) ≤ f →
     treeFrom f ts (treeBytes t ++ rest) ≡ some (t, rest)
-unfolding treeFrom nodeFrom nodeKind treeBytes given TreeOk
+unfolding treeFrom nodeFrom nodeKind treeBytes bind TreeOk
 tree-forth ts (leaf M δ) zero rest ok l = absurd (omega arith)
 tree-forth ts (fork l r) zero rest ok h = absurd (omega arith)
 tree-forth ts (leaf M δ) (suc f) rest ok l =

@@ -14,14 +14,14 @@ use Rattle.calculus.specs.Syntax.{Name, Action, rd, wt, Log, State}
 use Rattle.calculus.specs.State.{count, without}
 use Rattle.calculus.specs.Log.{RD, WT}
 use Rattle.calculus.specs.Reduction.{Rule}
-use Rattle.semantics.specs.Basics.{All}
-use Rattle.semantics.specs.Terms.{Expression, endT, retryT, rdT, wtT, orElseT, takeT, repeatT, atomT, Term, process, expression, number, pathLength}
-use Rattle.semantics.specs.Logs.{emptyLog, readable, gained}
-use Rattle.semantics.specs.Configuration.{Idle, taking, repeating, block, output, Tree, leaf, fork, Component, idle, transaction, Configuration, branchesOf, opens}
-use Rattle.semantics.specs.Stored.{ByteCounts, leafExpression, channelOf, TreeOk, ComponentOk, WellFormed}
-use Rattle.semantics.specs.GoodTable.{GoodTable, ExpressionIn, SubtermsIn, ChannelBelow}
-use Rattle.semantics.specs.Moves.{Entry, act, inside, Local, moves, stays, takes, puts, ends, acts, Inner, evolves, resting, past, inner, innerLocal, actsInside, moved, choose}
-use Rattle.semantics.specs.Correspondence.{KeepsWellFormed}
+use Rattle.semantics.specs.Definitions.Basics.{All}
+use Rattle.semantics.specs.Definitions.Terms.{Expression, endT, retryT, rdT, wtT, orElseT, takeT, repeatT, atomT, Term, process, expression, number, pathLength}
+use Rattle.semantics.specs.Definitions.Logs.{emptyLog, readable, addToken}
+use Rattle.semantics.specs.Definitions.Configuration.{Idle, taking, repeating, block, output, Tree, leaf, fork, Component, idle, transaction, Configuration, branchesOf, opens}
+use Rattle.semantics.specs.Definitions.Stored.{ByteCounts, leafExpression, channelOf, TreeOk, ComponentOk, WellFormed}
+use Rattle.semantics.specs.Checks.AcceptedTables.{GoodTable, ExpressionIn, SubtermsIn, ChannelBelow}
+use Rattle.semantics.specs.Definitions.Moves.{Entry, act, inside, LocalAnswer, moves, blocked, takes, puts, ends, acts, Inner, evolves, noRule, outOfRange, inner, innerLocal, actsInside, moved, answerTo}
+use Rattle.semantics.specs.Claims.Correspondence.{KeepsWellFormed}
 use Rattle.semantics.proofs.Measures.{branches-positive}
 use Rattle.semantics.proofs.GoodTable.{accepted-is-good}
 use Rattle.semantics.proofs.RoundTrip.{stored-fits, opens-ok}
@@ -48,8 +48,8 @@ without-bytes (b ∷ bs) σ h =
     without-bytes bs (set σ b (count σ b - 1)) (set-bytes σ b (count σ b - 1) h (omega arith))
 
 -- a channel below 255 may gain
-pub gained-bytes : (σ : State) (a : Name) → ByteCounts σ → count σ a < 255 → ByteCounts (gained σ a)
-unfolding gained
+pub gained-bytes : (σ : State) (a : Name) → ByteCounts σ → count σ a < 255 → ByteCounts (addToken σ a)
+unfolding addToken
 gained-bytes σ a h k = set-bytes σ a (suc (count σ a)) h k
 
 -- ---- leaves
@@ -75,9 +75,9 @@ abbrev pub StaysOk : List Term → Tree → Rule → Tree → Type 0
 StaysOk ts t r u = TreeOk ts t → TreeOk ts u × (branchesOf u ≤ branchesOf t)
 
 -- what a move of one component leaves: counts that are bytes, and well-formed components
-abbrev pub LocalOk : List Term → Local → Type 0
+abbrev pub LocalOk : List Term → LocalAnswer → Type 0
 LocalOk ts (moves r σ cs) = ByteCounts σ × All (ComponentOk ts) cs
-LocalOk ts (stays n) = Unit {0}
+LocalOk ts (blocked n) = Unit {0}
 
 module _ {ts : List Term} (good : GoodTable ts) where
   -- ---- terms
@@ -191,8 +191,8 @@ module _ {ts : List Term} (good : GoodTable ts) where
   innerLocal-ok σ n M s t (evolves r u) h k i =
       let (tree, fewer) = i (k .2) in
       let few = k .3 in (h, ((k .0, k .1, tree, omega arith), tt))
-  innerLocal-ok σ n M s t resting h k i = tt
-  innerLocal-ok σ n M s t (past j) h k i = tt
+  innerLocal-ok σ n M s t noRule h k i = tt
+  innerLocal-ok σ n M s t (outOfRange j) h k i = tt
 
   -- kind 2 at a component
   actsInside-ok : (σ : State) (c : Component) (j : ℕ) → ByteCounts σ → ComponentOk ts c → LocalOk ts (actsInside σ c j)
@@ -210,12 +210,12 @@ module _ {ts : List Term} (good : GoodTable ts) where
 
 -- an accepted choice keeps a configuration well formed
 pub well-formed-step : {ts : List Term} {h : Configuration} (e : Entry) {r : Rule} {g : Configuration} → GoodTable ts → WellFormed ts h →
-    choose h e ≡ moved r g → WellFormed ts g
+    answerTo h e ≡ moved r g → WellFormed ts g
 well-formed-step {ts} {h} e {r} {g} good ok q =
     let m = accepted-inverts h e r g q in
     let c : ComponentOk ts (m .component) = all-at (ComponentOk ts) (h .components) (positionOf e) (m .component) (ok .each) (m .found) in
-    let l : ByteCounts (g .counts) × All (ComponentOk ts) (m .laid) = rw (m .local) at (localMove-ok good (h .counts) (m .component) e (ok .sixteen) c) in
-    record { sixteen = l .0; few = m .fits; each = rw (m .placed) (all-replaceAt (ComponentOk ts) (h .components) (m .laid) (positionOf e) (ok .each) (l .1)) }
+    let l : ByteCounts (g .counts) × All (ComponentOk ts) (m .laid) = rw (m .local) at (localMove-ok good (h .counts) (m .component) e (ok .channelCounts) c) in
+    record { channelCounts = l .0; few = m .fits; each = rw (m .placed) (all-replaceAt (ComponentOk ts) (h .components) (m .laid) (positionOf e) (ok .each) (l .1)) }
 
 -- and in its stored form
 pub keeps-well-formed : KeepsWellFormed

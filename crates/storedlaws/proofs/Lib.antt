@@ -1,4 +1,7 @@
 pub mod Cursors
-pub mod Trees
-pub mod Components
-pub mod Halls
+pub mod Nodes
+pub mod Configurations
+pub mod ReadTrees
+pub mod ReadLeaves
+pub mod TermKinds
+pub mod ReadComponents

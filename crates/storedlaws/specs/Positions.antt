@@ -3,47 +3,47 @@
 use Prim.Native.Nat.{ℕ, zero, suc, _+_, _-_, _≤_}
 use mathlib.Core.Path.{_≡_}
 use mathlib.Core.List.{List, [], _∷_, _++_, map}
-use lib.ListN.{length, take, replicate}
+use lib.ListN.{length, getD, take}
 use Rattle.calculus.specs.Syntax.{State}
-use Rattle.semantics.specs.Basics.{joined}
-use Rattle.semantics.specs.Configuration.{Tree, leaf, fork, Component, Configuration}
-use Rattle.semantics.specs.Stored.{hallBytes, treeBytes, componentBytes, bytesOf}
-use Rattle.splice.specs.Splice.{spliced, Room}
-use Rattle.semantics.specs.Moves.{Inner, evolves, resting, past, inner}
+use mathlib.Core.List.{flatten}
+use Rattle.semantics.specs.Definitions.Configuration.{Tree, leaf, fork, Component, Configuration}
+use Rattle.semantics.specs.Definitions.Stored.{treeBytes, componentBytes, bytesOf}
+use Rattle.semantics.specs.Definitions.Moves.{Inner, evolves, noRule, outOfRange, inner}
+use Rattle.buffer.specs.Splice.{spliced, Room}
+use Rattle.stored.specs.Layout.{forkKind, channels, hallBytes}
 
 -- ---- components
 
 -- the components' bytes, one after the other
 unfoldable pub allBytes : List Component → List ℕ
-unfolding joined componentBytes
-allBytes cs = joined (map componentBytes cs)
+unfolding flatten componentBytes
+allBytes cs = flatten (map componentBytes cs)
 
--- where component number p begins: behind the 16 counts and the components before it
+-- how many bytes are used: by the counts, and by the components behind them
+unfoldable pub usedOf : List Component → ℕ
+unfolding allBytes
+usedOf cs = channels + length (allBytes cs)
+
+-- where component number p begins: behind the counts and the components before it
 unfoldable pub startOf : List Component → ℕ → ℕ
-unfolding allBytes
-startOf cs p = 16 + length (allBytes (take p cs))
-
--- how many bytes are used
-unfoldable pub usedOf : Configuration → ℕ
-unfolding allBytes
-usedOf h = length (h .counts ++ allBytes (h .components))
-
--- a configuration fits into a hall's bytes
-abbrev pub Fits : Configuration → Type 0
-Fits h = usedOf h ≤ hallBytes
-
--- the zeros behind its components
-unfoldable pub zerosOf : Configuration → List ℕ
 unfolding usedOf
-zerosOf h = replicate (hallBytes - usedOf h) 0
+startOf cs p = usedOf (take p cs)
+
+-- an index of where each of the components begins; one entry more says where the last one ends
+abbrev pub IsIndex : List ℕ → List Component → Type 0
+IsIndex starts cs = (i : ℕ) → i ≤ length cs → getD starts i 0 ≡ startOf cs i
+
+-- components fit into a hall's bytes
+abbrev pub Fits : List Component → Type 0
+Fits cs = usedOf cs ≤ hallBytes
 
 -- One splice, of v in the place of the bytes a..b, makes of the bytes of h those of k: what `splice` requires holds, and this
 -- is what it ensures.
 pub record BySplice (h k : Configuration) (a b : ℕ) (v : List ℕ) : Type 0 where
   pub ordered : a ≤ b
-  pub room : Room (bytesOf h) b (a + length v) (usedOf h)
+  pub room : Room (bytesOf h) b (a + length v) (usedOf (h .components))
   pub bytes : spliced (bytesOf h) a b v ≡ bytesOf k
-  pub used : a + length v + (usedOf h - b) ≡ usedOf k
+  pub used : a + length v + (usedOf (h .components) - b) ≡ usedOf (k .components)
 
 -- ---- nodes
 
@@ -63,8 +63,8 @@ plug (rightOf l c) t = fork l (plug c t)
 unfoldable pub before : Context → List ℕ
 unfolding treeBytes
 before top = []
-before (leftOf c r) = 22 ∷ before c
-before (rightOf l c) = 22 ∷ (treeBytes l ++ before c)
+before (leftOf c r) = forkKind ∷ before c
+before (rightOf l c) = forkKind ∷ (treeBytes l ++ before c)
 
 unfoldable pub behind : Context → List ℕ
 unfolding treeBytes
@@ -107,10 +107,10 @@ withNode t k v = filled (nodeOf t k) t v
 unfoldable pub around : Context → Inner → Inner
 unfolding plug
 around c (evolves r t) = evolves r (plug c t)
-around c resting = resting
-around c (past k) = past k
+around c noRule = noRule
+around c (outOfRange k) = outOfRange k
 
 unfoldable pub innerAt : State → Node → Inner
 unfolding around inner
 innerAt s (node c t) = around c (inner s t 0)
-innerAt s (beyond k) = past k
+innerAt s (beyond k) = outOfRange k

@@ -1,3 +1,4 @@
-pub mod Taken
-pub mod Steps
-pub mod Loop
+pub mod RecordTests
+pub mod RecordRead
+pub mod TableRead
+pub mod Verdicts

@@ -1,13 +1,44 @@
 // Reading a rule table: record by record, the tests in number order, the terms decoded on the way.
-use records::Drawn;
-use recordtests::Tested;
+use buffer::wide;
+use records::ATOM;
+use records::EXPRESSION;
+use records::OR_ELSE;
+use records::PROCESS;
+use records::Parsed;
+use records::Record;
+use records::START;
+use records::TOKENS;
+use terms::DECODED;
+use terms::TERMS;
 ghost use mathlib.Core.Path.{_≡_};
+ghost use Prim.Native.Nat.{_<_};
 ghost use lib.ListN.{replicate};
-ghost use Rattle.semantics.specs.Table.{readTable};
-ghost use Rattle.semantics.specs.Calls.{checkTable};
-ghost use Rattle.records.specs.Record.{Whole};
-ghost use Rattle.terms.specs.Decoded.{Sized};
-ghost use Rattle.table.specs.Answers.{Decodes, TakenSays, StepSays, Answers, verdictOf};
+ghost use Rattle.semantics.specs.Definitions.Table.{tokensRecord, badTokens, readTable};
+ghost use Rattle.semantics.specs.Definitions.Calls.{checkTable};
+ghost use Rattle.records.specs.Parsing.{IsKind, WholeRecord};
+ghost use Rattle.terms.specs.Decoded.{decodedBytes, tokensIn};
+ghost use Rattle.table.specs.RecordTests.{DecodedSoFar, RoomTested, EarlierReference, ClassTested, FieldsTested};
+ghost use Rattle.table.specs.RecordRead.{ReadsRecord};
+ghost use Rattle.table.specs.Answers.{Answers, verdictOf};
+
+// The refusals' numbers.
+pub const UNKNOWN_KIND: u8 = 1;
+
+pub const CUT_SHORT: u8 = 2;
+
+pub const TOO_MANY_TERMS: u8 = 3;
+
+pub const CHANNEL_OUT_OF_RANGE: u8 = 4;
+
+pub const FORWARD_REFERENCE: u8 = 5;
+
+pub const CLASS_MISMATCH: u8 = 6;
+
+pub const OVER_LIMIT: u8 = 7;
+
+pub const BAD_TOKENS: u8 = 8;
+
+pub const WRONG_END: u8 = 9;
 
 // The answer on a table.
 pub enum Read {
@@ -16,11 +47,11 @@ pub enum Read {
     Refused { number: u8, place: usize },
 }
 
-// What one record leads to.
-pub enum Step {
+// What a record leads to.
+pub enum AfterRecord {
     // The offset behind it, and how many terms there are now.
-    Go { at: usize, terms: usize },
-    Stop(Read),
+    More { at: usize, terms: usize },
+    Answer(Read),
 }
 
 // Whether a table is accepted.
@@ -29,150 +60,173 @@ pub enum TableVerdict {
     Refused { number: u8, place: usize },
 }
 
-// A drawn record: refused by a test; the table's end; or one term or one channel's tokens more.
-fn take_record(
+// 3: a term record comes after as many terms as a table may have.
+fn too_many_terms(kind: u8, terms: usize) -> bool
+    ensures { λ r. ⌜ RoomTested kind terms r ⌝ }
+{
+    if kind <= OR_ELSE {
+        TERMS <= terms
+    } else {
+        false
+    }
+}
+
+// 6, on one field: a reference to a term of the other class.
+fn class_mismatch(decoded: &[u8; DECODED], field: u8, byte: u8) -> bool
+    requires { ⌜ EarlierReference (now decoded) field byte ⌝ }
+    ensures { λ r. ⌜ ClassTested (now (decoded .entry)) field byte r ⌝ }
+{
+    if field == PROCESS {
+        return ATOM < terms::kind_of(decoded, wide(byte));
+    }
+    if field == EXPRESSION {
+        return terms::kind_of(decoded, wide(byte)) <= ATOM;
+    }
+    false
+}
+
+// 8: a count of 0, or a channel that was given tokens before.
+fn bad_tokens(decoded: &[u8; DECODED], channel: u8, count: u8) -> bool
+    requires { ⌜ channel < 16 ⌝ }
+    ensures { λ r. ⌜ r ≡ badTokens (tokensIn (now (decoded .entry))) (tokensRecord channel count) ⌝ }
+{
+    if count == 0 {
+        return true;
+    }
+    terms::tokens_of(decoded, wide(channel)) != 0
+}
+
+// The tests 3 to 6 in number order, each on both fields before the next: the number of the first that fails, 0 for
+// none.
+fn field_refusal(decoded: &[u8; DECODED], terms: usize, parsed: Record) -> u8
+    requires { ⌜ DecodedSoFar (now decoded) terms ⌝ }
+    requires { ⌜ IsKind (parsed .kind) ⌝ }
+    ensures { λ q. ⌜ FieldsTested (now (decoded .entry)) terms parsed q ⌝ }
+{
+    let first = records::first_field(parsed.kind);
+    let second = records::second_field(parsed.kind);
+    if too_many_terms(parsed.kind, terms) {
+        return TOO_MANY_TERMS;
+    }
+    if records::channel_out_of_range(first, parsed.first) {
+        return CHANNEL_OUT_OF_RANGE;
+    }
+    if records::channel_out_of_range(second, parsed.second) {
+        return CHANNEL_OUT_OF_RANGE;
+    }
+    if records::forward_reference(terms, first, parsed.first) {
+        return FORWARD_REFERENCE;
+    }
+    if records::forward_reference(terms, second, parsed.second) {
+        return FORWARD_REFERENCE;
+    }
+    if class_mismatch(decoded, first, parsed.first) {
+        return CLASS_MISMATCH;
+    }
+    if class_mismatch(decoded, second, parsed.second) {
+        return CLASS_MISMATCH;
+    }
+    0
+}
+
+// A whole record: refused by the first test that fails; the table's end; or stored. Test 7 is on terms alone, 8 on
+// tokens alone and 9 on the start alone, so each way through goes by the tests' numbers.
+fn apply_record(
     table: &[u8],
     at: usize,
-    next: usize,
     terms: usize,
-    kind: u8,
-    first: u8,
-    second: u8,
-    kinds: &mut [u8; 200],
-    firsts: &mut [u8; 200],
-    seconds: &mut [u8; 200],
-    sizes: &mut [u8; 200],
-    longs: &mut [u8; 200],
-    tokens: &mut [u8; 16],
-) -> Step
-    requires { ⌜ Decodes (now kinds) (now firsts) (now seconds) (now sizes) (now longs) terms ⌝ }
-    requires { ⌜ Whole (now table) at kind next ⌝ }
-    ensures { λ x. ⌜ TakenSays (now (table .entry)) at next terms kind first second
-        (now (kinds .entry)) (now (firsts .entry)) (now (seconds .entry)) (now (sizes .entry)) (now (longs .entry)) (now (tokens .entry)) x
-        (now (kinds .exit)) (now (firsts .exit)) (now (seconds .exit)) (now (sizes .exit)) (now (longs .exit)) (now (tokens .exit)) ⌝ }
+    parsed: Record,
+    decoded: &mut [u8; DECODED],
+) -> AfterRecord
+    requires { ⌜ DecodedSoFar (now decoded) terms ⌝ }
+    requires { ⌜ WholeRecord (now table) at parsed ⌝ }
+    ensures { λ x. ⌜ ReadsRecord (now (table .entry)) at terms (now (decoded .entry)) x (now (decoded .exit)) ⌝ }
 {
-    match recordtests::test_record(kinds, firsts, seconds, tokens, terms, kind, first, second) {
-        Tested::Refused(number) => Step::Stop(Read::Refused { number, place: at }),
-        Tested::Passed(m) => {
-            if kind == 13 {
-                if next < table.len() {
-                    return Step::Stop(Read::Refused {
-                        number: 9,
-                        place: next,
-                    });
-                }
-                return Step::Stop(Read::Accepted {
-                    terms,
-                    start: first,
-                });
-            }
-            if kind == 12 {
-                tokens[splice::wide(first)] = second;
-                return Step::Go { at: next, terms };
-            }
-            kinds[terms] = kind;
-            firsts[terms] = first;
-            seconds[terms] = second;
-            sizes[terms] = m.size;
-            longs[terms] = m.long;
-            Step::Go {
-                at: next,
-                terms: terms + 1,
-            }
+    let number = field_refusal(decoded, terms, parsed);
+    if number != 0 {
+        return AfterRecord::Answer(Read::Refused { number, place: at });
+    }
+    if parsed.kind == START {
+        if parsed.next < table.len() {
+            return AfterRecord::Answer(Read::Refused {
+                number: WRONG_END,
+                place: parsed.next,
+            });
         }
+        return AfterRecord::Answer(Read::Accepted {
+            terms,
+            start: parsed.first,
+        });
+    }
+    if parsed.kind == TOKENS {
+        if bad_tokens(decoded, parsed.first, parsed.second) {
+            return AfterRecord::Answer(Read::Refused {
+                number: BAD_TOKENS,
+                place: at,
+            });
+        }
+        terms::put_tokens(decoded, wide(parsed.first), parsed.second);
+        return AfterRecord::More {
+            at: parsed.next,
+            terms,
+        };
+    }
+    terms::put_record(decoded, terms, parsed);
+    let measures = terms::measures_of(decoded, terms, terms);
+    if terms::over_limit(parsed.kind, measures) {
+        return AfterRecord::Answer(Read::Refused {
+            number: OVER_LIMIT,
+            place: at,
+        });
+    }
+    terms::put_measures(decoded, terms, measures);
+    let count = terms + 1;
+    AfterRecord::More {
+        at: parsed.next,
+        terms: count,
     }
 }
 
 // What stands at an offset, after some terms.
-fn next_record(
-    table: &[u8],
-    at: usize,
-    terms: usize,
-    kinds: &mut [u8; 200],
-    firsts: &mut [u8; 200],
-    seconds: &mut [u8; 200],
-    sizes: &mut [u8; 200],
-    longs: &mut [u8; 200],
-    tokens: &mut [u8; 16],
-) -> Step
-    requires { ⌜ Decodes (now kinds) (now firsts) (now seconds) (now sizes) (now longs) terms ⌝ }
-    ensures { λ x. ⌜ StepSays (now (table .entry)) at terms
-        (now (kinds .entry)) (now (firsts .entry)) (now (seconds .entry)) (now (sizes .entry)) (now (longs .entry)) (now (tokens .entry)) x
-        (now (kinds .exit)) (now (firsts .exit)) (now (seconds .exit)) (now (sizes .exit)) (now (longs .exit)) (now (tokens .exit)) ⌝ }
+fn read_record(table: &[u8], at: usize, terms: usize, decoded: &mut [u8; DECODED]) -> AfterRecord
+    requires { ⌜ DecodedSoFar (now decoded) terms ⌝ }
+    ensures { λ x. ⌜ ReadsRecord (now (table .entry)) at terms (now (decoded .entry)) x (now (decoded .exit)) ⌝ }
 {
-    match records::draw(table, at) {
-        Drawn::End => Step::Stop(Read::Refused {
-            number: 9,
+    match records::parse(table, at) {
+        Parsed::End => AfterRecord::Answer(Read::Refused {
+            number: WRONG_END,
             place: at,
         }),
-        Drawn::Unknown => Step::Stop(Read::Refused {
-            number: 1,
+        Parsed::UnknownKind => AfterRecord::Answer(Read::Refused {
+            number: UNKNOWN_KIND,
             place: at,
         }),
-        Drawn::Short => Step::Stop(Read::Refused {
-            number: 2,
+        Parsed::CutShort => AfterRecord::Answer(Read::Refused {
+            number: CUT_SHORT,
             place: at,
         }),
-        Drawn::Record {
-            kind,
-            first,
-            second,
-            next,
-        } => take_record(
-            table,
-            at,
-            next,
-            terms,
-            kind,
-            first,
-            second,
-            kinds,
-            firsts,
-            seconds,
-            sizes,
-            longs,
-            tokens,
-        ),
+        Parsed::Whole(parsed) => apply_record(table, at, terms, parsed, decoded),
     }
 }
 
-// Reads a table into arrays that the caller lends: the tokens all 0, the others as they come. Where the table is accepted, they hold it.
-pub fn read_table(
-    table: &[u8],
-    kinds: &mut [u8; 200],
-    firsts: &mut [u8; 200],
-    seconds: &mut [u8; 200],
-    sizes: &mut [u8; 200],
-    longs: &mut [u8; 200],
-    tokens: &mut [u8; 16],
-) -> Read
-    requires { ⌜ Sized (now kinds) (now firsts) (now seconds) (now sizes) (now longs) ⌝ }
-    requires { ⌜ now tokens ≡ replicate 16 0 ⌝ }
-    ensures { λ r. ⌜ Answers r (readTable (now (table .entry)))
-        (now (kinds .exit)) (now (firsts .exit)) (now (seconds .exit)) (now (sizes .exit)) (now (longs .exit)) (now (tokens .exit)) ⌝ }
+// Reads a table into a decoded table that the caller lends, all 0. Where the table is accepted, it holds the table's
+// tokens and terms.
+pub fn read_table(table: &[u8], decoded: &mut [u8; DECODED]) -> Read
+    requires { ⌜ now decoded ≡ replicate decodedBytes 0 ⌝ }
+    ensures { λ r. ⌜ Answers r (readTable (now (table .entry))) (now (decoded .exit)) ⌝ }
 {
     let mut at: usize = 0;
     let mut terms: usize = 0;
     loop {
-        match next_record(
-            table,
-            at,
-            terms,
-            kinds,
-            firsts,
-            seconds,
-            sizes,
-            longs,
-            tokens,
-        ) {
-            Step::Go {
+        match read_record(table, at, terms, decoded) {
+            AfterRecord::More {
                 at: next,
                 terms: count,
             } => {
                 at = next;
                 terms = count;
             }
-            Step::Stop(answer) => {
+            AfterRecord::Answer(answer) => {
                 return answer;
             }
         }
@@ -183,21 +237,8 @@ pub fn read_table(
 pub fn check_table(table: &[u8]) -> TableVerdict
     ensures { λ v. ⌜ verdictOf v ≡ checkTable (now (table .entry)) ⌝ }
 {
-    let mut kinds = [0u8; 200];
-    let mut firsts = [0u8; 200];
-    let mut seconds = [0u8; 200];
-    let mut sizes = [0u8; 200];
-    let mut longs = [0u8; 200];
-    let mut tokens = [0u8; 16];
-    match read_table(
-        table,
-        &mut kinds,
-        &mut firsts,
-        &mut seconds,
-        &mut sizes,
-        &mut longs,
-        &mut tokens,
-    ) {
+    let mut decoded = [0u8; DECODED];
+    match read_table(table, &mut decoded) {
         Read::Accepted { terms: _, start: _ } => TableVerdict::Accepted,
         Read::Refused { number, place } => TableVerdict::Refused { number, place },
     }

@@ -1,65 +1,56 @@
--- The kinds by their bytes: each of 1 to 13 is a kind's, with its body's length and its fields.
+-- The kinds by their bytes: each of 1 to 13 is one kind's, and tells what class of content its records have.
 -- Assumes nothing.
-use Prim.Native.Nat.{ℕ, zero, suc, _≤_}
+use Prim.Native.Nat.{ℕ, zero, suc, _≤_, _<_}
 use native.Mathlib.Omega.{arith}
 use mathlib.Core.Path.{_≡_, refl}
-use mathlib.Core.Option.{Option, none, some}
+use mathlib.Core.Option.{none}
+use mathlib.Core.List.{List, [], _∷_}
 use lib.ListN.{length, getElem?}
-use Rattle.semantics.specs.Table.{Kind, nilK, putK, takeK, repeatK, parK, atomK, endK, retryK, rdK, wtK, orElseK, tokensK, startK, kinds, kindOf, Field, channelF, programF, expressionF, amountF, fields}
-use Rattle.records.specs.Record.{bodyLengths, bodyLength}
-use Rattle.fields.specs.Tests.{firstFields, secondFields, firstField, secondField}
-use Rattle.tablelaws.specs.Content.{kindNumber}
+use Rattle.semantics.specs.Definitions.Terms.{Term}
+use Rattle.semantics.specs.Definitions.Table.{Kind, nilK, putK, takeK, repeatK, parK, atomK, endK, retryK, rdK, wtK, orElseK, tokensK, startK, kinds, kindOf, Content, termRecord, tokensRecord, startRecord, recordContent}
+use Rattle.semantics.proofs.Lists.{found-at, found-getD}
+use Rattle.records.specs.Shapes.{kindByte}
+use Rattle.records.specs.Parsing.{IsKind}
+use Rattle.records.proofs.Shapes.{entry-at}
+use Rattle.tablelaws.specs.Refusals.{KindAt}
 
-pub record KindAt (k : ℕ) : Type 0 where
-  pub kind : Kind
-  pub named : kindOf k ≡ some kind
-  pub number : k ≡ kindNumber kind
+pub kind-at : (k : ℕ) → IsKind k → KindAt k
+unfolding kindOf kinds
+kind-at zero h = absurd (omega arith)
+kind-at (suc k) h =
+    let K = found-at kinds k (omega arith) in
+    let e = entry-at kindByte (λ i. i) nilK kinds 1 refl k (omega arith) in
+    let g = found-getD kinds k (K .0) nilK (K .1) in record { kind = K .0; named = K .1; byte = rw (← g) (omega arith) }
 
-pub kind-at : (k : ℕ) → 1 ≤ k → k ≤ 13 → KindAt k
-unfolding kindOf kinds kindNumber
-kind-at zero h g = absurd (omega arith)
-kind-at (suc zero) h g = record { kind = nilK; named = refl; number = refl }
-kind-at (suc (suc zero)) h g = record { kind = putK; named = refl; number = refl }
-kind-at (suc (suc (suc zero))) h g = record { kind = takeK; named = refl; number = refl }
-kind-at (suc (suc (suc (suc zero)))) h g = record { kind = repeatK; named = refl; number = refl }
-kind-at (suc (suc (suc (suc (suc zero))))) h g = record { kind = parK; named = refl; number = refl }
-kind-at (suc (suc (suc (suc (suc (suc zero)))))) h g = record { kind = atomK; named = refl; number = refl }
-kind-at (suc (suc (suc (suc (suc (suc (suc zero))))))) h g = record { kind = endK; named = refl; number = refl }
-kind-at (suc (suc (suc (suc (suc (suc (suc (suc zero)))))))) h g = record { kind = retryK; named = refl; number = refl }
-kind-at (suc (suc (suc (suc (suc (suc (suc (suc (suc zero))))))))) h g = record { kind = rdK; named = refl; number = refl }
-kind-at (suc (suc (suc (suc (suc (suc (suc (suc (suc (suc zero)))))))))) h g = record { kind = wtK; named = refl; number = refl }
-kind-at (suc (suc (suc (suc (suc (suc (suc (suc (suc (suc (suc zero))))))))))) h g = record { kind = orElseK; named = refl; number = refl }
-kind-at (suc (suc (suc (suc (suc (suc (suc (suc (suc (suc (suc (suc zero)))))))))))) h g = record { kind = tokensK; named = refl; number = refl }
-kind-at (suc (suc (suc (suc (suc (suc (suc (suc (suc (suc (suc (suc (suc zero))))))))))))) h g = record { kind = startK; named = refl; number = refl }
-kind-at (suc (suc (suc (suc (suc (suc (suc (suc (suc (suc (suc (suc (suc (suc k)))))))))))))) h g = absurd (omega arith)
+-- no other byte is a kind's
+pub no-kind : (k : ℕ) → 13 < k → kindOf k ≡ none
+unfolding kindOf kinds
+no-kind zero h = refl
+no-kind (suc k) h = past kinds k (omega arith)
+  where
+    past : (K : List Kind) (n : ℕ) → length K ≤ n → getElem? K n ≡ none
+    past [] n h = refl
+    past (K ∷ Ks) zero h = absurd (omega arith)
+    past (K ∷ Ks) (suc n) h = past Ks n (omega arith)
 
--- a field by its number
-unfoldable pub fieldCode : Option Field → ℕ
-fieldCode none = 0
-fieldCode (some channelF) = 1
-fieldCode (some programF) = 2
-fieldCode (some expressionF) = 3
-fieldCode (some amountF) = 4
+-- kinds 1 to 11 say a term, 12 tokens, 13 the start
+abbrev pub ClassBy : ℕ → Content → Type 0
+ClassBy k (termRecord t) = k ≤ 11
+ClassBy k (tokensRecord a n) = k ≡ 12
+ClassBy k (startRecord P) = k ≡ 13
 
--- by a kind's byte: how long its body is, and what its fields are
-pub record Shape (K : Kind) : Type 0 where
-  pub size : bodyLength (kindNumber K) ≡ length (fields K)
-  pub few : length (fields K) ≤ 2
-  pub first : firstField (kindNumber K) ≡ fieldCode (getElem? (fields K) 0)
-  pub second : secondField (kindNumber K) ≡ fieldCode (getElem? (fields K) 1)
-
-pub shape : (K : Kind) → Shape K
-unfolding bodyLengths bodyLength kindNumber fields firstFields secondFields firstField secondField fieldCode
-shape nilK = record { size = refl; few = omega arith; first = refl; second = refl }
-shape putK = record { size = refl; few = omega arith; first = refl; second = refl }
-shape takeK = record { size = refl; few = omega arith; first = refl; second = refl }
-shape repeatK = record { size = refl; few = omega arith; first = refl; second = refl }
-shape parK = record { size = refl; few = omega arith; first = refl; second = refl }
-shape atomK = record { size = refl; few = omega arith; first = refl; second = refl }
-shape endK = record { size = refl; few = omega arith; first = refl; second = refl }
-shape retryK = record { size = refl; few = omega arith; first = refl; second = refl }
-shape rdK = record { size = refl; few = omega arith; first = refl; second = refl }
-shape wtK = record { size = refl; few = omega arith; first = refl; second = refl }
-shape orElseK = record { size = refl; few = omega arith; first = refl; second = refl }
-shape tokensK = record { size = refl; few = omega arith; first = refl; second = refl }
-shape startK = record { size = refl; few = omega arith; first = refl; second = refl }
+pub class-by : (ts : List Term) (bs : List ℕ) (K : Kind) → ClassBy (kindByte K) (recordContent ts bs K)
+unfolding recordContent
+class-by ts bs nilK = omega arith
+class-by ts bs putK = omega arith
+class-by ts bs takeK = omega arith
+class-by ts bs repeatK = omega arith
+class-by ts bs parK = omega arith
+class-by ts bs atomK = omega arith
+class-by ts bs endK = omega arith
+class-by ts bs retryK = omega arith
+class-by ts bs rdK = omega arith
+class-by ts bs wtK = omega arith
+class-by ts bs orElseK = omega arith
+class-by ts bs tokensK = refl
+class-by ts bs startK = refl

@@ -1,5 +1,3 @@
 pub mod KindBytes
-pub mod Link
-pub mod Refusals
-pub mod Sound
-pub mod Weigh
+pub mod Turns
+pub mod Contents

@@ -1,2 +1,4 @@
-pub mod Walk
-pub mod Store
+pub mod TermKinds
+pub mod TermMeasures
+pub mod Stores
+pub mod Limits

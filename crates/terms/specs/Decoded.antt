@@ -1,80 +1,101 @@
--- The decoded table: what the arrays of a table's terms hold.
+-- The decoded table: what its bytes hold.
 --
--- Term number i has a kind, two fields and its measures, each at i of an array of bytes. A field is a channel or the number of a
--- subterm, as the record's body has it; a field that the kind lacks may be anything.
+-- The tokens of the 16 channels stand first. Term number i has five bytes behind them: its kind, two fields and its
+-- measures. A field is a channel or the number of a subterm, as the record's body has it; a field that the kind lacks
+-- may be anything.
 -- Assumes nothing.
-use Prim.Native.Nat.{ℕ, _≤_, _<_}
+use Prim.Native.Nat.{ℕ, _+_, _*_, _<_}
 use mathlib.Core.Path.{_≡_}
 use mathlib.Core.Option.{some}
 use mathlib.Core.List.{List}
-use lib.ListN.{length, getD, getElem?}
-use Rattle.semantics.specs.Terms.{Expression, endT, retryT, rdT, wtT, orElseT, Program, nilT, putT, takeT, repeatT, parT, atomT, Term, process, expression, number, width, branches, pathLength}
-use Rattle.semantics.specs.GoodTable.{programNumber, termNumber, SubtermsIn, ChannelBelow, WithinLimits}
+use lib.ListN.{length, getD, take, set, getElem?}
+pub use Rattle.semantics.specs.Definitions.Layout.{channels, maxTerms}
+use Rattle.semantics.specs.Definitions.Terms.{endT, retryT, rdT, wtT, orElseT, Program, nilT, putT, takeT, repeatT, parT, atomT, Term, process, expression, number, width, branches, pathLength}
+use Rattle.semantics.specs.Checks.AcceptedTables.{programNumber, GoodTable}
+use Rattle.semantics.specs.Definitions.Table.{nilK, putK, takeK, repeatK, parK, atomK, endK, retryK, rdK, wtK, orElseK}
+use Rattle.records.specs.Shapes.{kindByte}
 
--- kind k and fields l and r say that term number i is t: its channel and the numbers of its subterms, which are smaller
-abbrev pub Says : (i k l r : ℕ) → Term → Type 0
-Says i k l r (process (nilT n)) = k ≡ 1
-Says i k l r (process (putT n a)) = (k ≡ 2) × (l ≡ a)
-Says i k l r (process (takeT n a P)) = (k ≡ 3) × (l ≡ a) × (r ≡ programNumber P) × (r < i)
-Says i k l r (process (repeatT n a P)) = (k ≡ 4) × (l ≡ a) × (r ≡ programNumber P) × (r < i)
-Says i k l r (process (parT n P Q)) = (k ≡ 5) × (l ≡ programNumber P) × (l < i) × (r ≡ programNumber Q) × (r < i)
-Says i k l r (process (atomT n M)) = (k ≡ 6) × (l ≡ number M) × (l < i)
-Says i k l r (expression (endT n)) = k ≡ 7
-Says i k l r (expression (retryT n)) = k ≡ 8
-Says i k l r (expression (rdT n a M)) = (k ≡ 9) × (l ≡ a) × (r ≡ number M) × (r < i)
-Says i k l r (expression (wtT n a M)) = (k ≡ 10) × (l ≡ a) × (r ≡ number M) × (r < i)
-Says i k l r (expression (orElseT n M N)) = (k ≡ 11) × (l ≡ number M) × (l < i) × (r ≡ number N) × (r < i)
+-- ---- the layout
 
--- t is term number i of ts, and the bytes say so
-pub record Entry (ts : List Term) (i k l r : ℕ) (t : Term) : Type 0 where
-  pub place : termNumber t ≡ i
-  pub says : Says i k l r t
-  pub parts : SubtermsIn ts t
-  pub channel : ChannelBelow t
-  pub within : WithinLimits t
+-- all of its bytes: the tokens of each channel, and five bytes for each term that a table may have
+abbrev pub decodedBytes : ℕ
+decodedBytes = channels + 5 * maxTerms
 
--- every term is spelled by its kind and fields
-pub record Spelled (ts : List Term) (kinds firsts seconds : List ℕ) : Type 0 where
-  pub few : length ts ≤ 200
-  pub entry : (i : ℕ) (t : Term) → getElem? ts i ≡ some t → Entry ts i (getD kinds i 0) (getD firsts i 0) (getD seconds i 0) t
+-- the tokens of the channels
+abbrev pub tokensIn : List ℕ → List ℕ
+tokensIn d = take channels d
 
--- what is kept of a term's measures: a process's width; an expression's branches and length
-abbrev pub Keeps : (size long : ℕ) → Term → Type 0
-Keeps size long (process P) = size ≡ width P
-Keeps size long (expression M) = (size ≡ branches M) × (long ≡ pathLength M)
+-- where byte j of term number i stands
+abbrev pub placeOf : (i j : ℕ) → ℕ
+placeOf i j = channels + 5 * i + j
 
--- arrays of 200 bytes
-pub record Sized (kinds firsts seconds sizes longs : List ℕ) : Type 0 where
-  pub kinds-length : length kinds ≡ 200
-  pub firsts-length : length firsts ≡ 200
-  pub seconds-length : length seconds ≡ 200
-  pub sizes-length : length sizes ≡ 200
-  pub longs-length : length longs ≡ 200
+abbrev pub kindAt : List ℕ → ℕ → ℕ
+kindAt d i = getD d (placeOf i 0) 0
 
--- the arrays of a table: its terms, with their measures
-pub record Decoded (ts : List Term) (kinds firsts seconds sizes longs : List ℕ) : Type 0 where
-  pub sized : Sized kinds firsts seconds sizes longs
-  pub spelled : Spelled ts kinds firsts seconds
-  pub kept : (i : ℕ) (t : Term) → getElem? ts i ≡ some t → Keeps (getD sizes i 0) (getD longs i 0) t
+abbrev pub firstAt : List ℕ → ℕ → ℕ
+firstAt d i = getD d (placeOf i 1) 0
 
--- number i is an expression's, a process's, of some table that the arrays spell: what a walk from there asks
-pub record AnExpression (kinds firsts seconds : List ℕ) (i : ℕ) : Type 0 where
-  pub terms : List Term
-  pub tree : Expression
-  pub spelled : Spelled terms kinds firsts seconds
-  pub at : getElem? terms i ≡ some (expression tree)
+abbrev pub secondAt : List ℕ → ℕ → ℕ
+secondAt d i = getD d (placeOf i 2) 0
 
-pub record AProcess (kinds firsts seconds : List ℕ) (i : ℕ) : Type 0 where
+abbrev pub breadthAt : List ℕ → ℕ → ℕ
+breadthAt d i = getD d (placeOf i 3) 0
+
+abbrev pub lengthAt : List ℕ → ℕ → ℕ
+lengthAt d i = getD d (placeOf i 4) 0
+
+-- a record, and measures, stored at number i
+abbrev pub withRecord : List ℕ → (i k l r : ℕ) → List ℕ
+withRecord d i k l r = set (set (set d (placeOf i 0) k) (placeOf i 1) l) (placeOf i 2) r
+
+abbrev pub withMeasures : List ℕ → (i b l : ℕ) → List ℕ
+withMeasures d i b l = set (set d (placeOf i 3) b) (placeOf i 4) l
+
+-- ---- what the bytes of a term say
+
+-- kind k with fields l and r is the record of term t, number i: its channel and the numbers of its subterms, which
+-- are smaller
+abbrev pub RecordOf : (i k l r : ℕ) → Term → Type 0
+RecordOf i k l r (process (nilT n)) = k ≡ kindByte nilK
+RecordOf i k l r (process (putT n a)) = (k ≡ kindByte putK) × (l ≡ a)
+RecordOf i k l r (process (takeT n a P)) = (k ≡ kindByte takeK) × (l ≡ a) × (r ≡ programNumber P) × (r < i)
+RecordOf i k l r (process (repeatT n a P)) = (k ≡ kindByte repeatK) × (l ≡ a) × (r ≡ programNumber P) × (r < i)
+RecordOf i k l r (process (parT n P Q)) =
+    (k ≡ kindByte parK) × (l ≡ programNumber P) × (l < i) × (r ≡ programNumber Q) × (r < i)
+RecordOf i k l r (process (atomT n M)) = (k ≡ kindByte atomK) × (l ≡ number M) × (l < i)
+RecordOf i k l r (expression (endT n)) = k ≡ kindByte endK
+RecordOf i k l r (expression (retryT n)) = k ≡ kindByte retryK
+RecordOf i k l r (expression (rdT n a M)) = (k ≡ kindByte rdK) × (l ≡ a) × (r ≡ number M) × (r < i)
+RecordOf i k l r (expression (wtT n a M)) = (k ≡ kindByte wtK) × (l ≡ a) × (r ≡ number M) × (r < i)
+RecordOf i k l r (expression (orElseT n M N)) =
+    (k ≡ kindByte orElseK) × (l ≡ number M) × (l < i) × (r ≡ number N) × (r < i)
+
+abbrev pub RecordAt : List ℕ → ℕ → Term → Type 0
+RecordAt d i t = RecordOf i (kindAt d i) (firstAt d i) (secondAt d i) t
+
+-- a term's measures: a process's width; an expression's branches and length
+unfoldable pub breadth : Term → ℕ
+breadth (process P) = width P
+breadth (expression M) = branches M
+
+unfoldable pub termLength : Term → ℕ
+termLength (process P) = 0
+termLength (expression M) = pathLength M
+
+abbrev pub MeasuresAt : List ℕ → ℕ → Term → Type 0
+MeasuresAt d i t = (breadthAt d i ≡ breadth t) × (lengthAt d i ≡ termLength t)
+
+-- ---- the decoded table of the terms ts
+
+pub record Decoded (ts : List Term) (d : List ℕ) : Type 0 where
+  pub sized : length d ≡ decodedBytes
+  pub good : GoodTable ts
+  pub records : (i : ℕ) (t : Term) → getElem? ts i ≡ some t → RecordAt d i t
+  pub measures : (i : ℕ) (t : Term) → getElem? ts i ≡ some t → MeasuresAt d i t
+
+-- number i is a process's, of some table that d decodes
+pub record AProcess (d : List ℕ) (i : ℕ) : Type 0 where
   pub terms : List Term
   pub tree : Program
-  pub spelled : Spelled terms kinds firsts seconds
+  pub decoded : Decoded terms d
   pub at : getElem? terms i ≡ some (process tree)
-
--- these are the branches and the length of the expression, this is the width of the process, at number i of any table that the
--- arrays spell: what a walk from there answers
-pub record Walked (kinds firsts seconds : List ℕ) (i b l : ℕ) : Type 0 where
-  pub found : (ts : List Term) (M : Expression) → Spelled ts kinds firsts seconds → getElem? ts i ≡ some (expression M) →
-      (b ≡ branches M) × (l ≡ pathLength M)
-
-pub record Widened (kinds firsts seconds : List ℕ) (i w : ℕ) : Type 0 where
-  pub found : (ts : List Term) (P : Program) → Spelled ts kinds firsts seconds → getElem? ts i ≡ some (process P) → w ≡ width P

@@ -1,30 +1,36 @@
 //! Two calls measured side by side: by turns, in one run, in batches.
 
 use std::hint::black_box;
-use std::time::Instant;
+use std::time::{Duration, Instant};
 
 /// About how long one batch takes.
-const BATCH_NS: f64 = 1_000_000.0;
+const BATCH: Duration = Duration::from_millis(1);
 
 /// A call that says whether its input was accepted, as every input here is.
-pub type Call<'a> = &'a mut dyn FnMut() -> bool;
+pub(crate) type Call<'a> = &'a mut dyn FnMut() -> bool;
 
-/// Nanoseconds for one call, over so many calls.
-fn batch(call: Call, calls: usize) -> f64 {
+/// How long so many calls take.
+fn time_of(call: Call<'_>, calls: u32) -> Duration {
     let begin = Instant::now();
     for _ in 0..calls {
         assert!(black_box(call()));
     }
-    begin.elapsed().as_nanos() as f64 / calls as f64
+    begin.elapsed()
+}
+
+/// Nanoseconds for one call, as the mean of a batch.
+fn nanoseconds(call: Call<'_>, calls: u32) -> f64 {
+    time_of(call, calls).as_secs_f64() * 1e9 / f64::from(calls)
 }
 
 /// So many calls that a batch takes its time.
-fn calls_for(call: Call) -> usize {
+fn calls_in_a_batch(call: Call<'_>) -> u32 {
     let mut calls = 16;
     loop {
-        let took = batch(call, calls) * calls as f64;
-        if took > BATCH_NS / 4.0 {
-            return (calls as f64 * BATCH_NS / took).ceil() as usize;
+        let time = time_of(call, calls);
+        if time > BATCH / 4 {
+            let scaled = u128::from(calls) * BATCH.as_nanos() / time.as_nanos();
+            return u32::try_from(scaled).unwrap_or(u32::MAX).max(1);
         }
         calls *= 2;
     }
@@ -43,14 +49,14 @@ fn cell((median, lower, upper): (f64, f64, f64)) -> String {
 }
 
 /// One row of the table: the engine, the second implementation, their ratio.
-pub fn print_row(name: &str, rounds: usize, engine: Call, second: Call) {
-    let calls = [calls_for(engine), calls_for(second)];
+pub(crate) fn print_row(name: &str, rounds: usize, engine: Call<'_>, second: Call<'_>) {
+    let calls = [calls_in_a_batch(engine), calls_in_a_batch(second)];
     let mut figures = [Vec::new(), Vec::new()];
     for round in 0..rounds {
         // Each of the two goes first in every other round.
         for turn in [round % 2, 1 - round % 2] {
-            let call: Call = if turn == 0 { engine } else { second };
-            figures[turn].push(batch(call, calls[turn]));
+            let call: Call<'_> = if turn == 0 { engine } else { second };
+            figures[turn].push(nanoseconds(call, calls[turn]));
         }
     }
     let [engine, second] = figures.map(summary);
@@ -63,7 +69,7 @@ pub fn print_row(name: &str, rounds: usize, engine: Call, second: Call) {
 }
 
 /// The head of the table.
-pub fn print_head(what: &str) {
+pub(crate) fn print_head(what: &str) {
     println!();
     println!("| {what} | engine | second implementation | engine / second |");
     println!("|---|---|---|---|");

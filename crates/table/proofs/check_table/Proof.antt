@@ -1,6 +1,6 @@
--- `table::check_table` meets its contract: at each need the law of its case, of proofs/Loop.
+-- `table::check_table` meets its contract: at each need the law of its case.
 -- Assumes nothing.
-use Rattle.table.proofs.Loop.{fine-verdict, refused-verdict}
+use Rattle.table.proofs.TableRead.{ok-verdict, refused-verdict}
 use borrow.Author.Needs.{needs}
 use Rattle.table.proofs.check_table.Statement.{statement}
 use Rattle.table.proofs.check_table.Tie as tie
@@ -15,7 +15,7 @@ enum-known-number : tie.Need-enum-known-number
 enum-known-number c = search needs
 
 returns : tie.Need-returns
-returns c = search fine-verdict
+returns c = search ok-verdict
 
 returns-2 : tie.Need-returns-2
 returns-2 c = search refused-verdict

@@ -1,6 +1,6 @@
 -- `Counters::fresh` meets its contract: three zeros. Assumes nothing.
 use mathlib.Core.Path.{refl}
-use Rattle.semantics.specs.Run.{freshCounters}
+use Rattle.semantics.specs.Definitions.Run.{freshCounters}
 use Rattle.counters.proofs.Counters.fresh.Statement.{statement}
 use Rattle.counters.proofs.Counters.fresh.Tie as tie
 

@@ -1,0 +1,4 @@
+pub mod Accepted
+pub mod Checking
+pub mod Opening
+pub mod Verdicts

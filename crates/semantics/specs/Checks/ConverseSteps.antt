@@ -1,0 +1,48 @@
+-- The steps of the converse (Claims/ConverseRuns) are those that document 01 means: just what the engine does by choices
+-- at one station, undisturbed. So the converse speaks of no fewer runs than it should.
+-- Assumes nothing.
+use Prim.Native.Nat.{ℕ, _≤_, _<_}
+use mathlib.Core.Path.{_≡_}
+use mathlib.Core.Logic.{_⊎_}
+use mathlib.Core.Option.{some}
+use mathlib.Core.List.{List, [], _∷_, _++_, map}
+use lib.ListN.{length, getElem?}
+use Rattle.calculus.specs.Syntax.{Name, Log, State}
+use Rattle.calculus.specs.State.{count, without, Included}
+use Rattle.calculus.specs.Log.{RD, WT}
+use Rattle.calculus.specs.Reduction.{Rule, ATOK}
+use Rattle.semantics.specs.Definitions.Basics.{replaceAt, All}
+use Rattle.semantics.specs.Definitions.Terms.{Expression, Program}
+use Rattle.semantics.specs.Definitions.Table.{Table}
+use Rattle.semantics.specs.Definitions.Logs.{paths, firstReadable, addToken, takeToken}
+use Rattle.semantics.specs.Definitions.Configuration.{Idle, taking, repeating, block, output, idle, Configuration, opens}
+use Rattle.semantics.specs.Definitions.Moves.{act, inside, moved, answerTo, ruleNumber}
+use Rattle.semantics.specs.Definitions.Run.{steps, finalConfiguration}
+use Rattle.semantics.specs.Claims.ConverseRuns.{PlainState, replacing, ConverseStep, idleConfiguration}
+
+-- what the engine does by choices at p alone, from a hall without attempts: one OUT, IN or REP (rules 1 to 3); or an
+-- attempt is opened, moved inside at some nodes and committed
+unfoldable pub DoneAt : PlainState → ℕ → Configuration → Type 0
+unfolding idleConfiguration
+DoneAt s p g =
+    ((r : Rule) × (answerTo (idleConfiguration s) (act p) ≡ moved r g) × (ruleNumber r ≤ 3)) ⊎
+    ((δ : Log) × (nodes : List ℕ) ×
+    (let es = act p ∷ map (inside p) nodes in
+    let ss = steps (idleConfiguration s) es in
+    (length ss ≡ length es) × (answerTo (finalConfiguration (idleConfiguration s) ss) (act p) ≡ moved (ATOK δ) g)))
+
+-- a step is within the limits: choices that do it are all accepted. And none is missing: what such choices do is a step
+unfoldable pub StepsAreMoves : Type 0
+StepsAreMoves =
+    (s : PlainState) (p : ℕ) → length (s .stations) ≤ 64 →
+    ((u : PlainState) → ConverseStep s p u → DoneAt s p (idleConfiguration u)) ×
+    ((g : Configuration) → DoneAt s p g → (u : PlainState) × (idleConfiguration u ≡ g) × ConverseStep s p u)
+
+-- every block with a readable path has a step by the first one, where that leaves at most 64 stations
+unfoldable pub ReadableBlocksStep : Type 0
+ReadableBlocksStep =
+    (s : PlainState) (p n : ℕ) (M : Expression) → getElem? (s .stations) p ≡ some (block n M) →
+    (earlier later : List Log) (δ : Log) → paths M ≡ earlier ++ (δ ∷ later) →
+    All (λ π. ¬ Included (RD π) (s .counts)) earlier → Included (RD δ) (s .counts) →
+    length (replaceAt p (map output (WT δ)) (s .stations)) ≤ 64 →
+    ConverseStep s p (replacing s p (without (s .counts) (RD δ)) (map output (WT δ)))

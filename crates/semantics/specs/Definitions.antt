@@ -1,0 +1,13 @@
+-- What every call of the engine gives, on bytes. Assumes nothing.
+pub mod Layout
+pub mod Basics
+pub mod Terms
+pub mod Table
+pub mod Logs
+pub mod Configuration
+pub mod Stored
+pub mod Moves
+pub mod Run
+pub mod AtomicRun
+pub mod Calls
+pub mod Report

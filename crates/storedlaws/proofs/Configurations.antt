@@ -1,0 +1,264 @@
+-- A configuration's bytes: where its components and nodes stand in them, and the two links from a splice to a configuration, one for
+-- a component that gives way to others and one for a node of a transaction that gives way to another.
+-- Assumes nothing.
+use Prim.Native.Nat.{ℕ, zero, suc, _+_, _-_, _≤_, _<_}
+use native.Mathlib.Omega.{arith}
+use mathlib.Core.Path.{_≡_, refl, sym, ap, _∙_}
+use mathlib.Core.Option.{some}
+use mathlib.Core.List.{List, [], _∷_, _++_, append-assoc, append-nil}
+use lib.ListN.{length, getD, take, drop, set, replicate, getElem?, length-append, length-set, List·getD-eq-default}
+use lib.Seq.{take-all, drop-at, set-append-left}
+use Rattle.calculus.specs.Syntax.{State}
+use Rattle.semantics.specs.Definitions.Basics.{padded, replaceAt}
+use mathlib.Core.List.{flatten}
+use Rattle.semantics.specs.Definitions.Terms.{Expression, Term}
+use Rattle.semantics.specs.Definitions.Configuration.{Tree, Component, transaction, Configuration, branchesOf}
+use Rattle.semantics.specs.Definitions.Stored.{hallBytes, treeBytes, componentBytes, bytesOf, TreeOk, ComponentOk, WellFormed}
+use Rattle.semantics.specs.Checks.AcceptedTables.{GoodTable}
+use Rattle.semantics.proofs.Lists.{all-at}
+use Rattle.semantics.proofs.Trees.{length-padded, padded-of}
+use Rattle.semantics.proofs.RoundTrip.{stored-fits}
+use Rattle.buffer.specs.Splice.{written, spliced, Room}
+use Rattle.buffer.proofs.Spliced.{getD-padded, spliced-length, spliced-mid}
+use Rattle.stored.specs.declared.Place.the-variants.{At, Nowhere}
+use Rattle.stored.specs.Layout.{transactionKind, channels, hallBytes, transactionHead}
+use Rattle.stored.specs.Nodes.{nodeStart, treeEnd}
+use Rattle.storedlaws.specs.Positions.{allBytes, usedOf, startOf, Fits, BySplice, Context, plug, before, behind, node, beyond, nodeOf}
+use Rattle.storedlaws.proofs.Cursors.{over}
+use Rattle.storedlaws.proofs.Nodes.{tree-ends, node-starts, node-missing, node-of, plug-bytes, plug-ok, plug-branches}
+
+-- ---- lists of components
+
+pub all-bytes-append : (cs ds : List Component) → allBytes (cs ++ ds) ≡ allBytes cs ++ allBytes ds
+unfolding allBytes flatten
+all-bytes-append [] ds = refl
+all-bytes-append (c ∷ cs) ds = rw (all-bytes-append cs ds) (sym (append-assoc (componentBytes c) _ _))
+
+-- an entry between what stands before it and behind it
+entry-split : (cs : List Component) (p : ℕ) (c : Component) → getElem? cs p ≡ some c → cs ≡ take p cs ++ (c ∷ drop (suc p) cs)
+entry-split [] p c e = let z : _≡_ {A = ℕ} 0 1 = cc in absurd (omega arith)
+entry-split (x ∷ cs) zero c e = let z : x ≡ c = cc in rw z
+entry-split (x ∷ cs) (suc p) c e = ap (_∷_ x) (entry-split cs p c e)
+
+replace-split : (cs : List Component) (p : ℕ) (c : Component) (ds : List Component) → getElem? cs p ≡ some c →
+    replaceAt p ds cs ≡ take p cs ++ (ds ++ drop (suc p) cs)
+unfolding replaceAt
+replace-split [] p c ds e = let z : _≡_ {A = ℕ} 0 1 = cc in absurd (omega arith)
+replace-split (x ∷ cs) zero c ds e = refl
+replace-split (x ∷ cs) (suc p) c ds e = ap (_∷_ x) (replace-split cs p c ds e)
+
+entry-bytes : (cs : List Component) (p : ℕ) (c : Component) → getElem? cs p ≡ some c →
+    allBytes cs ≡ allBytes (take p cs) ++ (componentBytes c ++ allBytes (drop (suc p) cs))
+unfolding allBytes flatten
+entry-bytes cs p c e = ap allBytes (entry-split cs p c e) ∙ all-bytes-append (take p cs) (c ∷ drop (suc p) cs)
+
+replace-bytes : (cs : List Component) (p : ℕ) (c : Component) (ds : List Component) → getElem? cs p ≡ some c →
+    allBytes (replaceAt p ds cs) ≡ allBytes (take p cs) ++ (allBytes ds ++ allBytes (drop (suc p) cs))
+replace-bytes cs p c ds e =
+    ap allBytes (replace-split cs p c ds e) ∙ all-bytes-append (take p cs) (ds ++ drop (suc p) cs) ∙ ap (λ x. allBytes (take p cs) ++ x) (all-bytes-append ds (drop (suc p) cs))
+
+-- ---- the bytes of a configuration
+
+-- a well-formed configuration fits
+pub well-formed-fits : (ts : List Term) (h : Configuration) → GoodTable ts → WellFormed ts h → Fits (h .components)
+unfolding usedOf allBytes
+well-formed-fits ts h g w =
+    let l = length-append (h .counts) (allBytes (h .components)) in
+    let m = w .channelCounts .0 in
+    let f = stored-fits ts h g w .0 in omega arith
+
+module _ (h : Configuration) (sixteen : length (h .counts) ≡ channels) where
+  -- counts and components
+  abbrev own : List ℕ
+  own = h .counts ++ allBytes (h .components)
+
+  -- the zeros behind them
+  abbrev pub zeros-behind : List ℕ
+  zeros-behind = replicate (hallBytes - usedOf (h .components)) 0
+
+  own-length : length own ≡ usedOf (h .components)
+  unfolding usedOf
+  own-length = length-append (h .counts) (allBytes (h .components)) ∙ omega arith
+
+  -- what is used, and zeros
+  used-split : bytesOf h ≡ own ++ zeros-behind
+  unfolding bytesOf padded allBytes
+  used-split = ap (λ n. own ++ replicate (hallBytes - n) 0) own-length
+
+  -- bytes that are what is used with zeros behind are a configuration's bytes
+  stored-as : (n : ℕ) (bs : List ℕ) → bs ≡ own ++ replicate n 0 → length bs ≡ hallBytes → bytesOf h ≡ bs
+  unfolding bytesOf allBytes
+  stored-as n bs e l = padded-of hallBytes own n bs e l
+
+  pub bytes-length : Fits (h .components) → length (bytesOf h) ≡ hallBytes
+  unfolding bytesOf allBytes
+  bytes-length fits = length-padded hallBytes own (rw own-length fits)
+
+  -- nothing but zeros behind what is used
+  pub bytes-clear : (i : ℕ) → usedOf (h .components) ≤ i → getD (bytesOf h) i 0 ≡ 0
+  bytes-clear i l =
+      rw used-split (getD-padded own (hallBytes - usedOf (h .components)) i ∙ List·getD-eq-default own 0 (rw own-length l))
+
+  -- the bytes from the first component on
+  pub components-cursor : drop channels (bytesOf h) ≡ allBytes (h .components) ++ zeros-behind
+  components-cursor = rw (used-split, append-assoc) (drop-at (h .counts) _ 16 sixteen)
+
+  module _ (p : ℕ) where
+    -- the bytes from component number p on
+    pub component-cursor : (c : Component) → getElem? (h .components) p ≡ some c →
+        drop (startOf (h .components) p) (bytesOf h) ≡ componentBytes c ++ (allBytes (drop (suc p) (h .components)) ++ zeros-behind)
+    unfolding startOf usedOf
+    component-cursor c e =
+        over (bytesOf h) 16 (allBytes (take p (h .components))) _ (components-cursor ∙ rw (entry-bytes (h .components) p c e) (simp append-assoc))
+
+    module _ (n : ℕ) (M : Expression) (σ : State) (t : Tree) (e : getElem? (h .components) p ≡ some (transaction n M σ t)) (snapshot : length σ ≡ channels) where
+      -- where its nodes begin
+      abbrev pub tree : ℕ
+      tree = startOf (h .components) p + transactionHead
+
+      pub nodes-cursor : drop tree (bytesOf h) ≡ treeBytes t ++ (allBytes (drop (suc p) (h .components)) ++ zeros-behind)
+      unfolding componentBytes
+      nodes-cursor =
+          let c = component-cursor (transaction n M σ t) e in
+          let z : length (21 ∷ n ∷ σ) ≡ 18 = omega arith in
+          rw z at (over (bytesOf h) (startOf (h .components) p) (21 ∷ n ∷ σ) _ (c ∙ ap (λ x. 21 ∷ n ∷ x) (append-assoc σ (treeBytes t) _)))
+
+      -- the bytes from a node of a transaction on
+      pub node-cursor : (k : ℕ) (x : Context) (u : Tree) → nodeOf t k ≡ node x u →
+          drop (tree + length (before x)) (bytesOf h) ≡ treeBytes u ++ (behind x ++ (allBytes (drop (suc p) (h .components)) ++ zeros-behind))
+      node-cursor k x u f = over (bytesOf h) tree (before x) _ (nodes-cursor ∙ rw (node-of t k x u f, plug-bytes) (simp append-assoc))
+
+-- ---- what the walks find
+
+module _ (ts : List Term) (h : Configuration) (w : WellFormed ts h) (p n : ℕ) (M : Expression) (σ : State) (t : Tree)
+    (e : getElem? (h .components) p ≡ some (transaction n M σ t)) where
+  in-order : ComponentOk ts (transaction n M σ t)
+  in-order = all-at (ComponentOk ts) (h .components) p (transaction n M σ t) (w .each) e
+
+  -- node number k of a transaction begins where the bytes before it end, and the subtree there ends where its own do
+  pub hall-node : (k : ℕ) (x : Context) (u : Tree) → nodeOf t k ≡ node x u →
+      (nodeStart (bytesOf h) (startOf (h .components) p + transactionHead) k ≡ At (startOf (h .components) p + transactionHead + length (before x)))
+      × (treeEnd (bytesOf h) (startOf (h .components) p + transactionHead + length (before x))
+      ≡ startOf (h .components) p + transactionHead + length (before x) + length (treeBytes u))
+  unfolding ComponentOk
+  hall-node k x u f =
+      let ok = in-order in
+      let r = node-of t k x u f in
+      let b = plug-branches x u in
+      let o : TreeOk ts u = plug-ok ts x u (rw r at (ok .2)) in
+      let m : branchesOf (plug x u) ≤ 8 = rw r at (ok .3) in (
+        node-starts ts t (bytesOf h) _ _ (ok .2) (nodes-cursor h (w .channelCounts .0) p n M σ t e (ok .1 .0)) k x u f,
+        tree-ends ts u (bytesOf h) _ _ o (node-cursor h (w .channelCounts .0) p n M σ t e (ok .1 .0) k x u f) (omega arith),
+      )
+
+  pub hall-no-node : (k j : ℕ) → nodeOf t k ≡ beyond j → nodeStart (bytesOf h) (startOf (h .components) p + transactionHead) k ≡ Nowhere
+  unfolding ComponentOk
+  hall-no-node k j f = node-missing ts t (bytesOf h) _ _ (in-order .2) (nodes-cursor h (w .channelCounts .0) p n M σ t e (in-order .1 .0)) k j f
+
+-- ---- the links
+
+-- two configurations that differ in one part of their bytes
+by-splice : (h k : Configuration) (x y z v : List ℕ) (a b : ℕ) → length (h .counts) ≡ channels → length (k .counts) ≡ channels →
+    Fits (h .components) → Fits (k .components) → h .counts ++ allBytes (h .components) ≡ x ++ (y ++ z) →
+    k .counts ++ allBytes (k .components) ≡ x ++ (v ++ z) → length x ≡ a → a + length y ≡ b → BySplice h k a b v
+by-splice h k x y z v a b sh sk fh fk eh ek la lb =
+    let lh : length (h .counts ++ allBytes (h .components)) ≡ length x + (length y + length z) = rw eh (simp length-append) in
+    let lk : length (k .counts ++ allBytes (k .components)) ≡ length x + (length v + length z) = rw ek (simp length-append) in
+    let oh = own-length h sh in
+    let ok = own-length k sk in
+    let n = hallBytes - usedOf (h .components) in
+    let lb′ = bytes-length h sh fh in
+    let parts : bytesOf h ≡ x ++ (y ++ (z ++ replicate n 0)) = used-split h sh ∙ rw eh (simp append-assoc) in
+    let mid = spliced-mid (bytesOf h) x y z n a b v parts la lb (omega arith) in
+    let m = length (bytesOf h) - (a + length v + length z) in
+    let ends : spliced (bytesOf h) a b v ≡ (k .counts ++ allBytes (k .components)) ++ replicate m 0 = mid ∙ rw ek (simp append-assoc) in
+    record {
+      ordered = omega arith;
+      room = record { ordered = omega arith; held = omega arith; fits = omega arith; clear = bytes-clear h sh };
+      bytes = sym (stored-as k sk m (spliced (bytesOf h) a b v) ends (spliced-length (bytesOf h) a b v ∙ lb′));
+      used = omega arith;
+    }
+
+-- component number p gives way to others
+pub component-by-splice : (σ : State) (cs : List Component) (p : ℕ) (c : Component) (ds : List Component) → length σ ≡ channels → getElem? cs p ≡ some c →
+    Fits cs → Fits (replaceAt p ds cs) →
+    BySplice (record { counts = σ; components = cs }) (record { counts = σ; components = replaceAt p ds cs }) (startOf cs p)
+    (startOf cs p + length (componentBytes c)) (allBytes ds)
+unfolding startOf usedOf
+component-by-splice σ cs p c ds l e fh fk =
+    let x = allBytes (take p cs) in
+    let z = allBytes (drop (suc p) cs) in
+    let m = length-append σ x in
+    by-splice (record { counts = σ; components = cs }) (record { counts = σ; components = replaceAt p ds cs }) (σ ++ x) (componentBytes c) z (allBytes ds)
+    (16 + length x) (16 + length x + length (componentBytes c)) l l fh fk
+    (rw (entry-bytes cs p c e) (sym (append-assoc σ x (componentBytes c ++ z))))
+    (rw (replace-bytes cs p c ds e) (sym (append-assoc σ x (allBytes ds ++ z))))
+    (omega arith) refl
+
+-- a transaction's bytes before a node, there, and behind it
+transaction-bytes : (n : ℕ) (M : Expression) (s : State) (x : Context) (u : Tree) →
+    componentBytes (transaction n M s (plug x u)) ≡ (transactionKind ∷ n ∷ (s ++ before x)) ++ (treeBytes u ++ behind x)
+unfolding componentBytes
+transaction-bytes n M s x u = ap (λ l. 21 ∷ n ∷ l) (rw (plug-bytes x u) (sym (append-assoc s (before x) (treeBytes u ++ behind x))))
+
+regroup : (a b c d e f : List ℕ) → a ++ (b ++ ((c ++ (d ++ e)) ++ f)) ≡ (a ++ (b ++ c)) ++ (d ++ (e ++ f))
+regroup a b c d e f = simp append-assoc
+
+pub one-bytes : (c : Component) → allBytes (c ∷ []) ≡ componentBytes c
+unfolding allBytes flatten
+one-bytes c = append-nil (componentBytes c)
+
+-- node number k of the transaction at p gives way to another tree
+pub node-by-splice : (σ : State) (cs : List Component) (p n : ℕ) (M : Expression) (s : State) (t : Tree) (k : ℕ) (x : Context) (u v : Tree) → length σ ≡ channels →
+    length s ≡ channels → getElem? cs p ≡ some (transaction n M s t) → nodeOf t k ≡ node x u → Fits cs →
+    Fits (replaceAt p (transaction n M s (plug x v) ∷ []) cs) →
+    BySplice (record { counts = σ; components = cs }) (record { counts = σ; components = replaceAt p (transaction n M s (plug x v) ∷ []) cs })
+    (startOf cs p + transactionHead + length (before x)) (startOf cs p + transactionHead + length (before x) + length (treeBytes u)) (treeBytes v)
+unfolding startOf usedOf
+node-by-splice σ cs p n M s t k x u v l ls e f fh fk =
+    let a = allBytes (take p cs) in
+    let z = allBytes (drop (suc p) cs) in
+    let own : List ℕ = 21 ∷ n ∷ (s ++ before x) in
+    let head = σ ++ (a ++ own) in
+    let m : length head ≡ 16 + length a + 18 + length (before x) = simp length-append (omega arith) in
+    let r = node-of t k x u f in
+    by-splice (record { counts = σ; components = cs }) (record { counts = σ; components = replaceAt p (transaction n M s (plug x v) ∷ []) cs })
+    head (treeBytes u) (behind x ++ z) (treeBytes v) (16 + length a + 18 + length (before x)) (16 + length a + 18 + length (before x) + length (treeBytes u)) l l fh fk
+    (ap (λ y. σ ++ y) (entry-bytes cs p (transaction n M s t) e)
+    ∙ ap (λ y. σ ++ (a ++ (y ++ z))) (ap (λ y. componentBytes (transaction n M s y)) r ∙ transaction-bytes n M s x u)
+    ∙ regroup σ a own (treeBytes u) (behind x) z)
+    (ap (λ y. σ ++ y) (replace-bytes cs p (transaction n M s t) (transaction n M s (plug x v) ∷ []) e)
+    ∙ ap (λ y. σ ++ (a ++ (y ++ z))) (one-bytes (transaction n M s (plug x v)) ∙ transaction-bytes n M s x v)
+    ∙ regroup σ a own (treeBytes v) (behind x) z)
+    m refl
+
+-- what a call of `splice` requires on the bytes of h, and what it leaves and answers
+pub splice-can : (h k : Configuration) (s v : List ℕ) (a b n : ℕ) → BySplice h k a b v → s ≡ bytesOf h → n ≡ usedOf (h .components) →
+    (a ≤ b) × Room s b (a + length v) n
+splice-can h k s v a b n x e f = rw (e, f) (x .ordered, x .room)
+
+pub splice-does : (h k : Configuration) (s t v : List ℕ) (a b : ℕ) → BySplice h k a b v → s ≡ bytesOf h → t ≡ spliced s a b v → t ≡ bytesOf k
+splice-does h k s t v a b x e f = f ∙ rw e (x .bytes)
+
+pub splice-uses : (h k : Configuration) (v : List ℕ) (a b n r : ℕ) → BySplice h k a b v → n ≡ usedOf (h .components) → r ≡ a + length v + (n - b) → r ≡ usedOf (k .components)
+splice-uses h k v a b n r x e f = f ∙ rw e (x .used)
+
+-- ---- the counts
+
+module _ (cs : List Component) (σ : State) (sixteen : length σ ≡ channels) where
+  -- a count changes where it stands
+  pub count-set : (a n : ℕ) → a < channels →
+      bytesOf (record { counts = set σ a n; components = cs }) ≡ set (bytesOf (record { counts = σ; components = cs })) a n
+  count-set a n h =
+      let z : List ℕ = replicate (hallBytes - usedOf cs) 0 in
+      let g : set ((σ ++ allBytes cs) ++ z) a n ≡ (set σ a n ++ allBytes cs) ++ z =
+      rw (append-assoc σ (allBytes cs) z, append-assoc (set σ a n) (allBytes cs) z) (set-append-left σ (allBytes cs ++ z) a n (omega arith)) in
+      used-split (record { counts = set σ a n; components = cs }) (length-set σ a n ∙ sixteen) ∙ rw (used-split (record { counts = σ; components = cs }) sixteen) (sym g)
+
+  -- all counts written anew
+  pub counts-written : (τ : State) → length τ ≡ channels →
+      bytesOf (record { counts = τ; components = cs }) ≡ written (bytesOf (record { counts = σ; components = cs })) 0 τ channels
+  unfolding written
+  counts-written τ k =
+      let d = components-cursor (record { counts = σ; components = cs }) sixteen in
+      used-split (record { counts = τ; components = cs }) k ∙ rw (append-assoc, take-all 16 τ (omega arith)) (ap (λ x. τ ++ x) (sym d))

@@ -1,0 +1,14 @@
+-- `table::too_many_terms` meets its contract: at each return the law of its case.
+-- Assumes nothing.
+use Rattle.table.proofs.RecordTests.{term-room, other-room}
+use Rattle.table.proofs.too_many_terms.Statement.{statement}
+use Rattle.table.proofs.too_many_terms.Tie as tie
+
+returns : tie.Need-returns
+returns c = search term-room
+
+returns-2 : tie.Need-returns-2
+returns-2 c = search other-room
+
+pub too-many-terms-spec : {M : Type 1} → statement M
+too-many-terms-spec = tie.close (tie.spec returns returns-2)

@@ -1,0 +1,6 @@
+//! The engine against the second implementation: every answer and every byte.
+//! Where the scope alone settles the answer, it is written down too.
+
+mod common;
+mod halls;
+mod tables;
