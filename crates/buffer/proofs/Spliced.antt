@@ -1,4 +1,5 @@
--- Laws of `spliced`: what stands at each offset, the three ways of moving a tail, and what a splice makes of a list in three parts.
+-- Laws of `spliced`: what stands at each offset, the three ways of moving a tail, and what a splice makes of a list
+-- in three parts.
 -- Assumes nothing.
 use Prim.Native.Nat.{ℕ, zero, suc, _+_, _-_, _≤_, _<_}
 use native.Mathlib.Omega.{arith}

@@ -1,4 +1,5 @@
--- Laws of `written`: what stands at each offset, a loop that writes element by element, and parts written one behind another.
+-- Laws of `written`: what stands at each offset, a loop that writes element by element, and parts written one behind
+-- another.
 -- Assumes nothing.
 use Prim.Native.Nat.{ℕ, zero, suc, _+_, _-_, _≤_, _<_}
 use native.Mathlib.Omega.{arith}

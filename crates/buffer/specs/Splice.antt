@@ -14,8 +14,8 @@ written s at v n = paste s at v n
 unfoldable pub fit : ℕ → List ℕ → List ℕ
 fit n l = take n (l ++ replicate n 0)
 
--- v in the place of the elements a..b, in a list of the same length: what is pushed out at the end is gone, what is missing
--- there is zero
+-- v in the place of the elements a..b, in a list of the same length: what is pushed out at the end is gone, what is
+-- missing there is zero
 unfoldable pub spliced : List ℕ → ℕ → ℕ → List ℕ → List ℕ
 unfolding fit
 spliced s a b v = fit (length s) (take a s ++ (v ++ drop b s))

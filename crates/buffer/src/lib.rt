@@ -1,6 +1,6 @@
 // Bytes of a slice: read where there may be none, cleared, written, moved, and a part replaced by another that may be
-// longer or shorter. Every move of a stored hall is one `splice`. No slice is copied whole; plain loops over bytes, which
-// the compiler makes wide.
+// longer or shorter. Every move of a stored hall is one `splice`. No slice is copied whole; plain loops over bytes,
+// which the compiler makes wide.
 ghost use mathlib.Core.Path.{_≡_};
 ghost use mathlib.Core.List.{[]};
 ghost use Prim.Native.Nat.{_+_, _-_, _≤_};
@@ -87,8 +87,8 @@ fn shift(s: &mut [u8], b: usize, e: usize, used: usize)
     }
 }
 
-// The bytes a..b give way to `new`; the bytes b..used follow it, and zeros follow those. Where `new` is as long as what it
-// replaces, the rest is not touched. The answer is how many bytes are used now.
+// The bytes a..b give way to `new`; the bytes b..used follow it, and zeros follow those. Where `new` is as long as
+// what it replaces, the rest is not touched. The answer is how many bytes are used now.
 pub fn splice(s: &mut [u8], a: usize, b: usize, used: usize, new: &[u8]) -> usize
     requires { ⌜ (a ≤ b) × Room (now s) b (a + length (now new)) used ⌝ }
     ensures { λ r. ⌜ r ≡ a + length (now (new .entry)) + (used - b) ⌝ }

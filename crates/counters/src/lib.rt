@@ -1,12 +1,37 @@
 // The counters (document 01's tally): how many transactions committed, failed at their commit, and ended in retry.
 ghost use mathlib.Core.Path.{_≡_};
-ghost use Rattle.semantics.specs.Definitions.Run.{freshCounters};
-ghost use Rattle.counters.specs.Counted.{countersOf};
+ghost use Rattle.calculus.specs.Reduction.{Rule};
+ghost use Rattle.semantics.specs.Definitions.Moves.{ruleNumber};
+ghost use Rattle.semantics.specs.Definitions.Run.{freshCounters, counted};
+ghost use Rattle.counters.specs.Counted.{countersOf, raisedBy};
+
+// The rules that are counted: ATOK, ATFAIL, ATRE.
+pub const RULE_COMMITS: u8 = 7;
+
+pub const RULE_FAILS: u8 = 6;
+
+pub const RULE_RETRIES: u8 = 5;
+
+// A counter that has come here stays.
+pub const COUNTER_TOP: u32 = 4294967295;
 
 pub struct Counters {
     pub commits: u32,
     pub failed: u32,
     pub retries: u32,
+}
+
+// A counter after a move by a rule: one more where it is the rule that this counter counts.
+fn raised(counts: u8, rule: u8, counter: u32) -> u32
+    ensures { λ r. ⌜ r ≡ raisedBy counts rule counter ⌝ }
+{
+    if rule != counts {
+        return counter;
+    }
+    if counter == COUNTER_TOP {
+        return COUNTER_TOP;
+    }
+    counter + 1
 }
 
 impl Counters {
@@ -18,6 +43,17 @@ impl Counters {
             commits: 0,
             failed: 0,
             retries: 0,
+        }
+    }
+
+    // The tally after a move by the rule of this number.
+    pub fn count(self, rule: u8) -> Self
+        ensures { λ r. ⌜ ((done : Rule) → ruleNumber done ≡ rule → countersOf r ≡ counted done (countersOf self)) ⌝ }
+    {
+        Counters {
+            commits: raised(RULE_COMMITS, rule, self.commits),
+            failed: raised(RULE_FAILS, rule, self.failed),
+            retries: raised(RULE_RETRIES, rule, self.retries),
         }
     }
 }

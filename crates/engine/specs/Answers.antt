@@ -35,18 +35,19 @@ openingOf a hall = record { answer = openAnswerOf a; hall = hall }
 
 -- ---- checking
 
--- an admitted hall: how many components it has, how many bytes it uses, where each component begins; or the refusal's number, told at
--- place 0
+-- an admitted hall: how many components it has, how many bytes it uses, where each component begins; or the refusal's
+-- number, told at place 0
 abbrev pub AdmissionIs : checks.Admission → List ℕ → Admission → Type 0
-AdmissionIs (admission.Admitted used components) starts (admitted t h) = FormIs (WellFormed used components) starts (some h)
-AdmissionIs (admission.Admitted used components) starts (notAdmitted n p) = ⊥
+AdmissionIs (admission.Admitted u c) starts (admitted t h) = FormIs (WellFormed u c) starts (some h)
+AdmissionIs (admission.Admitted u c) starts (notAdmitted n p) = ⊥
 AdmissionIs (admission.Refused m) starts (admitted t h) = ⊥
 AdmissionIs (admission.Refused m) starts (notAdmitted n p) = (m ≡ n) × (p ≡ 0)
 
 -- the tests on a hall behind any table whose n terms d decodes
 pub record HallAdmitted (d : List ℕ) (n : ℕ) (hall starts : List ℕ) (r : checks.Admission) : Type 0 where
   pub sized : length starts ≡ indexSize
-  pub found : (t : Table) → Decoded (t .terms) d → length (t .terms) ≡ n → AdmissionIs r starts (sizeTested t hall (eqb (length hall) hallBytes))
+  pub found : (t : Table) → Decoded (t .terms) d → length (t .terms) ≡ n →
+      AdmissionIs r starts (sizeTested t hall (eqb (length hall) hallBytes))
 
 -- the verdict that each case is
 unfoldable pub hallVerdictOf : HallVerdict → Verdict

@@ -9,6 +9,7 @@ use wellformed::Form;
 ghost use mathlib.Core.Path.{_≡_};
 ghost use Prim.Native.Nat.{_≤_};
 ghost use lib.ListN.{length};
+ghost use Rattle.semantics.specs.Definitions.Layout.{maxTerms};
 ghost use Rattle.stored.specs.Layout.{indexSize};
 ghost use Rattle.semantics.specs.Definitions.Calls.{checkHall};
 ghost use Rattle.engine.specs.Answers.{HallAdmitted, hallVerdictOf};
@@ -25,15 +26,15 @@ pub enum Admission {
     Refused(u8),
 }
 
-// What every call on a stored hall tests once its table is decoded. Of an admitted hall, `starts` says where each component begins
-// and where the last one ends.
+// What every call on a stored hall tests once its table is decoded. Of an admitted hall, `starts` says where each
+// component begins and where the last one ends.
 pub fn admit_hall(
     decoded: &[u8; DECODED],
     terms: usize,
     hall: &[u8],
     starts: &mut [usize; INDEX_SIZE],
 ) -> Admission
-    requires { ⌜ (terms ≤ 200) × (length (now starts) ≡ indexSize) ⌝ }
+    requires { ⌜ (terms ≤ maxTerms) × (length (now starts) ≡ indexSize) ⌝ }
     ensures { λ r. ⌜ HallAdmitted (now (decoded .entry)) terms (now (hall .entry)) (now (starts .exit)) r ⌝ }
 {
     if hall.len() != HALL_SIZE {
@@ -50,8 +51,8 @@ pub fn admit_hall(
     Admission::Admitted { used, components }
 }
 
-// Checks a stored hall: refused by 1 to 9 with the table's place, by 10 where the hall has another length, by 11 where it is not
-// well formed.
+// Checks a stored hall: refused by 1 to 9 with the table's place, by 10 where the hall has another length, by 11
+// where it is not well formed.
 pub fn check_hall(table: &[u8], hall: &[u8]) -> HallVerdict
     ensures { λ v. ⌜ hallVerdictOf v ≡ checkHall (now (table .entry)) (now (hall .entry)) ⌝ }
 {

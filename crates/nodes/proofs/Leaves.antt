@@ -42,26 +42,31 @@ module _ (d : List ℕ) (n byte : ℕ) where
   unfolding leafExpression branches pathLength
   retry-remains e = record { found = λ ts x c. rw (eq-eqb byte 255 e) (refl, refl) }
 
-  module _ (i : ℕ) (e : i ≡ byte) (other : byte ≡ noRecord → ⊥) where
-    pub no-term : n ≤ i → RemainingRead d n byte Unknown
-    no-term h = record {
+  module _ (i : ℕ) (e : i ≡ byte) where
+    pub no-term : n ≤ i → (byte ≡ noRecord → ⊥) → RemainingRead d n byte Unknown
+    no-term h other = record {
       found = λ ts x c. by-term ts byte (RemainingIs Unknown) other (λ q. tt) (λ Q q. tt) (λ M q. let l = found-below ts byte _ q in absurd (omega arith));
     }
 
-    pub no-expression : (k : ℕ) → k ≡ kindAt d i → k < 7 → RemainingRead d n byte Unknown
-    no-expression k q h = record {
-      found = λ ts x c. by-term ts byte (RemainingIs Unknown) other (λ q. tt) (λ Q q. tt)
-          (λ M p. let l = expression-kind byte _ _ _ M (x .records byte _ p) in let m : k ≡ kindAt d byte = rw (← e) q in absurd (omega arith));
-    }
+    -- the byte names a term
+    module _ (few : n ≤ 200) (h : i < n) (k : ℕ) (q : k ≡ kindAt d i) where
+      kind-of-byte : k ≡ kindAt d byte
+      kind-of-byte = rw (← e) q
 
-    pub term-remains : (k b l : ℕ) → k ≡ kindAt d i → 7 ≤ k → b ≡ breadthAt d i → l ≡ lengthAt d i → i < n → RemainingRead d n byte (Measured b l)
-    unfolding breadth termLength
-    term-remains k b l q h p r m = record {
-      found = λ ts x c. by-term ts byte (RemainingIs (Measured b l)) other
-          (λ p. let z = none-past ts byte p in absurd (omega arith))
-          (λ Q p. let z = process-kind byte _ _ _ Q (x .records byte _ p) in let m : k ≡ kindAt d byte = rw (← e) q in absurd (omega arith))
-          (λ M o. let z = x .measures byte _ o in (rw e at p ∙ z .0, rw e at r ∙ z .1));
-    }
+      pub no-expression : k < 7 → RemainingRead d n byte Unknown
+      no-expression m = record {
+        found = λ ts x c. by-term ts byte (RemainingIs Unknown) (λ z. omega arith) (λ p. tt) (λ Q p. tt)
+            (λ M p. let l = expression-kind byte _ _ _ M (x .records byte _ p) in let z = kind-of-byte in absurd (omega arith));
+      }
+
+      pub term-remains : 7 ≤ k → (b l : ℕ) → b ≡ breadthAt d i → l ≡ lengthAt d i → RemainingRead d n byte (Measured b l)
+      unfolding breadth termLength
+      term-remains m b l u v = record {
+        found = λ ts x c. by-term ts byte (RemainingIs (Measured b l)) (λ z. omega arith)
+            (λ p. let z = none-past ts byte p in absurd (omega arith))
+            (λ Q p. let w = process-kind byte _ _ _ Q (x .records byte _ p) in let z = kind-of-byte in absurd (omega arith))
+            (λ M o. let z = x .measures byte _ o in (rw e at u ∙ z .0, rw e at v ∙ z .1));
+      }
 
 -- ---- a leaf
 

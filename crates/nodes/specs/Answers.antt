@@ -13,6 +13,7 @@ use Rattle.semantics.specs.Definitions.Terms.{Expression, Term, branches, pathL
 use Rattle.semantics.specs.Definitions.Configuration.{Tree, branchesOf}
 use Rattle.semantics.specs.Definitions.Stored.{leafExpression, leafFrom}
 use Rattle.terms.specs.Decoded.{Decoded}
+use Rattle.stored.specs.Layout.{leafBody, leafTerm}
 use Rattle.stored.specs.Nodes.{nodeSize}
 use Rattle.storedlaws.specs.Reading.{treesFrom, boundsBehind}
 use Rattle.nodes.specs.declared.Remaining.{Remaining}
@@ -51,9 +52,9 @@ LeafIs (Branches b) none = ⊥
 LeafIs Malformed (some t) = ⊥
 LeafIs Malformed none = Unit {0}
 
--- the leaf at an offset is read from the 18 bytes behind its kind
+-- the leaf at an offset is read from the bytes behind its kind
 pub record LeafRead (d : List ℕ) (n : ℕ) (s : List ℕ) (at : ℕ) (r : NodeTest) : Type 0 where
-  pub found : EachTable d n (λ ts. LeafIs r (leafFrom ts (take 18 (drop (at + 1) s))))
+  pub found : EachTable d n (λ ts. LeafIs r (leafFrom ts (take leafBody (drop (at + leafTerm) s))))
 
 -- ---- a node
 
@@ -62,10 +63,13 @@ abbrev pub NodeInside : List ℕ → ℕ → NodeTest → Type 0
 NodeInside s at (Branches w) = at + nodeSize (getD s at 0) ≤ length s
 NodeInside s at Malformed = Unit {0}
 
--- trees that begin at a node are those that begin behind it, with the node's own branches; without a node there are none
+-- trees that begin at a node are those that begin behind it, with the node's own branches; without a node there are
+-- none
 abbrev pub NodeIs : List ℕ → ℕ → NodeTest → List Term → (f : ℕ) (fs : List ℕ) (b : ℕ) → Type 0
 NodeIs s at (Branches w) ts f fs b =
-    treesFrom (suc f ∷ fs) b ts (drop at s) ≡ treesFrom (boundsBehind (getD s at 0) f fs) (b + w) ts (drop (at + nodeSize (getD s at 0)) s)
+    let kind = getD s at 0 in
+    let next = at + nodeSize kind in
+    treesFrom (suc f ∷ fs) b ts (drop at s) ≡ treesFrom (boundsBehind kind f fs) (b + w) ts (drop next s)
 NodeIs s at Malformed ts f fs b = treesFrom (suc f ∷ fs) b ts (drop at s) ≡ none
 
 pub record NodeRead (d : List ℕ) (n : ℕ) (s : List ℕ) (at : ℕ) (r : NodeTest) : Type 0 where

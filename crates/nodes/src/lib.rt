@@ -1,5 +1,5 @@
-// The nodes of a stored transaction (document 01, "The stored hall"): whether the bytes at an offset are a fork or a leaf that a
-// decoded table allows.
+// The nodes of a stored transaction (document 01, "The stored hall"): whether the bytes at an offset are a fork or a
+// leaf that a decoded table allows.
 //
 // The bytes may be anything. No expression is walked: the measures of each term stand in the decoded table.
 use buffer::wide;
@@ -18,12 +18,13 @@ use terms::larger;
 ghost use mathlib.Core.Path.{_≡_};
 ghost use Prim.Native.Nat.{_+_, _≤_};
 ghost use lib.ListN.{length, take, drop};
+ghost use Rattle.semantics.specs.Definitions.Layout.{maxTerms};
 ghost use Rattle.stored.specs.Layout.{logSize, leafSize};
 ghost use Rattle.storedlaws.specs.Reading.{isLog};
 ghost use Rattle.nodes.specs.Answers.{excessOf, RemainingRead, LeafRead, NodeRead};
 
-// What the bytes of a log are below, from the place on where as many action limits follow as it has actions. Behind the log all is
-// zero.
+// What the bytes of a log are below, from the place on where as many action limits follow as it has actions. Behind
+// the log all is zero.
 const LIMITS: [u8; 32] = [
     ACTIONS,
     ACTIONS,
@@ -73,26 +74,26 @@ pub enum NodeTest {
 
 // The measures of the expression that a leaf's byte names, of a table of n terms.
 pub fn remaining_at(decoded: &[u8; DECODED], n: usize, byte: u8) -> Remaining
-    requires { ⌜ n ≤ 200 ⌝ }
+    requires { ⌜ n ≤ maxTerms ⌝ }
     ensures { λ r. ⌜ RemainingRead (now (decoded .entry)) n byte r ⌝ }
 {
+    let i = wide(byte);
+    if i < n {
+        if terms::kind_of(decoded, i) < END {
+            return Remaining::Unknown;
+        }
+        return Remaining::Measured {
+            branches: terms::breadth_of(decoded, i),
+            length: terms::length_of(decoded, i),
+        };
+    }
     if byte == NO_TERM {
         return Remaining::Measured {
             branches: 1,
             length: 0,
         };
     }
-    let i = wide(byte);
-    if n <= i {
-        return Remaining::Unknown;
-    }
-    if terms::kind_of(decoded, i) < END {
-        return Remaining::Unknown;
-    }
-    Remaining::Measured {
-        branches: terms::breadth_of(decoded, i),
-        length: terms::length_of(decoded, i),
-    }
+    Remaining::Unknown
 }
 
 // 0 for a byte that is below its limit, and 1 for another.
@@ -102,8 +103,8 @@ pub fn excess(byte: u8, limit: u8) -> u8
     if byte < limit { 0 } else { 1 }
 }
 
-// Whether the 16 bytes at an offset are a log of `size` actions, with zeros behind them. Each byte is held against its limit with no
-// way out of the loop, so that all are compared at once.
+// Whether the 16 bytes at an offset are a log of `size` actions, with zeros behind them. Each byte is held against
+// its limit with no way out of the loop, so that all are compared at once.
 pub fn log_at(s: &[u8], at: usize, size: usize) -> bool
     requires { ⌜ (size ≤ logSize) × (at + logSize ≤ length (now s)) ⌝ }
     ensures { λ r. ⌜ r ≡ isLog size (take logSize (drop at (now (s .entry)))) ⌝ }
@@ -121,7 +122,7 @@ pub fn log_at(s: &[u8], at: usize, size: usize) -> bool
 
 // The leaf whose 19 bytes begin at an offset.
 pub fn leaf_at(decoded: &[u8; DECODED], n: usize, s: &[u8], at: usize) -> NodeTest
-    requires { ⌜ (n ≤ 200) × (at + leafSize ≤ length (now s)) ⌝ }
+    requires { ⌜ (n ≤ maxTerms) × (at + leafSize ≤ length (now s)) ⌝ }
     ensures { λ r. ⌜ LeafRead (now (decoded .entry)) n (now (s .entry)) at r ⌝ }
 {
     let Remaining::Measured { branches, length } = remaining_at(decoded, n, s[at + LEAF_TERM])
@@ -138,23 +139,18 @@ pub fn leaf_at(decoded: &[u8; DECODED], n: usize, s: &[u8], at: usize) -> NodeTe
     NodeTest::Malformed
 }
 
-// The node that begins at an offset.
+// The node that begins at an offset. A tree has a leaf, so that none begins where fewer bytes are left than a leaf
+// takes.
 pub fn node_at(decoded: &[u8; DECODED], n: usize, s: &[u8], at: usize) -> NodeTest
-    requires { ⌜ n ≤ 200 ⌝ }
+    requires { ⌜ (n ≤ maxTerms) × (at ≤ length (now s)) ⌝ }
     ensures { λ r. ⌜ NodeRead (now (decoded .entry)) n (now (s .entry)) at r ⌝ }
 {
-    if s.len() <= at {
-        return NodeTest::Malformed;
-    }
-    let kind = s[at];
-    if kind == KIND_FORK {
-        return NodeTest::Branches(0);
-    }
-    if kind != KIND_LEAF {
-        return NodeTest::Malformed;
-    }
     if s.len() < at + LEAF_SIZE {
         return NodeTest::Malformed;
     }
-    leaf_at(decoded, n, s, at)
+    match s[at] {
+        KIND_FORK => NodeTest::Branches(0),
+        KIND_LEAF => leaf_at(decoded, n, s, at),
+        _ => NodeTest::Malformed,
+    }
 }

@@ -1,5 +1,5 @@
-// Opening a decoded table in a lent hall (document 01, "The stored hall"): the counts, the components (stations) of the start
-// term, and zeros to the end.
+// Opening a decoded table in a lent hall (document 01, "The stored hall"): the counts, the components (stations) of
+// the start term, and zeros to the end.
 use buffer::wide;
 use records::NIL;
 use records::PAR;
@@ -30,8 +30,8 @@ fn write_idle(hall: &mut [u8], at: usize, kind: u8, body: u8) -> usize
     at + IDLE_SIZE
 }
 
-// The components of the process at a term number, from an offset on, the left side's first: the answer is the offset behind
-// them. A side's number is smaller, and a process is at most 64 wide, so the calls are few and not deep.
+// The components of the process at a term number, from an offset on, the left side's first: the answer is the offset
+// behind them. A side's number is smaller, and a process is at most 64 wide, so the calls are few and not deep.
 pub fn write_components(decoded: &[u8; DECODED], term: usize, hall: &mut [u8], at: usize) -> usize
     requires { ⌜ ComponentsFit (now decoded) term (now hall) at ⌝ }
     ensures { λ r. ⌜ ComponentsWritten (now (decoded .entry)) term (now (hall .entry)) at (now (hall .exit)) r ⌝ }
@@ -49,7 +49,8 @@ pub fn write_components(decoded: &[u8; DECODED], term: usize, hall: &mut [u8], a
     }
 }
 
-// The opening of a decoded table, whatever stood in the hall before. Only what the counts and the components leave is cleared.
+// The opening of a decoded table, whatever stood in the hall before. Only what the counts and the components leave is
+// cleared.
 pub fn write_opening(decoded: &[u8; DECODED], start: usize, hall: &mut [u8])
     requires { ⌜ AProcess (now decoded) start ⌝ }
     requires { ⌜ length (now hall) ≡ hallBytes ⌝ }

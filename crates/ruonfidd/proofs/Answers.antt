@@ -1,4 +1,4 @@
--- The cases of the calls' answers, told as a number and a place.
+-- The cases of the calls' answers, as a number and a place.
 -- Assumes nothing.
 use Prim.Native.Nat.{ℕ}
 use mathlib.Core.Path.{_≡_, refl}
@@ -13,31 +13,31 @@ use Rattle.engine.specs.declared.checks.HallVerdict.the-variants as hall
 use Rattle.engine.specs.declared.opens.OpenAnswer.{OpenAnswer}
 use Rattle.engine.specs.declared.opens.OpenAnswer.the-variants as answer
 use Rattle.engine.specs.Answers.{hallVerdictOf, openAnswerOf, openingOf}
-use Rattle.ruonfidd.specs.Told.{verdict, Told, OpenTold}
+use Rattle.ruonfidd.specs.Answered.{verdict, VerdictAnswered, OpeningAnswered}
 
 module _ (v : Verdict) (a : TableVerdict) (e : verdictOf a ≡ v) (r set : ℕ) where
-  pub accepted-told : a ≡ table.Accepted → Told (verdict 0 0) r set → Told v r set
+  pub accepted-answered : a ≡ table.Accepted → VerdictAnswered (verdict 0 0) r set → VerdictAnswered v r set
   unfolding verdictOf
-  accepted-told h t = rw (← e, h) (record { number = t .number; place = t .place })
+  accepted-answered h t = rw (← e, h) (record { number = t .number; place = t .place })
 
-  pub refused-told : (n p : ℕ) → a ≡ table.Refused n p → Told (verdict n p) r set → Told v r set
+  pub refused-answered : (n p : ℕ) → a ≡ table.Refused n p → VerdictAnswered (verdict n p) r set → VerdictAnswered v r set
   unfolding verdictOf
-  refused-told n p h t = rw (← e, h) t
+  refused-answered n p h t = rw (← e, h) t
 
 module _ (v : Verdict) (a : HallVerdict) (e : hallVerdictOf a ≡ v) (r set : ℕ) where
-  pub well-formed-told : a ≡ hall.WellFormed → Told (verdict 0 0) r set → Told v r set
+  pub well-formed-answered : a ≡ hall.WellFormed → VerdictAnswered (verdict 0 0) r set → VerdictAnswered v r set
   unfolding hallVerdictOf
-  well-formed-told h t = rw (← e, h) (record { number = t .number; place = t .place })
+  well-formed-answered h t = rw (← e, h) (record { number = t .number; place = t .place })
 
-  pub malformed-told : (n p : ℕ) → a ≡ hall.Refused n p → Told (verdict n p) r set → Told v r set
+  pub malformed-answered : (n p : ℕ) → a ≡ hall.Refused n p → VerdictAnswered (verdict n p) r set → VerdictAnswered v r set
   unfolding hallVerdictOf
-  malformed-told n p h t = rw (← e, h) t
+  malformed-answered n p h t = rw (← e, h) t
 
 module _ (o : Opening) (a : OpenAnswer) (bytes : List ℕ) (e : openingOf a bytes ≡ o) (r set : ℕ) where
-  pub opened-told : (c : Counters) → a ≡ answer.Opened c → Told (verdict 0 0) r set → OpenTold o r set bytes
+  pub opened-answered : (c : Counters) → a ≡ answer.Opened c → VerdictAnswered (verdict 0 0) r set → OpeningAnswered o r set bytes
   unfolding openAnswerOf openVerdict
-  opened-told c h t = rw (← e, h) (record { verdict = record { number = t .number; place = t .place }; bytes = refl })
+  opened-answered c h t = rw (← e, h) (record { verdict = record { number = t .number; place = t .place }; bytes = refl })
 
-  pub not-opened-told : (n p : ℕ) → a ≡ answer.Refused n p → Told (verdict n p) r set → OpenTold o r set bytes
+  pub not-opened-answered : (n p : ℕ) → a ≡ answer.Refused n p → VerdictAnswered (verdict n p) r set → OpeningAnswered o r set bytes
   unfolding openAnswerOf openVerdict
-  not-opened-told n p h t = rw (← e, h) (record { verdict = t; bytes = refl })
+  not-opened-answered n p h t = rw (← e, h) (record { verdict = t; bytes = refl })

@@ -11,16 +11,20 @@ use Rattle.semantics.specs.Definitions.Configuration.{Configuration}
 use Rattle.semantics.specs.Definitions.Moves.{Entry, act, inside}
 use Rattle.semantics.specs.Definitions.Run.{RunAnswer, run}
 use Rattle.semantics.specs.Definitions.Calls.{Admission, admitted, notAdmitted, admission, runResult, runAdmitted, runCall}
-use Rattle.semantics.specs.Claims.Correspondence.{Accepts}
 use Rattle.semantics.specs.Checks.Conditions.{HallAccepted, HallNumbers, RefusalNumbers, ChoiceCondition, no-station, no-station-inside, unsettled, no-attempt, no-node, at-rest, in-empty, rep-empty, in-many, rep-many, commit-many, out-full, Stops, at-end, kind-neither, act-short, inside-short, node-short, act-refused, inside-refused, RunStops, RunNumbers, OneReason, RunCallNumbers, RunCallZero}
 use Rattle.semantics.proofs.HallConditions.{accepted-read, hall-numbers, refusal-numbers}
 use Rattle.semantics.proofs.RunConditions.{run-numbers, one-reason}
 
 pub run-call-numbers : RunCallNumbers
-unfolding RunCallNumbers HallNumbers runCall
+unfolding RunCallNumbers HallNumbers RunNumbers runCall runAdmitted runResult
 run-call-numbers table l bs table-bytes hall-bytes =
-    let (turned, admits) = hall-numbers table (l .hall) table-bytes hall-bytes in
-    (λ n p c. ap (runAdmitted l bs) (turned n p .1 c), λ t h c. ap (runAdmitted l bs) (admits t h .1 c))
+    let (turned, admits) = hall-numbers table (l .hall) table-bytes hall-bytes in (
+      λ n p c. ap (runAdmitted l bs) (turned n p .1 c),
+      λ t h c. (
+        run-numbers table t (table-bytes, accepted-read table t (c .0)) h (c .1) (l .counters) bs,
+        ap (runAdmitted l bs) (admits t h .1 c),
+      ),
+    )
 
 -- ---- number 0
 
@@ -69,7 +73,7 @@ done-all bs a s = (to-end, from-end)
         one-reason (a .configuration) [] (a .number) 0 (rw (drop-of-length-le bs past) at (s .reason)) at-end
 
 pub run-call-zero : RunCallZero
-unfolding RunCallZero RunCallNumbers HallNumbers RefusalNumbers RunNumbers runCall runAdmitted runResult
+unfolding RunCallZero RunCallNumbers HallNumbers RefusalNumbers runCall runAdmitted runResult
 run-call-zero table l bs table-bytes hall-bytes = (from-zero (admission table (l .hall)) refl, to-zero)
   where
     Whole : Type 0
@@ -78,9 +82,8 @@ run-call-zero table l bs table-bytes hall-bytes = (from-zero (admission table (l
 
     ends : (t : Table) (h : Configuration) → HallAccepted table (l .hall) t h →
         ((run h (l .counters) bs) .number ≡ 0) ↔ ((run h (l .counters) bs) .place ≡ length bs)
-    ends t h (c, ok, same) =
-        let accepts : Accepts table t = (table-bytes, accepted-read table t c) in
-        done-all bs (run h (l .counters) bs) (run-numbers table t accepts h ok (l .counters) bs)
+    ends t h c =
+        done-all bs (run h (l .counters) bs) ((run-call-numbers table l bs table-bytes hall-bytes .1 t h c) .0)
 
     from-zero : (a : Admission) → admission table (l .hall) ≡ a → (runAdmitted l bs a) .number ≡ 0 → Whole
     from-zero (notAdmitted n p) f z = absurd (let y = refusal-numbers table (l .hall) n p .3 f in omega arith)
@@ -89,4 +92,4 @@ run-call-zero table l bs table-bytes hall-bytes = (from-zero (admission table (l
 
     to-zero : Whole → (runCall table l bs) .number ≡ 0
     to-zero (t, h, c, place) =
-        ap (λ a. a .number) (run-call-numbers table l bs table-bytes hall-bytes .1 t h c) ∙ ends t h c .1 place
+        ap (λ a. a .number) ((run-call-numbers table l bs table-bytes hall-bytes .1 t h c) .1) ∙ ends t h c .1 place

@@ -113,7 +113,7 @@ settles-high p (moves r σ cs) h i = go (leb (length (replaceAt p cs (h .compone
     go false = omega arith
 
 -- of any choice
-choose-high : (h : Configuration) (e : Entry) → AnswerHigh (answerTo h e)
+pub choose-high : (h : Configuration) (e : Entry) → AnswerHigh (answerTo h e)
 unfolding answerTo
 choose-high h (act p) = go (getElem? (h .components) p)
   where

@@ -21,7 +21,7 @@ use Rattle.semantics.specs.Definitions.Table.{Table}
 use Rattle.semantics.specs.Definitions.Logs.{emptyLog, readable, paths, firstReadable, addToken, takeToken}
 use Rattle.semantics.specs.Definitions.Configuration.{Idle, taking, repeating, block, output, Tree, leaf, Component, idle, transaction, Configuration, opens, opening}
 use Rattle.semantics.specs.Definitions.Moves.{Entry, act, inside, moves, takes, puts, commits, ends, acts, evolves, inner, innerLocal, actsInside, moved, answerTo, ruleNumber}
-use Rattle.semantics.specs.Definitions.Run.{Counters, schedule, counted, RunAnswer, continueRun, runFrom, run}
+use Rattle.semantics.specs.Definitions.Run.{Counters, run}
 use Rattle.semantics.specs.Checks.AcceptedTables.{GoodTable}
 use Rattle.semantics.specs.Definitions.Stored.{hallBytes, ComponentOk, WellFormed, bytesOf}
 use Rattle.semantics.specs.Definitions.Calls.{Call, runResult, runCall}
@@ -33,7 +33,7 @@ use Rattle.semantics.proofs.Moves.{positionOf, localMove, accepted-inve
 use Rattle.semantics.proofs.GoodTable.{accepted-is-good}
 use Rattle.semantics.proofs.RoundTrip.{opening-is-well-formed}
 use Rattle.semantics.proofs.WellFormedKept.{well-formed-step}
-use Rattle.semantics.proofs.Runs.{Runs, rested, ran, runs-append, runs-keep}
+use Rattle.semantics.proofs.Runs.{Runs, rested, ran, runs-append, runs-keep, runs-whole}
 use Rattle.semantics.proofs.CallsAsOne.{opened-hall, stored-run}
 use Rattle.semantics.proofs.Drive.{nodesFor, Driven, arrived, driven, drives-commit, nodes-few}
 
@@ -182,35 +182,6 @@ step-done u p few (stepCommit n M δ found first fits) =
     let c = attempt-commits u p n M found few δ first (omega arith) in inr (n, M, δ, c .0, found, c .1, c .2)
 
 -- ---- from choices to bytes
-
--- what a run over bytes answers where all of its choices are accepted
-pub record Ran (a : RunAnswer) (total : ℕ) (g : Configuration) : Type 0 where
-  pub number : a .number ≡ 0
-  pub done : a .done ≡ total
-  pub configuration : a .configuration ≡ g
-
--- the first choice of a list, read from its bytes and accepted
-entry-runs : (h f : Configuration) (r : Rule) (e : Entry) (es : List Entry) (c : Counters) (place before : ℕ) → answerTo h e ≡ moved r f →
-    (w : ℕ) × (runFrom h c place before (schedule (scheduleBytes (e ∷ es))) ≡ runFrom f (counted r c) (place + w) (suc before) (schedule (scheduleBytes es)))
-unfolding runFrom continueRun schedule scheduleBytes
-entry-runs h f r (act p) es c place before chosen = (2, rw chosen)
-entry-runs h f r (inside p k) es c place before chosen = (3, rw chosen)
-
--- and all of them, from a place in the schedule with so many entries done
-runs-answer : {h g : Configuration} {es : List Entry} → Runs h es g → (c : Counters) (place before : ℕ) →
-    Ran (runFrom h c place before (schedule (scheduleBytes es))) (before + length es) g
-unfolding runFrom schedule scheduleBytes
-runs-answer rested c place before = record { number = refl; done = omega arith; configuration = refl }
-runs-answer {h} (ran {f = f} {e = e} {es = es} r chosen rest) c place before =
-    let step = entry-runs h f r e es c place before chosen in
-    let k = runs-answer rest (counted r c) (place + step .0) (suc before) in
-    let total : before + suc (length es) ≡ suc before + length es = omega arith in
-    rw (total, step .1) k
-
--- A run over the bytes of choices that are all accepted does them all.
-pub runs-whole : {h g : Configuration} {es : List Entry} → Runs h es g → (c : Counters) → Ran (run h c (scheduleBytes es)) (length es) g
-unfolding run
-runs-whole {es = es} m c = let total : 0 + length es ≡ length es = omega arith in rw total at (runs-answer m c 0 0)
 
 -- choices whose numbers are bytes have bytes for their bytes
 in-bytes : (es : List Entry) → All InBytes es → Bytes (scheduleBytes es)

@@ -21,8 +21,8 @@ use Rattle.semantics.specs.Definitions.Logs.{emptyLog, readable, paths, 
 use Rattle.semantics.specs.Definitions.Configuration.{Idle, taking, repeating, block, output, Tree, leaf, fork, Component, idle, transaction, Configuration, opens}
 use Rattle.semantics.specs.Definitions.Moves.{act, inside, LocalAnswer, moves, blocked, takes, puts, commits, ends, acts, actsInside, moved, answerTo, ruleNumber}
 use Rattle.semantics.specs.Claims.InnerMoves.{Moves, unmoved, MovesSettleFirstPath}
-use Rattle.semantics.specs.Claims.ConverseRuns.{PlainState, replacing, ConverseStep, stepOut, stepIn, stepRep, stepCommit, idleConfiguration}
-use Rattle.semantics.specs.Checks.ConverseSteps.{DoneAt, StepsAreMoves, ReadableBlocksStep}
+use Rattle.semantics.specs.Claims.ConverseRuns.{PlainState, replacing, ConverseStep, stepOut, stepIn, stepRep, stepCommit, ConverseSteps, noStep, stepThen, idleConfiguration}
+use Rattle.semantics.specs.Checks.ConverseSteps.{DoneAt, StepsAreMoves, ReadableBlocksStep, StepsGoOn}
 use Rattle.semantics.proofs.Lists.{found-below, found-at, found-map, map-replaceAt, replaced-here, replaceAt-twice}
 use Rattle.semantics.proofs.Reading.{by-cases}
 use Rattle.semantics.proofs.Readable.{included-readable, not-included-unreadable}
@@ -232,3 +232,12 @@ readable-blocks-step s p n M found earlier later δ split none-before readable-t
     unreadable : (πs : List Log) → All (λ π. ¬ Included (RD π) (s .counts)) πs → All (λ π. readable (s .counts) π ≡ false) πs
     unreadable [] h = tt
     unreadable (π ∷ πs) h = (not-included-unreadable (s .counts) π (h .0), unreadable πs (h .1))
+
+-- one step behind a list of steps
+step-behind : {s u v : PlainState} (p : ℕ) → ConverseSteps s u → ConverseStep u p v → ConverseSteps s v
+step-behind p noStep one = stepThen p one noStep
+step-behind p (stepThen q first more) one = stepThen q first (step-behind p more one)
+
+pub steps-go-on : StepsGoOn
+unfolding StepsGoOn
+steps-go-on = (λ s. noStep, λ s u v p. step-behind p)

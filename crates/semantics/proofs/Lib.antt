@@ -32,8 +32,10 @@ pub mod RecordShapes
 pub mod ChoiceConditions
 pub mod TableConditions
 pub mod HallConditions
+pub mod Answers
 pub mod RunConditions
 pub mod CallConditions
+pub mod CallLists
 pub mod Suggestions
 pub mod Theorems
 pub mod GainExamples

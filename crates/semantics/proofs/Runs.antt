@@ -1,15 +1,15 @@
 -- Entries accepted one after another: what every accepted choice keeps, the steps and the counters of their rules.
 -- Assumes nothing.
 use mathlib.Core.Path.{_≡_, refl, ap, _∙_}
-use Prim.Native.Nat.{suc, ℕ, zero}
+use Prim.Native.Nat.{suc, ℕ, zero, _+_}
 use native.Mathlib.Omega.{arith}
 use mathlib.Core.Option.{some}
 use mathlib.Core.List.{List, [], _∷_, _++_}
 use lib.ListN.{length, getElem?, take}
 use Rattle.calculus.specs.Reduction.{Rule}
 use Rattle.semantics.specs.Definitions.Configuration.{Configuration}
-use Rattle.semantics.specs.Definitions.Moves.{Entry, Answer, moved, refused, answerTo}
-use Rattle.semantics.specs.Definitions.Run.{Counters, counted, Step, steps, continueSteps, finalConfiguration}
+use Rattle.semantics.specs.Definitions.Moves.{Entry, act, inside, Answer, moved, refused, answerTo}
+use Rattle.semantics.specs.Definitions.Run.{Counters, counted, schedule, scheduleBytes, RunAnswer, continueRun, runFrom, run, Step, steps, continueSteps, finalConfiguration}
 use Rattle.semantics.proofs.Lists.{none-found}
 
 -- entries accepted one after another, from one configuration to another
@@ -60,6 +60,45 @@ pub tallied-append : {h g : Configuration} {es : List Entry} → Runs h es g →
 unfolding steps tallied
 tallied-append rested c ds = refl
 tallied-append (ran r q x) c ds = rw q (tallied-append x (counted r c) ds)
+
+-- the first j of them, and where their steps lead
+pub runs-prefix : {h g : Configuration} {es : List Entry} → Runs h es g → (j : ℕ) →
+    Runs h (take j es) (finalConfiguration h (take j (steps h es)))
+unfolding steps
+runs-prefix rested zero = rested
+runs-prefix rested (suc j) = rested
+runs-prefix (ran r q x) zero = rested
+runs-prefix (ran r q x) (suc j) = rw q (ran r q (runs-prefix x j))
+
+-- what a run over bytes answers where all of its choices are accepted
+pub record Ran (a : RunAnswer) (total : ℕ) (g : Configuration) (d : Counters) : Type 0 where
+  pub number : a .number ≡ 0
+  pub done : a .done ≡ total
+  pub configuration : a .configuration ≡ g
+  pub counters : a .counters ≡ d
+
+-- the first choice of a list, read from its bytes and accepted
+entry-runs : (h f : Configuration) (r : Rule) (e : Entry) (es : List Entry) (c : Counters) (place before : ℕ) → answerTo h e ≡ moved r f →
+    (w : ℕ) × (runFrom h c place before (schedule (scheduleBytes (e ∷ es))) ≡ runFrom f (counted r c) (place + w) (suc before) (schedule (scheduleBytes es)))
+unfolding runFrom continueRun schedule scheduleBytes
+entry-runs h f r (act p) es c place before chosen = (2, rw chosen)
+entry-runs h f r (inside p k) es c place before chosen = (3, rw chosen)
+
+-- and all of them, from a place in the schedule with so many entries done
+runs-answer : {h g : Configuration} {es : List Entry} → Runs h es g → (c : Counters) (place before : ℕ) →
+    Ran (runFrom h c place before (schedule (scheduleBytes es))) (before + length es) g (tallied c (steps h es))
+unfolding runFrom schedule scheduleBytes steps tallied
+runs-answer rested c place before = record { number = refl; done = omega arith; configuration = refl; counters = refl }
+runs-answer {h} (ran {f = f} {e = e} {es = es} r chosen rest) c place before =
+    let step = entry-runs h f r e es c place before chosen in
+    let k = runs-answer rest (counted r c) (place + step .0) (suc before) in
+    let total : before + suc (length es) ≡ suc before + length es = omega arith in
+    rw (total, step .1, chosen) k
+
+-- A run over the bytes of choices that are all accepted does them all.
+pub runs-whole : {h g : Configuration} {es : List Entry} → Runs h es g → (c : Counters) → Ran (run h c (scheduleBytes es)) (length es) g (tallied c (steps h es))
+unfolding run
+runs-whole {es = es} m c = let total : 0 + length es ≡ length es = omega arith in rw total at (runs-answer m c 0 0)
 
 -- the step by number j of the steps ss of the entries es: an accepted choice, from where the steps before it lead
 abbrev pub StepAt : Configuration → List Entry → List Step → ℕ → Step → Type 0

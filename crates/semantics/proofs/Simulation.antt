@@ -9,7 +9,7 @@ use mathlib.Core.Path.{_≡_, refl, sym, ap, _∙_}
 use mathlib.Core.Bool.{Bool, true, false, cond}
 use mathlib.Core.Option.{Option, none, some, Option·map, Option·elim}
 use mathlib.Core.List.{List, [], _∷_, _++_, map, map-map}
-use lib.ListN.{length, getElem?, length-map}
+use lib.ListN.{length, getElem?, take, length-map}
 use lib.Dec.{leb, ltb, eqb}
 use borrow.Author.Tests.{ltb-true, ltb-false, ne-eqb}
 use Rattle.calculus.specs.Syntax.{Name, Log, State}
@@ -22,7 +22,7 @@ use Rattle.semantics.specs.Definitions.Table.{Table}
 use Rattle.semantics.specs.Definitions.Logs.{emptyLog, readable, firstReadable, addToken, takeToken}
 use Rattle.semantics.specs.Definitions.Configuration.{Idle, taking, repeating, block, output, Tree, leaf, fork, Component, idle, transaction, Configuration, opens, opening}
 use Rattle.semantics.specs.Definitions.Moves.{Entry, act, inside, moved, answerTo, LocalAnswer, moves, blocked, takes, puts, commits, ends, acts, actsInside, Inner, evolves, noRule, outOfRange, inner, innerLocal, ruleNumber}
-use Rattle.semantics.specs.Definitions.Run.{Counters, counted, saturatingSuc, steps}
+use Rattle.semantics.specs.Definitions.Run.{Counters, counted, saturatingSuc, scheduleBytes, run, steps, finalConfiguration}
 use Rattle.semantics.specs.Definitions.AtomicRun.{WithNote, Atomic, raised, withoutNote, atomicStart, replaceComponent, endAttempt, stepComponent, atomicStep, atomicRun}
 use Rattle.semantics.specs.Claims.NumberedRun.{Note, Numbered, numberedStart, numberedStep, numberedRun, unnumbered, NumberedIsAtomic}
 use Rattle.semantics.specs.Claims.InnerMoves.{Moves, unmoved, MovesSettleFirstPath}
@@ -31,7 +31,7 @@ use Rattle.semantics.proofs.Reading.{by-cases}
 use Rattle.semantics.proofs.Lists.{found-map, found-map?, found-back, replaceAt-same, map-replaceAt, all-at, all-replaceAt, all-map, all-every, map-agree}
 use Rattle.semantics.proofs.Moves.{positionOf, localMove, Moving, accepted-inverts}
 use Rattle.semantics.proofs.InnerMoves.{moves-snoc, moves-settle-first-path, inner-rule}
-use Rattle.semantics.proofs.Runs.{Runs, rested, ran, tallied}
+use Rattle.semantics.proofs.Runs.{Runs, rested, ran, tallied, runs-prefix, runs-whole}
 
 -- ---- components with numbers
 
@@ -410,3 +410,23 @@ unbegun-stations cs = map-agree _ _ same cs ∙ sym (map-map (λ x. x .station) 
     same : (c : Component) → rolledBack c ≡ stationOf c .station
     same (idle c) = refl
     same (transaction n M s u) = refl
+
+-- the first j choices done, run by themselves
+pub each-choice : (t : Table) (first : Counters) {g : Configuration} {es : List Entry} → Runs (opening t) es g → (j : ℕ) →
+    let a = run (opening t) first (scheduleBytes (take j es)) in
+    let o : Atomic State = atomicRun (atomicStart t first) (take j es) in
+    (a .number ≡ 0) × (a .configuration ≡ finalConfiguration (opening t) (take j (steps (opening t) es))) ×
+    (a .configuration .counts ≡ o .counts) × (a .counters ≡ o .counters) ×
+    (map rolledBack (a .configuration .components) ≡ map (λ x. x .station) (o .stations))
+each-choice t first {es = es} to j =
+    let part = runs-prefix to j in
+    let left = finalConfiguration (opening t) (take j (steps (opening t) es)) in
+    let a = runs-whole part first in
+    let same = sym (atomic-of-runs t first part) in (
+      a .number,
+      a .configuration,
+      ap (λ h. h .counts) (a .configuration) ∙ ap (λ o. o .counts) same,
+      a .counters ∙ ap (λ o. o .counters) same,
+      ap (λ h. map rolledBack (h .components)) (a .configuration) ∙ unbegun-stations (left .components)
+          ∙ ap (λ o. map (λ x. x .station) (o .stations)) same,
+    )

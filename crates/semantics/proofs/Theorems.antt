@@ -2,13 +2,15 @@
 -- Assumes nothing.
 use Rattle.semantics.specs.Claims.Correspondence.{Soundness, RunSoundness, EveryHallDenotes, AcceptedIsWithinLimits, Completeness, CompletenessAnyOrder, StillIsStill, KeepsWellFormed, OpeningDenotes, Located, LogOrderAsPrinted, HandoverIsCOM}
 use Rattle.semantics.specs.Claims.Accounts.{RunAccounts, CallsAccounts}
-use Rattle.semantics.specs.Checks.ConverseSteps.{StepsAreMoves, ReadableBlocksStep}
+use Rattle.semantics.specs.Checks.ConverseSteps.{StepsAreMoves, ReadableBlocksStep, StepsGoOn}
 use Rattle.semantics.specs.Claims.InnerMoves.{MovesEnd, MovesGoOn, SettledRests, MovesSettleFirstPath, OneEnd}
 use Rattle.semantics.specs.Checks.PrintedMoves.{OpensAsPrinted, MovesAsPrinted, MovesWorked}
 use Rattle.semantics.specs.Checks.PrintedSuggestions.{AllowedAsPrinted}
 use Rattle.semantics.specs.Claims.Suggestions.{SuggestionExists, SuggestedRuns, StillRunsNone, AnswersDiffer}
 use Rattle.semantics.specs.Claims.Atomicity.{AtomicityOfCalls, initialBuffers, finalBuffers, done, doneWithoutAborted, atomic}
 use Rattle.semantics.specs.Checks.Conditions.{ReadAsPrinted, TableNumbers, MissingAtLength, HallNumbers, CheckNumbers, OpenNumbers, RefusalNumbers, ChoiceNumbers, RunNumbers, OneReason, RunCallNumbers, RunCallZero}
+use Rattle.semantics.specs.Checks.Answers.{AnswersTold, ZeroIsAccepted}
+use Rattle.semantics.specs.Checks.CallLists.{CallsInTurn, CallsCut}
 use mathlib.Core.Path.{refl, sym, ap, _∙_}
 use mathlib.Core.List.{map}
 use Rattle.semantics.specs.Definitions.Stored.{bytesOf, configurationOf}
@@ -28,15 +30,17 @@ use Rattle.semantics.proofs.GoodTable.{accepted-is-good}
 use Rattle.semantics.proofs.RoundTrip.{read-back}
 use Rattle.semantics.proofs.Runs.{runs-steps}
 use Rattle.semantics.proofs.Simulation as Pace
-use Rattle.semantics.proofs.Simulation.{atomic-of-runs, unbegun-stations}
+use Rattle.semantics.proofs.Simulation.{atomic-of-runs, unbegun-stations, each-choice}
 use Rattle.semantics.proofs.PathClause.{commits-ok, attempts-ok}
 use Rattle.semantics.proofs.Converse.{converse-holds}
 use Rattle.semantics.proofs.ConverseSteps as Steps
 use Rattle.semantics.proofs.TableConditions as OnTables
 use Rattle.semantics.proofs.HallConditions as OnHalls
 use Rattle.semantics.proofs.ChoiceConditions as OnChoices
+use Rattle.semantics.proofs.Answers as Telling
 use Rattle.semantics.proofs.RunConditions as OnRuns
 use Rattle.semantics.proofs.CallConditions as OnCalls
+use Rattle.semantics.proofs.CallLists as Turns
 use Rattle.semantics.proofs.Suggestions as Suggesting
 use Rattle.semantics.proofs.RecordShapes as Shapes
 use Rattle.semantics.proofs.Limits as Bounds
@@ -159,6 +163,7 @@ atomicity-of-calls table t accepts buffer size first cs =
       counts = ap (λ a. a .counts) (sym run);
       stations = unbegun-stations (all .after .components) ∙ ap (λ a. map (λ x. x .station) (a .stations)) (sym run);
       tally = all .tally ∙ ap (λ a. a .counters) (sym run);
+      each-choice = each-choice t first (all .runs);
       unaborted-whole = kept-led .0;
       unaborted-hall = ap bytesOf (kept-led .1) ∙ sym (all .hall);
       unaborted-atomic =
@@ -182,6 +187,9 @@ steps-are-moves = Steps.steps-are-moves
 
 pub readable-blocks-step : ReadableBlocksStep
 readable-blocks-step = Steps.readable-blocks-step
+
+pub steps-go-on : StepsGoOn
+steps-go-on = Steps.steps-go-on
 
 -- ---- the numbered conditions
 
@@ -207,6 +215,12 @@ open-numbers = OnHalls.open-numbers
 pub refusal-numbers : RefusalNumbers
 refusal-numbers = OnHalls.refusal-numbers
 
+pub answers-told : AnswersTold
+answers-told = Telling.answers-told
+
+pub zero-is-accepted : ZeroIsAccepted
+zero-is-accepted = Telling.zero-is-accepted
+
 pub choice-numbers : ChoiceNumbers
 choice-numbers = OnChoices.choice-numbers
 
@@ -221,6 +235,12 @@ run-call-numbers = OnCalls.run-call-numbers
 
 pub run-call-zero : RunCallZero
 run-call-zero = OnCalls.run-call-zero
+
+pub calls-in-turn : CallsInTurn
+calls-in-turn = Turns.calls-in-turn
+
+pub calls-cut : CallsCut
+calls-cut = Turns.calls-cut
 
 -- ---- the printed run
 

@@ -3,6 +3,8 @@ pub mod PrintedMoves
 pub mod AcceptedTables
 pub mod StoredForm
 pub mod Conditions
+pub mod Answers
+pub mod CallLists
 pub mod PrintedRun
 pub mod Examples
 pub mod GainExamples

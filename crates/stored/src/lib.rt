@@ -1,7 +1,7 @@
 // The stored hall (document 01, "The stored hall"): its numbers, and the walk over a transaction's nodes.
 //
-// Every number of the stored form is a constant of this crate, and no other crate has one of its own. The walk only reads, and
-// takes any bytes: what lies past their end counts as a leaf.
+// Every number of the stored form is a constant of this crate, and no other crate has one of its own. The walk only
+// reads, and takes any bytes: what lies past their end counts as a leaf.
 use buffer::byte_at;
 use buffer::wide;
 ghost use mathlib.Core.Path.{_≡_};
@@ -24,7 +24,7 @@ pub const KIND_OUTPUT: u8 = 24;
 pub const HALL_SIZE: usize = 11344;
 
 // Channels (trays). As many counts come first, then the components.
-pub const CHANNELS: usize = 16;
+pub const CHANNELS: usize = records::CHANNELS;
 
 // A component that is no transaction: its kind, and a term or a channel behind it.
 pub const IDLE_SIZE: usize = 2;
@@ -32,22 +32,22 @@ pub const IDLE_SIZE: usize = 2;
 pub const COMPONENT_BODY: usize = 1;
 
 // A transaction's kind, term and snapshot. Its nodes follow.
-pub const TRANSACTION_HEAD: usize = 18;
+pub const TRANSACTION_HEAD: usize = IDLE_SIZE + CHANNELS;
 
 // A fork, without its sides.
 pub const FORK_SIZE: usize = 1;
 
-// A leaf: its kind, its term, its log's length, its log.
-pub const LEAF_SIZE: usize = 19;
-
+// A leaf's parts, behind its kind: its term, its log's length, its log. A log and the longest path that remains have at
+// most as many actions as a log has bytes.
 pub const LEAF_TERM: usize = 1;
 
 pub const LEAF_LOG_LENGTH: usize = 2;
 
 pub const LEAF_LOG: usize = 3;
 
-// A log's bytes; and its actions with those of the longest path that remains.
 pub const LOG_SIZE: usize = 16;
+
+pub const LEAF_SIZE: usize = LEAF_LOG + LOG_SIZE;
 
 // A log's bytes are below it: a read's is its channel, a write's the channel plus 16.
 pub const ACTIONS: u8 = 32;
@@ -58,7 +58,7 @@ pub const NO_TERM: u8 = 255;
 pub const MAX_COMPONENTS: usize = 64;
 
 // An index of where components begin: an entry for each, and one for where the last one ends.
-pub const INDEX_SIZE: usize = 65;
+pub const INDEX_SIZE: usize = MAX_COMPONENTS + 1;
 
 // A transaction's branches, and the nodes of a tree of so many: a fork for each leaf but one.
 pub const MAX_BRANCHES: usize = 8;
@@ -71,8 +71,8 @@ pub enum Place {
     Nowhere,
 }
 
-// How far a walk came over a tree's nodes: the offset, how many subtrees are still to come there, and how many nodes were
-// still to be passed.
+// How far a walk came over a tree's nodes: the offset, how many subtrees are still to come there, and how many nodes
+// were still to be passed.
 pub struct Walk {
     pub at: usize,
     pub pending: usize,

@@ -1,5 +1,6 @@
--- A configuration's bytes: where its components and nodes stand in them, and the two links from a splice to a configuration, one for
--- a component that gives way to others and one for a node of a transaction that gives way to another.
+-- A configuration's bytes: where its components and nodes stand in them, and the two links from a splice to a
+-- configuration, one for a component that gives way to others and one for a node of a transaction that gives way to
+-- another.
 -- Assumes nothing.
 use Prim.Native.Nat.{ℕ, zero, suc, _+_, _-_, _≤_, _<_}
 use native.Mathlib.Omega.{arith}
@@ -56,6 +57,25 @@ replace-bytes : (cs : List Component) (p : ℕ) (c : Component) (ds : List Compo
     allBytes (replaceAt p ds cs) ≡ allBytes (take p cs) ++ (allBytes ds ++ allBytes (drop (suc p) cs))
 replace-bytes cs p c ds e =
     ap allBytes (replace-split cs p c ds e) ∙ all-bytes-append (take p cs) (ds ++ drop (suc p) cs) ∙ ap (λ x. allBytes (take p cs) ++ x) (all-bytes-append ds (drop (suc p) cs))
+
+-- ---- positions
+
+one-bytes : (c : Component) → allBytes (c ∷ []) ≡ componentBytes c
+unfolding allBytes flatten
+one-bytes c = append-nil (componentBytes c)
+
+-- one more component uses its own bytes
+pub used-more : (cs : List Component) (c : Component) → usedOf (cs ++ (c ∷ [])) ≡ usedOf cs + length (componentBytes c)
+unfolding usedOf
+used-more cs c =
+    let l = length-append (allBytes cs) (allBytes (c ∷ [])) in
+    let m = ap length (one-bytes c) in
+    ap (λ bs. 16 + length bs) (all-bytes-append cs (c ∷ [])) ∙ omega arith
+
+-- the last one ends where what is used does
+pub start-all : (cs : List Component) → startOf cs (length cs) ≡ usedOf cs
+unfolding startOf
+start-all cs = ap usedOf (take-all (length cs) cs (omega arith))
 
 -- ---- the bytes of a configuration
 
@@ -203,10 +223,6 @@ transaction-bytes n M s x u = ap (λ l. 21 ∷ n ∷ l) (rw (plug-bytes x u) (sy
 
 regroup : (a b c d e f : List ℕ) → a ++ (b ++ ((c ++ (d ++ e)) ++ f)) ≡ (a ++ (b ++ c)) ++ (d ++ (e ++ f))
 regroup a b c d e f = simp append-assoc
-
-pub one-bytes : (c : Component) → allBytes (c ∷ []) ≡ componentBytes c
-unfolding allBytes flatten
-one-bytes c = append-nil (componentBytes c)
 
 -- node number k of the transaction at p gives way to another tree
 pub node-by-splice : (σ : State) (cs : List Component) (p n : ℕ) (M : Expression) (s : State) (t : Tree) (k : ℕ) (x : Context) (u v : Tree) → length σ ≡ channels →

@@ -1,5 +1,5 @@
--- The nodes of a transaction in its bytes: the walk over a tree's bytes ends behind them and finds each node where its bytes begin;
--- a subtree in its place; a move at a node.
+-- The nodes of a transaction in its bytes: the walk over a tree's bytes ends behind them and finds each node where
+-- its bytes begin; a subtree in its place; a move at a node.
 -- Assumes nothing.
 use Prim.Native.Nat.{ℕ, zero, suc, _+_, _*_, _-_, _≤_}
 use native.Mathlib.Omega.{arith}

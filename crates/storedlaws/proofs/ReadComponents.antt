@@ -1,4 +1,5 @@
--- The components behind an offset: the first of them, how many bytes it took, those that follow it, and the configuration.
+-- The components behind an offset: the first of them, how many bytes it took, those that follow it, and the
+-- configuration.
 -- Assumes nothing.
 use Prim.Native.Nat.{ℕ, zero, suc, _+_, _≤_, _<_}
 use native.Mathlib.Omega.{arith}

@@ -1,20 +1,21 @@
 -- Trees that follow one another: a fork's sides stand in its place, a leaf goes, and each tree has a branch at least.
 -- Assumes nothing.
-use Prim.Native.Nat.{ℕ, suc, _+_, _≤_, _<_}
+use Prim.Native.Nat.{ℕ, zero, suc, _+_, _≤_, _<_}
 use native.Mathlib.Omega.{arith}
-use mathlib.Core.Path.{_≡_, refl, ap}
+use mathlib.Core.Path.{_≡_, refl, ap, _∙_}
 use mathlib.Core.Option.{Option, none, some}
 use mathlib.Core.List.{List, [], _∷_}
-use lib.ListN.{length, take, drop, length-drop}
+use lib.ListN.{length, take, drop, length-append, length-drop}
 use lib.Seq.{drop-drop}
 use borrow.Author.Tests.{le-leb, lt-leb, ne-eqb}
 use Rattle.semantics.specs.Definitions.Basics.{onlyIf}
 use mathlib.Core.Option.{bind}
 use Rattle.semantics.specs.Definitions.Terms.{Term}
 use Rattle.semantics.specs.Definitions.Configuration.{Tree, fork, branchesOf}
-use Rattle.semantics.specs.Definitions.Stored.{splitBytes, leafFrom, nodeKind, nodeFrom, treeFrom}
+use Rattle.semantics.specs.Definitions.Stored.{splitBytes, leafFrom, NodeKind, forkN, leafN, otherN, nodeKind, nodeFrom, treeFrom}
 use Rattle.semantics.proofs.Reading.{given-some}
-use Rattle.stored.specs.Layout.{forkKind, leafKind}
+use Rattle.semantics.proofs.Trees.{cut-back}
+use Rattle.stored.specs.Layout.{forkKind, leafKind, leafSize}
 use Rattle.storedlaws.specs.Reading.{treesFrom}
 use Rattle.semantics.proofs.Measures.{tree-branches-positive}
 
@@ -69,9 +70,31 @@ module _ (f : ℕ) (fs : List ℕ) (b : ℕ) (ts : List Term) where
   unfolding treesFrom treeFrom nodeFrom nodeKind bind
   trees-other k bs h g = rw (ne-eqb k 22 h, ne-eqb k 23 g)
 
-  pub trees-end : treesFrom (suc f ∷ fs) b ts [] ≡ none
-  unfolding treesFrom treeFrom bind
-  trees-end = refl
+-- ---- how many bytes and branches
+
+-- a tree has a leaf
+tree-least : (ts : List Term) (f : ℕ) (bs : List ℕ) (y : Tree × List ℕ) → treeFrom f ts bs ≡ some y → leafSize ≤ length bs
+unfolding treeFrom nodeFrom
+tree-least ts zero bs y e = let z : _≡_ {A = ℕ} 0 1 = cc in absurd (omega arith)
+tree-least ts (suc f) [] y e = let z : _≡_ {A = ℕ} 0 1 = cc in absurd (omega arith)
+tree-least ts (suc f) (k ∷ bs) y e = go (λ x q. tree-least ts f bs x q) (nodeKind k) e
+  where
+    go : ((x : Tree × List ℕ) → treeFrom f ts bs ≡ some x → 19 ≤ length bs) → (K : NodeKind) → nodeFrom ts (λ x. treeFrom f ts x) K bs ≡ some y →
+        19 ≤ suc (length bs)
+    go least forkN e = given-some (treeFrom f ts bs) _ y e (λ l p e′. let h = least l p in omega arith)
+    go least leafN e =
+        given-some (splitBytes 18 bs) _ y e (λ c p e′.
+        let h = cut-back 18 bs c p in
+        let l = ap length (h .1) ∙ length-append (c .0) (c .1) in omega arith)
+    go least otherN e = let z : _≡_ {A = ℕ} 0 1 = cc in absurd (omega arith)
+
+pub trees-short : (f : ℕ) (fs : List ℕ) (b : ℕ) (ts : List Term) (bs : List ℕ) → length bs < leafSize → treesFrom (f ∷ fs) b ts bs ≡ none
+unfolding treesFrom bind
+trees-short f fs b ts bs h = go (treeFrom f ts bs) refl
+  where
+    go : (o : Option (Tree × List ℕ)) → treeFrom f ts bs ≡ o → bind o (λ t. treesFrom fs (b + branchesOf (t .0)) ts (t .1)) ≡ none
+    go none e = refl
+    go (some y) e = let l = tree-least ts f bs y e in absurd (omega arith)
 
 -- each has a branch
 pub trees-branches : (fs : List ℕ) (b : ℕ) (ts : List Term) (bs : List ℕ) (y : ℕ × List ℕ) → treesFrom fs b ts bs ≡ some y → b + length fs ≤ y .0

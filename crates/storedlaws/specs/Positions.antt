@@ -1,4 +1,5 @@
--- Where the parts of a configuration stand in its bytes: a component by its number, a node of a tree by its number in preorder.
+-- Where the parts of a configuration stand in its bytes: a component by its number, a node of a tree by its number in
+-- preorder.
 -- Assumes nothing.
 use Prim.Native.Nat.{ℕ, zero, suc, _+_, _-_, _≤_}
 use mathlib.Core.Path.{_≡_}
@@ -37,8 +38,8 @@ IsIndex starts cs = (i : ℕ) → i ≤ length cs → getD starts i 0 ≡ startO
 abbrev pub Fits : List Component → Type 0
 Fits cs = usedOf cs ≤ hallBytes
 
--- One splice, of v in the place of the bytes a..b, makes of the bytes of h those of k: what `splice` requires holds, and this
--- is what it ensures.
+-- One splice, of v in the place of the bytes a..b, makes of the bytes of h those of k: what `splice` requires holds,
+-- and this is what it ensures.
 pub record BySplice (h k : Configuration) (a b : ℕ) (v : List ℕ) : Type 0 where
   pub ordered : a ≤ b
   pub room : Room (bytesOf h) b (a + length v) (usedOf (h .components))

@@ -1,4 +1,5 @@
--- What the laws on reading a stored hall speak of: a log's bytes, trees that follow one another, the component at hand, a term's kind.
+-- What the laws on reading a stored hall speak of: a log's bytes, trees that follow one another, the component at
+-- hand, a term's kind.
 -- Assumes nothing.
 use Prim.Native.Nat.{ℕ, _+_}
 use mathlib.Core.Bool.{Bool, true, false, cond, _&&_}
@@ -9,7 +10,8 @@ use lib.Dec.{leb, eqb}
 use Rattle.calculus.specs.Syntax.{State}
 use Rattle.semantics.specs.Definitions.Basics.{onlyIf, zeros}
 use mathlib.Core.Option.{bind}
-use Rattle.semantics.specs.Definitions.Terms.{endT, retryT, rdT, wtT, orElseT, nilT, putT, takeT, repeatT, parT, atomT, Term, process, expression}
+use Rattle.semantics.specs.Definitions.Terms.{endT, retryT, rdT, wtT, orElseT, nilT, putT, takeT, repeatT, parT, atomT}
+use Rattle.semantics.specs.Definitions.Terms.{Term, process, expression}
 use Rattle.semantics.specs.Definitions.Configuration.{Component, Configuration, branchesOf}
 use Rattle.semantics.specs.Definitions.Stored.{logOf, treeFrom, componentKind, componentFrom}
 use Rattle.stored.specs.Layout.{forkKind, maxComponents}
@@ -28,8 +30,8 @@ isLog size bs = there (logOf (take size bs)) && zeros (drop size bs)
 
 -- ---- trees
 
--- trees that follow one another: their branches, added to b, and what follows the last of them. Each tree is read with a bound of
--- its own on its depth, so that the sides of a fork may follow one another in its place
+-- trees that follow one another: their branches, added to b, and what follows the last of them. Each tree is read
+-- with a bound of its own on its depth, so that the sides of a fork may follow one another in its place
 unfoldable pub treesFrom : List ℕ → ℕ → List Term → List ℕ → Option (ℕ × List ℕ)
 unfolding bind treeFrom branchesOf
 treesFrom [] b ts bs = some (b, bs)
@@ -51,7 +53,9 @@ firstComponent ts (k ∷ n ∷ bs) = componentFrom ts (componentKind k) n bs
 -- the configuration of these counts, with the components that were read and those that follow: at most 64 in all
 unfoldable pub configured : State → List Component → Option (List Component) → Option Configuration
 unfolding bind onlyIf
-configured σ read rest = bind rest (λ cs. onlyIf (leb (length (read ++ cs)) maxComponents) (record { counts = σ; components = read ++ cs }))
+configured σ read rest =
+    bind rest (λ cs.
+    onlyIf (leb (length (read ++ cs)) maxComponents) (record { counts = σ; components = read ++ cs }))
 
 -- ---- terms
 

@@ -13,6 +13,7 @@ use terms::TERMS;
 ghost use mathlib.Core.Path.{_≡_};
 ghost use Prim.Native.Nat.{_<_};
 ghost use lib.ListN.{replicate};
+ghost use Rattle.semantics.specs.Definitions.Layout.{channels};
 ghost use Rattle.semantics.specs.Definitions.Table.{tokensRecord, badTokens, readTable};
 ghost use Rattle.semantics.specs.Definitions.Calls.{checkTable};
 ghost use Rattle.records.specs.Parsing.{IsKind, WholeRecord};
@@ -87,7 +88,7 @@ fn class_mismatch(decoded: &[u8; DECODED], field: u8, byte: u8) -> bool
 
 // 8: a count of 0, or a channel that was given tokens before.
 fn bad_tokens(decoded: &[u8; DECODED], channel: u8, count: u8) -> bool
-    requires { ⌜ channel < 16 ⌝ }
+    requires { ⌜ channel < channels ⌝ }
     ensures { λ r. ⌜ r ≡ badTokens (tokensIn (now (decoded .entry))) (tokensRecord channel count) ⌝ }
 {
     if count == 0 {

@@ -9,18 +9,18 @@ use mathlib.Core.List.{List, [], _∷_, _++_}
 use lib.ListN.{length, getD, take, drop, set, length-append, length-drop, length-set}
 use lib.Dec.{ltb}
 use borrow.Author.Tests.{ltb-true, ltb-false}
-use lib.Seq.{getD-set-same, getD-set-other, take-all, take-append-le}
+use lib.Seq.{getD-set-same, getD-set-other, take-append-le}
 use Rattle.semantics.specs.Definitions.Basics.{onlyIf, zeros}
 use mathlib.Core.Option.{bind}
 use mathlib.Core.List.{flatten}
 use Rattle.semantics.specs.Definitions.Terms.{Term}
 use Rattle.semantics.specs.Definitions.Configuration.{Component, Configuration}
-use Rattle.semantics.specs.Definitions.Stored.{componentBytes, componentsFrom, configurationOf}
+use Rattle.semantics.specs.Definitions.Stored.{componentsFrom, configurationOf}
 use Rattle.terms.specs.Decoded.{Decoded}
 use Rattle.stored.specs.Layout.{channels, maxComponents, indexSize}
 use Rattle.storedlaws.specs.Positions.{allBytes, usedOf, startOf, IsIndex}
 use Rattle.storedlaws.specs.Reading.{firstComponent, configured}
-use Rattle.storedlaws.proofs.Configurations.{all-bytes-append, one-bytes}
+use Rattle.storedlaws.proofs.Configurations.{used-more, start-all}
 use Rattle.storedlaws.proofs.ReadComponents.{first-bytes, components-end, components-zeros, components-first, configured-all, configured-next, configured-many, configuration-short, configuration-start}
 use Rattle.nodes.specs.Answers.{EachTable}
 use Rattle.wellformed.specs.declared.Scan.{Scan}
@@ -30,18 +30,7 @@ use Rattle.wellformed.specs.Answers.{EndsFrom, ComponentIs, ComponentRea
 
 -- ---- positions
 
--- one more component: what is used, and where the components begin
-used-more : (cs : List Component) (c : Component) → usedOf (cs ++ (c ∷ [])) ≡ usedOf cs + length (componentBytes c)
-unfolding usedOf
-used-more cs c =
-    let l = length-append (allBytes cs) (allBytes (c ∷ [])) in
-    let m = ap length (one-bytes c) in
-    ap (λ bs. 16 + length bs) (all-bytes-append cs (c ∷ [])) ∙ omega arith
-
-start-all : (cs : List Component) → startOf cs (length cs) ≡ usedOf cs
-unfolding startOf
-start-all cs = ap usedOf (take-all (length cs) cs (omega arith))
-
+-- an index with one component more
 index-more : (starts : List ℕ) (cs : List Component) (c : Component) (i e : ℕ) → IsIndex starts cs → length cs ≡ i → i + 1 < length starts →
     e ≡ usedOf (cs ++ (c ∷ [])) → IsIndex (set starts (i + 1) e) (cs ++ (c ∷ []))
 unfolding startOf

@@ -49,10 +49,16 @@ bounds-enough m n k f fs l h a = go (eqb k 22)
     go true = (omega arith, (omega arith, later fs a))
     go false = later fs a
 
+-- a node's first byte is inside
+pub node-there : (d : List ℕ) (n : ℕ) (s : List ℕ) (at : ℕ) (m : NodeTest) (w : ℕ) → NodeRead d n s at m → m ≡ node.Branches w → at < length s
+node-there d n s at m w r h =
+    let i = subst (NodeInside s at) h (r .inside) in
+    let z = size-bounds (getD s at 0) _ refl in omega arith
+
 -- ---- how far a scan came
 
--- with this bound on the tree's depth, the tree is read where so many trees are read from an offset on, its branches being those and
--- the ones that were passed
+-- with this bound on the tree's depth, the tree is read where so many trees are read from an offset on, its branches
+-- being those and the ones that were passed
 record TreesFollow (s : List ℕ) (tree pending sum at : ℕ) (ts : List Term) (f : ℕ) : Type 0 where
   bounds : List ℕ
   counted : length bounds ≡ pending

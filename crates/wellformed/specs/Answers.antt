@@ -1,4 +1,5 @@
--- What the answers on a stored hall's bytes say: what reading them gives, for every table that the decoded one stands for.
+-- What the answers on a stored hall's bytes say: what reading them gives, for every table that the decoded one stands
+-- for.
 --
 -- d is a decoded table of n terms, s has the bytes.
 -- Assumes nothing.
@@ -56,8 +57,8 @@ pub record ComponentRead (d : List ℕ) (n : ℕ) (s : List ℕ) (at : ℕ) (r :
 
 -- ---- the hall
 
--- the configuration that the bytes store: how many components it has, how many bytes it uses, where each component begins; or there
--- is none, and the index may hold anything
+-- the configuration that the bytes store: how many components it has, how many bytes it uses, where each component
+-- begins; or there is none, and the index may hold anything
 abbrev pub FormIs : Form → List ℕ → Option Configuration → Type 0
 FormIs (form.WellFormed used components) starts (some h) =
     (components ≡ length (h .components)) × (used ≡ usedOf (h .components)) × IsIndex starts (h .components)

@@ -1,8 +1,8 @@
-// Checking that lent bytes are a well-formed hall (document 01, "The stored hall") for a decoded table, and telling where each
-// component begins.
+// Checking that lent bytes are a well-formed hall (document 01, "The stored hall") for a decoded table, and telling
+// where each component begins.
 //
-// The bytes are read once, in place, and may be anything: each scan says how far it came, or that the bytes are malformed. A full
-// hall has no byte behind its last component.
+// The bytes are read once, in place, and may be anything: each scan says how far it came, or that the bytes are
+// malformed. A full hall has no byte behind its last component.
 use buffer::wide;
 use nodes::NodeTest;
 use nodes::node_at;
@@ -26,6 +26,7 @@ use terms::larger;
 ghost use mathlib.Core.Path.{_≡_};
 ghost use Prim.Native.Nat.{_≤_, _<_};
 ghost use lib.ListN.{length, drop};
+ghost use Rattle.semantics.specs.Definitions.Layout.{maxTerms};
 ghost use Rattle.semantics.specs.Definitions.Basics.{zeros};
 ghost use Rattle.stored.specs.Layout.{indexSize};
 ghost use Rattle.storedlaws.specs.Reading.{waits};
@@ -43,8 +44,8 @@ pub enum Form {
     Malformed,
 }
 
-// Whether nothing but zeros stands from an offset on. The largest byte is found first, with no way out of the loop, so that many
-// bytes are compared at once.
+// Whether nothing but zeros stands from an offset on. The largest byte is found first, with no way out of the loop,
+// so that many bytes are compared at once.
 pub fn zeros_from(s: &[u8], from: usize) -> bool
     requires { ⌜ from ≤ length (now s) ⌝ }
     ensures { λ r. ⌜ r ≡ zeros (drop from (now (s .entry))) ⌝ }
@@ -60,7 +61,7 @@ pub fn zeros_from(s: &[u8], from: usize) -> bool
 
 // The kind of the term that a byte names, of a table of n terms: 0 where it has none.
 pub fn term_kind(decoded: &[u8; DECODED], n: usize, byte: u8) -> u8
-    requires { ⌜ n ≤ 200 ⌝ }
+    requires { ⌜ n ≤ maxTerms ⌝ }
     ensures { λ r. ⌜ KindRead (now (decoded .entry)) n byte r ⌝ }
 {
     let i = wide(byte);
@@ -83,10 +84,10 @@ pub fn waits_on(kind: u8) -> bool
     kind == ATOM
 }
 
-// The tree that begins at an offset. `pending` subtrees are still to come, and each has a branch at least, so that a tree of too
-// many branches is given up as soon as it shows: many forks in a row cost no more than few.
+// The tree that begins at an offset. `pending` subtrees are still to come, and each has a branch at least, so that a
+// tree of too many branches is given up as soon as it shows: many forks in a row cost no more than few.
 pub fn tree_scan(decoded: &[u8; DECODED], n: usize, s: &[u8], tree: usize) -> Scan
-    requires { ⌜ (n ≤ 200) × (tree ≤ length (now s)) ⌝ }
+    requires { ⌜ (n ≤ maxTerms) × (tree ≤ length (now s)) ⌝ }
     ensures { λ r. ⌜ TreeRead (now (decoded .entry)) n (now (s .entry)) tree r ⌝ }
 {
     let mut pending: usize = 1;
@@ -99,7 +100,7 @@ pub fn tree_scan(decoded: &[u8; DECODED], n: usize, s: &[u8], tree: usize) -> Sc
         let NodeTest::Branches(branches) = node_at(decoded, n, s, at) else {
             return Scan::Malformed;
         };
-        let kind = buffer::byte_at(s, at);
+        let kind = s[at];
         pending = pending_behind(kind, pending);
         sum += wide(branches);
         at += node_size(kind);
@@ -109,7 +110,7 @@ pub fn tree_scan(decoded: &[u8; DECODED], n: usize, s: &[u8], tree: usize) -> Sc
 
 // The component that begins at an offset.
 pub fn component_scan(decoded: &[u8; DECODED], n: usize, s: &[u8], at: usize) -> Scan
-    requires { ⌜ (n ≤ 200) × (at < length (now s)) ⌝ }
+    requires { ⌜ (n ≤ maxTerms) × (at < length (now s)) ⌝ }
     ensures { λ r. ⌜ ComponentRead (now (decoded .entry)) n (now (s .entry)) at r ⌝ }
 {
     let next = at + IDLE_SIZE;
@@ -144,15 +145,16 @@ pub fn component_scan(decoded: &[u8; DECODED], n: usize, s: &[u8], at: usize) ->
     }
 }
 
-// Whether the bytes are a well-formed hall for a decoded table of n terms: counts, at most 64 components up to the first zero byte
-// or the end, and zeros behind them. Of a well-formed one, `starts` says where each component begins and where the last one ends.
+// Whether the bytes are a well-formed hall for a decoded table of n terms: counts, at most 64 components up to the
+// first zero byte or the end, and zeros behind them. Of a well-formed one, `starts` says where each component begins
+// and where the last one ends.
 pub fn well_formed(
     decoded: &[u8; DECODED],
     n: usize,
     s: &[u8],
     starts: &mut [usize; INDEX_SIZE],
 ) -> Form
-    requires { ⌜ (n ≤ 200) × (length (now starts) ≡ indexSize) ⌝ }
+    requires { ⌜ (n ≤ maxTerms) × (length (now starts) ≡ indexSize) ⌝ }
     ensures { λ r. ⌜ FormRead (now (decoded .entry)) n (now (s .entry)) (now (starts .exit)) r ⌝ }
 {
     if s.len() < CHANNELS {
@@ -160,7 +162,7 @@ pub fn well_formed(
     }
     let mut components: usize = 0;
     let mut at = CHANNELS;
-    starts[components] = at;
+    starts[0] = CHANNELS;
     while at < s.len() {
         if s[at] == 0 {
             if zeros_from(s, at) {

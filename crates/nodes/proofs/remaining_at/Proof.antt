@@ -4,20 +4,14 @@ use borrow.Author.Needs.{needs}
 use Rattle.nodes.proofs.remaining_at.Statement.{statement}
 use Rattle.nodes.proofs.remaining_at.Tie as tie
 
-returns : tie.Need-returns
-returns c = search retry-remains
-
 wide-requires : tie.Need-wide-requires
 wide-requires c κs = search needs
-
-returns-2 : tie.Need-returns-2
-returns-2 c = search no-term
 
 kind-of-requires : tie.Need-kind-of-requires
 kind-of-requires c κs = search needs
 
-returns-3 : tie.Need-returns-3
-returns-3 c = search no-expression
+returns : tie.Need-returns
+returns c = search no-expression
 
 breadth-of-requires : tie.Need-breadth-of-requires
 breadth-of-requires c κs = search needs
@@ -25,18 +19,24 @@ breadth-of-requires c κs = search needs
 length-of-requires : tie.Need-length-of-requires
 length-of-requires c κs = search needs
 
+returns-2 : tie.Need-returns-2
+returns-2 c = search term-remains
+
+returns-3 : tie.Need-returns-3
+returns-3 c = search retry-remains
+
 returns-4 : tie.Need-returns-4
-returns-4 c = search term-remains
+returns-4 c = search no-term
 
 pub remaining-at-spec : {M : Type 1} → statement M
 remaining-at-spec =
     tie.close
     (tie.spec
-    returns
     wide-requires
-    returns-2
     kind-of-requires
-    returns-3
+    returns
     breadth-of-requires
     length-of-requires
+    returns-2
+    returns-3
     returns-4)

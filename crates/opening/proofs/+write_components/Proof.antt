@@ -28,6 +28,22 @@ write-components-below t = and 2 write-components-kinds.ps (falls 2 write-compon
 abbrev callees : ℕ → write-components-lts.Claims
 callees t = (kind-of-reads.Asked, kind-of-reads.Learnt, first-of-reads.Asked, first-of-reads.Learnt, wide-reads.Asked, wide-reads.Learnt, second-of-reads.Asked, second-of-reads.Learnt, write-components-below t, write-components.Post, write-idle-reads.Asked, write-idle-reads.Learnt)
 
+-- what is written
+
+write-components-returns : (t : ℕ) → write-components-lts.Need-returns (callees t) (write-components-at t) write-components.Post
+write-components-returns t c = search both-written
+
+write-components-returns-2 : (t : ℕ) → write-components-lts.Need-returns-2 (callees t) (write-components-at t) write-components.Post
+write-components-returns-2 t c = search nothing-written
+
+write-components-returns-3 : (t : ℕ) → write-components-lts.Need-returns-3 (callees t) (write-components-at t) write-components.Post
+write-components-returns-3 t c = search output-written
+
+write-components-returns-4 : (t : ℕ) → write-components-lts.Need-returns-4 (callees t) (write-components-at t) write-components.Post
+write-components-returns-4 t c = search waiting-written
+
+-- what the calls ask
+
 write-components-kind-of-requires : (t : ℕ) → write-components-lts.Need-kind-of-requires (callees t) (write-components-at t) write-components.Post
 write-components-kind-of-requires t c κs = search inside
 
@@ -80,23 +96,11 @@ write-components-write-idle-requires-2 t c κs = search waiting-fits
 write-components-same-length : (t : ℕ) → write-components-lts.Need-same-length (callees t) (write-components-at t) write-components.Post
 write-components-same-length t c = search needs
 
-write-components-returns : (t : ℕ) → write-components-lts.Need-returns (callees t) (write-components-at t) write-components.Post
-write-components-returns t c = search both-written
-
-write-components-returns-2 : (t : ℕ) → write-components-lts.Need-returns-2 (callees t) (write-components-at t) write-components.Post
-write-components-returns-2 t c = search nothing-written
-
 write-components-same-length-2 : (t : ℕ) → write-components-lts.Need-same-length-2 (callees t) (write-components-at t) write-components.Post
 write-components-same-length-2 t c = search needs
 
-write-components-returns-3 : (t : ℕ) → write-components-lts.Need-returns-3 (callees t) (write-components-at t) write-components.Post
-write-components-returns-3 t c = search output-written
-
 write-components-same-length-3 : (t : ℕ) → write-components-lts.Need-same-length-3 (callees t) (write-components-at t) write-components.Post
 write-components-same-length-3 t c = search needs
-
-write-components-returns-4 : (t : ℕ) → write-components-lts.Need-returns-4 (callees t) (write-components-at t) write-components.Post
-write-components-returns-4 t c = search waiting-written
 
 pub +write-components-spec : {M : Type 1} → statement M
 +write-components-spec = close μ-write-components λ t. write-components-lts.spec (callees t)

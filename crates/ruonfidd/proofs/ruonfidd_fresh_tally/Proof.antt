@@ -1,7 +1,7 @@
 -- `ruonfidd_fresh_tally` meets its contract: the fields of the fresh counters, in order. Assumes nothing.
 use mathlib.Core.Path.{ap}
 use borrow.Author.Needs.{needs}
-use Rattle.ruonfidd.specs.Told.{tallyWords}
+use Rattle.ruonfidd.specs.Answered.{tallyWords}
 use Rattle.ruonfidd.proofs.ruonfidd_fresh_tally.Statement.{statement}
 use Rattle.ruonfidd.proofs.ruonfidd_fresh_tally.Tie as tie
 

@@ -18,7 +18,7 @@ use Rattle.semantics.specs.Definitions.Configuration.{Idle, taking, repe
 use Rattle.semantics.specs.Definitions.Stored.{WellFormed, bytesOf}
 use Rattle.semantics.specs.Definitions.Moves.{Entry, act, inside, refused, answerTo}
 use Rattle.semantics.specs.Definitions.Run.{Counters, RunAnswer, run, schedule, entries}
-use Rattle.semantics.specs.Definitions.Calls.{Verdict, ok, rejected, checkTable, admitted, notAdmitted, admission, checkHall, opened, notOpened, Opening, openHall, IsMoved, Buffers, runCall, runResult}
+use Rattle.semantics.specs.Definitions.Calls.{Verdict, ok, rejected, checkTable, admitted, notAdmitted, admission, checkHall, opened, notOpened, Opening, openHall, IsMoved, Buffers, runCall}
 use Rattle.semantics.specs.Claims.ConverseRuns.{NoComponent, EmptyChannel, TooManyComponents, FullChannel, scheduleBytes}
 use Rattle.semantics.specs.Claims.InnerMoves.{Settled}
 use Rattle.semantics.specs.Claims.Correspondence.{Bytes, Accepts}
@@ -218,8 +218,7 @@ OpenNumbers = (table hall : List ℕ) (o : Opening) → (openHall table hall ≡
 
 -- ---- number 0
 
--- the numbers with which each call refuses: 0 is none of them, so that a 0 told to a caller says that nothing is
--- refused
+-- the numbers with which each call refuses; 0 is none of them (what a told 0 means: Checks/Answers)
 unfoldable pub RefusalNumbers : Type 0
 RefusalNumbers =
     (table hall : List ℕ) (n p : ℕ) →
@@ -316,15 +315,23 @@ OneReason = (h : Configuration) (bs : List ℕ) (m n : ℕ) → Stops h m bs →
 
 -- ---- a run as a call
 
--- turned down 1 to 11: the number and the place of the condition, nothing done, hall and tally untouched; else the run
--- on the hall that the bytes store
+-- turned down 1 to 11: the number and the place of the condition, nothing done, hall and tally untouched; else number,
+-- place and choices done are those of the run on the hall that the bytes store, which stops for its reason, and the
+-- bytes and the tally afterwards are what that run leaves
 unfoldable pub RunCallNumbers : Type 0
 RunCallNumbers =
     (table : List ℕ) (l : Buffers) (bs : List ℕ) → Bytes table → Bytes (l .hall) →
     ((n p : ℕ) → HallCondition table (l .hall) n p →
     runCall table l bs ≡ record { number = n; place = p; done = 0; buffers = l }) ×
     ((t : Table) (h : Configuration) → HallAccepted table (l .hall) t h →
-    runCall table l bs ≡ runResult (run h (l .counters) bs))
+    let a = run h (l .counters) bs in
+    RunStops bs a ×
+    (runCall table l bs ≡ record {
+      number = a .number;
+      place = a .place;
+      done = a .done;
+      buffers = record { hall = bytesOf (a .configuration); counters = a .counters };
+    }))
 
 -- its number is 0 exactly where table and hall are accepted and its place is the end of the choices
 unfoldable pub RunCallZero : Type 0

@@ -18,7 +18,7 @@ use Rattle.semantics.specs.Definitions.Logs.{paths, firstReadable, addTo
 use Rattle.semantics.specs.Definitions.Configuration.{Idle, taking, repeating, block, output, idle, Configuration, opens}
 use Rattle.semantics.specs.Definitions.Moves.{act, inside, moved, answerTo, ruleNumber}
 use Rattle.semantics.specs.Definitions.Run.{steps, finalConfiguration}
-use Rattle.semantics.specs.Claims.ConverseRuns.{PlainState, replacing, ConverseStep, idleConfiguration}
+use Rattle.semantics.specs.Claims.ConverseRuns.{PlainState, replacing, ConverseStep, ConverseSteps, idleConfiguration}
 
 -- what the engine does by choices at p alone, from a hall without attempts: one OUT, IN or REP (rules 1 to 3); or an
 -- attempt is opened, moved inside at some nodes and committed
@@ -46,3 +46,9 @@ ReadableBlocksStep =
     All (λ π. ¬ Included (RD π) (s .counts)) earlier → Included (RD δ) (s .counts) →
     length (replaceAt p (map output (WT δ)) (s .stations)) ≤ 64 →
     ConverseStep s p (replacing s p (without (s .counts) (RD δ)) (map output (WT δ)))
+
+-- any number of steps, none included, make a list of steps: behind each list there may come one step more
+unfoldable pub StepsGoOn : Type 0
+StepsGoOn =
+    ((s : PlainState) → ConverseSteps s s) ×
+    ((s u v : PlainState) (p : ℕ) → ConverseSteps s u → ConverseStep u p v → ConverseSteps s v)

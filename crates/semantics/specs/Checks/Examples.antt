@@ -26,7 +26,7 @@ use Rattle.semantics.specs.Definitions.Configuration.{Idle, taking, repe
 use Rattle.semantics.specs.Definitions.Moves.{Entry, act, inside, Answer, moved, refused, answerTo, Effect, effectOf, ruleNumber, Reply, movedBy, refusedBy, replyOf}
 use Rattle.semantics.specs.Definitions.Run.{entryBytes, Counters, schedule, entries, scheduleBytes, run, steps}
 use Rattle.semantics.specs.Definitions.AtomicRun.{atomicStart, atomicRun}
-use Rattle.semantics.specs.Definitions.Calls.{Verdict, ok, rejected, checkTable, checkHall, admissionVerdict, Admission, admitted, notAdmitted, admission, OpenAnswer, opened, notOpened, openHall, Buffers, runCall, runChoices, afterCalls, entriesDone}
+use Rattle.semantics.specs.Definitions.Calls.{Verdict, ok, rejected, checkTable, checkHall, admissionVerdict, Admission, admitted, notAdmitted, admission, OpenAnswer, opened, notOpened, openHall, Buffers, runCall, runChoices, afterCalls, entriesDone, openVerdict}
 use Rattle.semantics.specs.Claims.Denotation.{WithinLimits}
 use Rattle.semantics.specs.Claims.Atomicity.{answers}
 use Rattle.semantics.specs.Definitions.Report.{printedRun}
@@ -54,8 +54,8 @@ pub record Observed : Type 0 where
   pub counters : Counters
   pub hall : List ℕ
   pub behind : Verdict
-  -- the choices that are accepted on it, each as a suggestion has it, one after another: of all at its positions and the one
-  -- behind them, with the nodes 0 to 15
+  -- the bytes of the choices that are accepted on it, one after another: of all choices at its positions and the one behind
+  -- them, with the nodes 0 to 15
   pub accepts : List ℕ
   -- the one-step run over the choices done, where the hall was opened
   pub oneStep : Option OneStep
@@ -396,11 +396,14 @@ furtherRuns =
     (ran (REP 0 ∷ IN 0 ∷ ATST ∷ ARDOK ∷ AWR ∷ ARDOK ∷ AWR ∷ ATOK (rd 0 ∷ wt 1 ∷ rd 0 ∷ wt 2 ∷ []) ∷ []) 0 20 8 (tally 1 0 0)
     (left [] (numbers "24 1 24 2 20 3 24 1 24 2 24 1 24 2") (numbers "1 0 1 1 1 3 1 4 1 5 1 6"))
     (ascii "R 0 20 8\nC 1 0 0\nT 0 4 -4 0\nP 1\nP 2\nW 3\nP 1\nP 2\nP 1\nP 2\n")) ∷
-    -- for nodes in preorder: (rd 0.end orElse wt 1.end) orElse wt 2.end, both orElse taken apart, the leaves at nodes 2, 3 and 4
-    row (numbers "7 9 0 0 10 1 0 11 1 2 10 2 0 11 3 4 6 5 13 6") (numbers "1 0 2 0 0 2 0 1 2 0 4")
-    (ran (ATST ∷ AOI ∷ AOI ∷ AWR ∷ []) 0 11 4 (tally 0 0 0)
-    (leftOpen [] (attempt 6 [] (22 ∷ 22 ∷ (leafOf 1 0 [] ++ (leafOf 2 0 [] ++ leafOf 0 1 (numbers "18"))))) (noted 6 []) (numbers "2 0 2 2 0 3"))
-    (ascii "R 0 11 4\nC 0 0 0\nA 6 5\n")) ∷
+    -- for nodes in preorder, and both sides of an orElse with the log so far: wt 3.((rd 0.end orElse wt 1.end) orElse wt 2.end), both
+    -- orElse taken apart, the leaves at nodes 2, 3 and 4
+    row (numbers "7 9 0 0 10 1 0 11 1 2 10 2 0 11 3 4 10 3 5 6 6 13 7") (numbers "1 0 2 0 0 2 0 0 2 0 1 2 0 4")
+    (ran (ATST ∷ AWR ∷ AOI ∷ AOI ∷ AWR ∷ []) 0 14 5 (tally 0 0 0)
+    (leftOpen []
+    (attempt 7 [] (22 ∷ 22 ∷ (leafOf 1 1 (numbers "19") ++ (leafOf 2 1 (numbers "19") ++ leafOf 0 2 (numbers "19 18")))))
+    (noted 7 []) (numbers "2 0 2 2 0 3"))
+    (ascii "R 0 14 5\nC 0 0 0\nA 7 5\n")) ∷
     -- against counters that pass 4,294,967,295 or stop before it: one commit, one failure and one retry, each counter once at its
     -- top, once one below
     tallied (tally 4294967295 4294967294 7) (tally 4294967295 4294967295 8) ∷
@@ -627,8 +630,11 @@ printedRuns =
     prints (numbers "7 13") "R 2 1 0\n" ∷
     -- only the first start record ends the table
     prints (numbers "2 1 13 0 13 0") "R 12 0 0\nC 0 0 0\nP 1\n" ∷
-    -- a choice cut short, after one that was done
+    -- behind one choice that was done: a kind that is neither 1 nor 2, and a choice cut short
+    prints (numbers "8 6 0 13 1 1 0 0 0") "R 12 2 1\nC 0 0 0\nA 1 1\n" ∷
+    prints (numbers "8 6 0 13 1 1 0 3 0 0") "R 12 2 1\nC 0 0 0\nA 1 1\n" ∷
     prints (numbers "8 6 0 13 1 1 0 1") "R 13 2 1\nC 0 0 0\nA 1 1\n" ∷
+    prints (numbers "8 6 0 13 1 1 0 2") "R 13 2 1\nC 0 0 0\nA 1 1\n" ∷
     prints (numbers "8 6 0 13 1 1 0 2 0") "R 13 2 1\nC 0 0 0\nA 1 1\n" ∷
     -- the net at both ends: rep 1.put 0 with 255 tokens in tray 1, all of them moved to tray 0
     prints (numbers "2 0 4 1 0 12 1 255 13 1" ++ times 255 (numbers "1 0 1 0")) "R 0 1020 510\nC 0 0 0\nT 0 0 255 255\nT 1 255 -255 0\nW 1\n" ∷
@@ -732,11 +738,33 @@ halls =
     forks zero l r = r
     forks (suc n) l r = 22 ∷ (l ++ forks n l r)
 
+-- turned down, opening and a run leave what they are lent: of another size, under 11, and the table comes first
+unfoldable pub TurnedDown : Type 0
+unfolding storedTable numbers tally verdict openHall openVerdict runCall
+TurnedDown =
+    All (λ h. openHall storedTable h ≡ record { answer = notOpened 10 0; hall = h }) (others ∷ shorter ∷ longer ∷ []) ×
+    All (λ h. runCall storedTable (lentWith h) (numbers "1 0") ≡ record { number = 10; place = 0; done = 0; buffers = lentWith h }) (shorter ∷ longer ∷ []) ×
+    (runCall storedTable (lentWith noise) (numbers "1 0") ≡ record { number = 11; place = 0; done = 0; buffers = lentWith noise }) ×
+    (openHall (numbers "7 0") others ≡ record { answer = notOpened 1 1; hall = others }) ×
+    (map openVerdict (opened (tally 1 2 3) ∷ notOpened 10 0 ∷ notOpened 4 5 ∷ []) ≡ verdict 0 0 ∷ verdict 10 0 ∷ verdict 4 5 ∷ [])
+  where
+    others : List ℕ
+    others = replicate 3 171
+
+    shorter : List ℕ
+    shorter = replicate 11343 171
+
+    longer : List ℕ
+    longer = replicate 11345 171
+
+    lentWith : List ℕ → Buffers
+    lentWith h = record { hall = h; counters = tally 3 4 5 }
+
 -- ---- several calls
 
 -- number, place and done of each call, the choices done over all of them, hall and tally behind them, and the one-step run
 pub record CallsOutcome : Type 0 where
-  pub replyOf : List (List ℕ)
+  pub replies : List (List ℕ)
   pub done : List ℕ
   pub counters : Counters
   pub hall : List ℕ
@@ -749,21 +777,21 @@ callsOutcome table c choices =
     let cs = map runChoices choices in
     let done = entriesDone table l cs in
     record {
-      replyOf = map (λ a. a .number ∷ a .place ∷ a .done ∷ []) (answers table l cs);
+      replies = map (λ a. a .number ∷ a .place ∷ a .done ∷ []) (answers table l cs);
       done = scheduleBytes done;
       counters = (afterCalls table l cs) .counters;
       hall = (afterCalls table l cs) .hall;
       oneStep = oneStepRun (readTable table) none c done;
     }
 
--- rehearsal 1 in three calls, the first ended by 12, the last by 13: each gets hall and tally as the last one left them, and a refused
+-- rehearsal 1 in three calls, the first ended by 16, the last by 13: each gets hall and tally as the last one left them, and a refused
 -- choice and what follows it in its call never reach the one-step run
 unfoldable pub SeveralCalls : Type 0
 unfolding numbers tally filled hallOf callsOutcome
 SeveralCalls =
-    callsOutcome (numbers "7 10 1 0 9 0 1 6 2 12 0 1 13 3") (tally 3 4 5) (numbers "1 0 2 0 0 9 1 0" ∷ numbers "2 0 0 1 0 1 0" ∷ numbers "1" ∷ [])
+    callsOutcome (numbers "7 10 1 0 9 0 1 6 2 12 0 1 13 3") (tally 3 4 5) (numbers "1 0 2 0 0 2 0 5 1 0" ∷ numbers "2 0 0 1 0 1 0" ∷ numbers "1" ∷ [])
     ≡ record {
-      replyOf = numbers "12 5 2" ∷ numbers "0 7 3" ∷ numbers "13 0 0" ∷ [];
+      replies = numbers "16 5 2" ∷ numbers "0 7 3" ∷ numbers "13 0 0" ∷ [];
       done = numbers "1 0 2 0 0 2 0 0 1 0 1 0";
       counters = tally 4 4 5;
       hall = hallOf (numbers "0 1") [];
@@ -799,10 +827,10 @@ abbrev pub Holds : Example → Type 0
 Holds e = observed e ≡ e .expected
 
 unfoldable pub Examples : Type 0
-unfolding observed rehearsals furtherRuns toldOn trials tables printedRuns storedTable halls hallOutcome tableOutcome SeveralCalls admission printedRun readTable
+unfolding observed rehearsals furtherRuns toldOn trials tables printedRuns storedTable halls hallOutcome tableOutcome TurnedDown SeveralCalls admission printedRun readTable
 Examples =
     All Holds rehearsals × All Holds furtherRuns × All (λ r. toldOn (readTable (r .table)) (r .done) (r .tried) ≡ r .expected) trials ×
     All (λ r. tableOutcome (r .table) ≡ r .expected) tables ×
     All (λ r. printedRun (r .input) ≡ r .text) printedRuns ×
     All (λ r. hallOutcome (admission storedTable (r .hall)) ≡ r .expected) halls ×
-    SeveralCalls
+    TurnedDown × SeveralCalls

@@ -1,20 +1,19 @@
--- Worked rows for specs/History and specs/AtomicRun: which trays have gained, to which attempt each choice belongs,
--- what is left without abandoned attempts, and what the one-step run makes of the choices. Proved in
--- proofs/GainExamples, by computation.
+-- Worked rows for Claims/NumberedRun and Definitions/AtomicRun: which trays have gained, to which attempt each choice
+-- belongs, what is left without abandoned attempts, which rules had an effect, and what the one-step run makes of the
+-- choices. Proved in proofs/GainExamples, by computation.
 -- Assumes nothing.
 use Prim.Native.Nat.{ℕ}
 use mathlib.Core.Path.{_≡_}
-use mathlib.Core.List.{List, [], _∷_, _++_, map}
+use mathlib.Core.List.{List, [], _∷_, _++_, map, flatten}
 use lib.ListN.{take, replicate}
 use Rattle.calculus.specs.Syntax.{Name, rd, wt, State}
 use Rattle.calculus.specs.Reduction.{Rule, OUT, IN, REP, ATST, ATRE, ATFAIL, ATOK, ARDOK, ARDF, AWR, AOI, AOF, AOE}
-use Rattle.semantics.specs.Definitions.Terms.{endT, rdT, wtT, orElseT}
-use mathlib.Core.List.{flatten}
+use Rattle.semantics.specs.Definitions.Terms.{endT, rdT, wtT, orElseT, putT}
 use Rattle.semantics.specs.Definitions.Table.{TableAnswer, accepted, refusedAt, readTable}
-use Rattle.semantics.specs.Definitions.Configuration.{Idle, block, output, opening}
+use Rattle.semantics.specs.Definitions.Configuration.{Idle, repeating, block, output, opening}
 use Rattle.semantics.specs.Definitions.Run.{Counters, schedule, entries, scheduleBytes, steps}
 use Rattle.semantics.specs.Definitions.AtomicRun.{atomicStart, atomicRun}
-use Rattle.semantics.specs.Claims.NumberedRun.{numberedStart, gainedSince, members, withoutAborted}
+use Rattle.semantics.specs.Claims.NumberedRun.{numberedStart, gainedSince, members, withoutAborted, effects}
 
 -- ---- gains
 
@@ -48,13 +47,15 @@ GainRows = map (λ r. gainedSince (r .opening) (r .done)) gainRows ≡ map (λ r
 -- ---- attempts and the one-step run
 
 -- the bytes of a table and of choices, and a first tally; then the attempt that each choice belongs to, the bytes of
--- those that are left without abandoned attempts, and the one-step run's counts, stations and tally
+-- those that are left without abandoned attempts, the rules done that had an effect, and the one-step run's counts,
+-- stations and tally
 pub record RunRow : Type 0 where
   pub table : List ℕ
   pub choices : List ℕ
   pub first : Counters
   pub attempts : List ℕ
   pub left : List ℕ
+  pub effects : List Rule
   pub counts : State
   pub stations : List Idle
   pub tally : Counters
@@ -62,7 +63,7 @@ pub record RunRow : Type 0 where
 unfoldable pub tallied : (commits failed retries : ℕ) → Counters
 tallied c f r = record { commits = c; failed = f; retries = r }
 
--- padded16 counts, these first
+-- 16 counts: these first, then zeros
 unfoldable pub padded16 : List ℕ → State
 padded16 σ = take 16 (σ ++ replicate 16 0)
 
@@ -76,6 +77,7 @@ runRows =
       first = tallied 0 0 0;
       attempts = 0 ∷ 1 ∷ 0 ∷ 1 ∷ 0 ∷ 1 ∷ [];
       left = 1 ∷ 0 ∷ 2 ∷ 0 ∷ 0 ∷ 1 ∷ 0 ∷ [];
+      effects = ATOK (rd 0 ∷ []) ∷ [];
       counts = padded16 [];
       stations = block 2 (rdT 1 0 (endT 0)) ∷ [];
       tally = tallied 1 1 0;
@@ -88,6 +90,7 @@ runRows =
       first = tallied 4294967295 7 4294967294;
       attempts = 0 ∷ 0 ∷ 0 ∷ 3 ∷ 4 ∷ 4 ∷ 4 ∷ [];
       left = 1 ∷ 0 ∷ 1 ∷ 0 ∷ 2 ∷ 0 ∷ 0 ∷ 1 ∷ 0 ∷ [];
+      effects = OUT 0 ∷ ATOK (rd 0 ∷ []) ∷ [];
       counts = padded16 [];
       stations = [];
       tally = tallied 4294967295 7 4294967295;
@@ -99,6 +102,7 @@ runRows =
       first = tallied 0 0 0;
       attempts = 0 ∷ 1 ∷ 0 ∷ 0 ∷ 0 ∷ 0 ∷ 0 ∷ [];
       left = 1 ∷ 0 ∷ 1 ∷ 1 ∷ 2 ∷ 0 ∷ 0 ∷ 2 ∷ 0 ∷ 1 ∷ 2 ∷ 0 ∷ 0 ∷ 2 ∷ 0 ∷ 0 ∷ 1 ∷ 0 ∷ [];
+      effects = OUT 0 ∷ ATOK (wt 2 ∷ []) ∷ [];
       counts = padded16 (1 ∷ []);
       stations = output 2 ∷ [];
       tally = tallied 1 0 0;
@@ -110,15 +114,28 @@ runRows =
       first = tallied 0 0 0;
       attempts = 0 ∷ 1 ∷ 1 ∷ 1 ∷ 1 ∷ 1 ∷ [];
       left = 1 ∷ 0 ∷ 1 ∷ 1 ∷ 2 ∷ 1 ∷ 0 ∷ 2 ∷ 1 ∷ 1 ∷ 2 ∷ 1 ∷ 0 ∷ 1 ∷ 1 ∷ [];
+      effects = ATOK (wt 1 ∷ []) ∷ [];
       counts = padded16 [];
       stations = block 4 (orElseT 3 (wtT 1 1 (endT 0)) (wtT 2 2 (endT 0))) ∷ output 1 ∷ [];
       tally = tallied 1 0 0;
+    } ∷
+    -- rep 0.put 1 beside take 0.nil, two tokens: no attempt, and every choice has an effect
+    record {
+      table = 1 ∷ 2 ∷ 1 ∷ 4 ∷ 0 ∷ 1 ∷ 3 ∷ 0 ∷ 0 ∷ 5 ∷ 2 ∷ 3 ∷ 12 ∷ 0 ∷ 2 ∷ 13 ∷ 4 ∷ [];
+      choices = 1 ∷ 1 ∷ 1 ∷ 0 ∷ 1 ∷ 0 ∷ [];
+      first = tallied 0 0 0;
+      attempts = 0 ∷ 1 ∷ 2 ∷ [];
+      left = 1 ∷ 1 ∷ 1 ∷ 0 ∷ 1 ∷ 0 ∷ [];
+      effects = IN 0 ∷ REP 0 ∷ OUT 1 ∷ [];
+      counts = padded16 (0 ∷ 1 ∷ []);
+      stations = repeating 2 0 (putT 1 1) ∷ [];
+      tally = tallied 0 0 0;
     } ∷
     []
 
 -- a row anew, from its table, its choices and its first tally; no row for a refused table
 unfoldable pub followed : RunRow → TableAnswer → List RunRow
-unfolding members numberedStart steps opening withoutAborted scheduleBytes atomicRun atomicStart entries schedule
+unfolding members numberedStart steps opening withoutAborted effects scheduleBytes atomicRun atomicStart entries schedule
 followed r (refusedAt n p) = []
 followed r (accepted t) =
     let es = entries (schedule (r .choices)) in
@@ -130,6 +147,7 @@ followed r (accepted t) =
       first = r .first;
       attempts = map (λ m. m .attempt) ms;
       left = scheduleBytes (withoutAborted ms);
+      effects = effects (steps (opening t) es);
       counts = s .counts;
       stations = map (λ x. x .station) (s .stations);
       tally = s .counters;

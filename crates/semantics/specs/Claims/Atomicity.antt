@@ -16,12 +16,12 @@ use Rattle.semantics.specs.Definitions.Logs.{emptyLog, firstReadable}
 use Rattle.semantics.specs.Definitions.Configuration.{Idle, block, Tree, leaf, Component, idle, transaction, Configuration, opening}
 use Rattle.semantics.specs.Definitions.Stored.{hallBytes, bytesOf, configurationOf}
 use Rattle.semantics.specs.Definitions.Moves.{Entry, act}
-use Rattle.semantics.specs.Definitions.Run.{Counters, Step, steps}
+use Rattle.semantics.specs.Definitions.Run.{Counters, scheduleBytes, run, Step, steps}
 pub use Rattle.semantics.specs.Definitions.Run.{finalConfiguration}
 use Rattle.semantics.specs.Definitions.AtomicRun.{Atomic, atomicStart, atomicRun}
 use Rattle.semantics.specs.Definitions.Calls.{Buffers, RunCall, Call, callAnswer, afterCalls, entriesDone, openHall, runCall}
 use Rattle.semantics.specs.Claims.NumberedRun.{aborts, withoutAborted, effects, numberedStart, numberedRun, gainedSince, members}
-use Rattle.semantics.specs.Claims.ConverseRuns.{PlainState, plainStart, ConverseSteps, idleConfiguration, scheduleBytes}
+use Rattle.semantics.specs.Claims.ConverseRuns.{PlainState, plainStart, ConverseSteps, idleConfiguration}
 use Rattle.semantics.specs.Claims.InnerMoves.{Moves}
 use Rattle.semantics.specs.Claims.Correspondence.{Bytes, Accepts}
 
@@ -114,6 +114,14 @@ module _ (table : List ℕ) (t : Table) (buffer : List ℕ) (first : Counters) (
     pub counts : left .counts ≡ atomic .counts
     pub stations : map rolledBack (left .components) ≡ map (λ x. x .station) (atomic .stations)
     pub tally : finalBuffers .counters ≡ atomic .counters
+    -- Sentence 1, all along the way: the same of the first j choices done, run by themselves.
+    pub each-choice :
+        (j : ℕ) →
+        let a = run (opening t) first (scheduleBytes (take j done)) in
+        let o = atomicRun (atomicStart t first) (take j done) in
+        (a .number ≡ 0) × (a .configuration ≡ finalConfiguration (opening t) (take j (steps (opening t) done))) ×
+        (a .configuration .counts ≡ o .counts) × (a .counters ≡ o .counters) ×
+        (map rolledBack (a .configuration .components) ≡ map (λ x. x .station) (o .stations))
     -- Sentence 2, a block acts at once: so `atomic` is defined. And abandoned attempts: take their choices away, and
     -- the list is still accepted whole, to the same bytes; the one-step run ends in the same state and with as many
     -- commits, while failed and retries are the first tally's; all that had an effect is done in the same order; no

@@ -3,7 +3,7 @@ use Prim.Native.Nat.{_+_, _-_, _≤_}
 use native.Mathlib.Omega.{arith}
 use lib.ListN.{length}
 use Rattle.stored.proofs.Nodes.{size-bounds, pending-bound}
-use Rattle.wellformed.proofs.Trees.{TreeSoFar, tree-begun, tree-crowded, tree-done, tree-broken, tree-turn, tree-falls}
+use Rattle.wellformed.proofs.Trees.{TreeSoFar, node-there, tree-begun, tree-crowded, tree-done, tree-broken, tree-turn, tree-falls}
 use borrow.Author.Needs.{needs}
 use Rattle.wellformed.proofs.tree_scan.Statement.{statement}
 use Rattle.wellformed.proofs.tree_scan.Tie as tie
@@ -35,8 +35,8 @@ enum-told c = search needs
 returns-2 : tie.Need-returns-2 Inv-loop μ-loop
 returns-2 c = search tree-broken
 
-byte-at-requires : tie.Need-byte-at-requires Inv-loop μ-loop
-byte-at-requires c κs = search needs
+shared-slice-read-kind : tie.Need-shared-slice-read-kind Inv-loop μ-loop
+shared-slice-read-kind c = search node-there
 
 pending-behind-requires : tie.Need-pending-behind-requires Inv-loop μ-loop
 pending-behind-requires c κs = search needs
@@ -75,7 +75,7 @@ tree-scan-spec =
     enum-known-branches
     enum-told
     returns-2
-    byte-at-requires
+    shared-slice-read-kind
     pending-behind-requires
     wide-requires
     add-sum

@@ -1,6 +1,5 @@
 -- `well_formed` meets its contract: the components so far lead to what the bytes store. Assumes nothing.
 use Prim.Native.Nat.{_-_}
-use native.Mathlib.Omega.{arith}
 use lib.ListN.{length}
 use Rattle.wellformed.proofs.Forms.{HallSoFar, hall-short, hall-begun, hall-over, hall-zeros, hall-no-zeros, hall-full, hall-broken, hall-next, hall-falls}
 use borrow.Author.Needs.{needs}
@@ -15,9 +14,6 @@ abbrev μ-loop : tie.MeasureT-loop
 
 returns : tie.Need-returns Inv-loop μ-loop
 returns c = search hall-short
-
-mul-starts : tie.Need-mul-starts Inv-loop μ-loop
-mul-starts c = search needs
 
 element-write-starts : tie.Need-element-write-starts Inv-loop μ-loop
 element-write-starts c = search needs
@@ -55,8 +51,8 @@ returns-5 c = search hall-broken
 add-components : tie.Need-add-components Inv-loop μ-loop
 add-components c = search needs
 
-mul-starts-2 : tie.Need-mul-starts-2 Inv-loop μ-loop
-mul-starts-2 c = search needs
+mul-starts : tie.Need-mul-starts Inv-loop μ-loop
+mul-starts c = search needs
 
 element-write-starts-2 : tie.Need-element-write-starts-2 Inv-loop μ-loop
 element-write-starts-2 c = search needs
@@ -77,7 +73,6 @@ well-formed-spec =
     Inv-loop
     μ-loop
     returns
-    mul-starts
     element-write-starts
     loop-holds
     shared-slice-read-if2
@@ -90,7 +85,7 @@ well-formed-spec =
     enum-told
     returns-5
     add-components
-    mul-starts-2
+    mul-starts
     element-write-starts-2
     loop-less
     loop-again
