@@ -2,7 +2,8 @@
 --
 -- Where the print has slips, the text decides: COM leaves the state as it was; ATOK's outputs are those of WT(δ) and
 -- its state is σ without RD(δ). COM is printed with the output on the left; here it stands both ways round.
--- A reduction is labelled with the axiom at its root, or with COM: PARL, PARR, ATPASS, AOL and AOR pass the label on.
+-- A reduction is labelled with the axiom that it rests on, or with COM: PARL, PARR, ATPASS, AOL and AOR pass the label
+-- on.
 -- Assumes nothing.
 use Rattle.calculus.specs.Syntax.{Name, rd, wt, Log, State, Expr, end, retry, prefix, orElse, Ongoing, running, orElse′, Process, nil, out, inp, rep, par, atom, ongoing}
 use Rattle.calculus.specs.State.{Included, Plus, without, SameNames}

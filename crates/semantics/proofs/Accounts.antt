@@ -14,13 +14,14 @@ use Rattle.calculus.specs.State.{count, same, Included}
 use Rattle.calculus.specs.Log.{RD}
 use Rattle.calculus.specs.Reduction.{Rule, Label, by, COM, Evolves, ardok, ardf, awr, aoi, aof, aoe, aol, aor, Reduces, OUTr, INr, REPr, COMl, COMr, PARL, PARR, ATSTr, ATPASS, ATREr, ATFAILr, ATOKr}
 use Rattle.calculus.proofs.States.{count-plus, count-without}
+use Rattle.semantics.specs.Definitions.Layout.{counterTop}
 use Rattle.semantics.specs.Definitions.Terms.{Term}
 use Rattle.semantics.specs.Definitions.Configuration.{Component, Configuration}
 use Rattle.semantics.specs.Definitions.Stored.{WellFormed}
 use Rattle.semantics.specs.Claims.Denotation.{componentProcess, Denotes, nothing, alone, beside}
 use Rattle.semantics.specs.Checks.AcceptedTables.{GoodTable}
 use Rattle.semantics.specs.Definitions.Moves.{Entry, moved, answerTo, ruleNumber}
-use Rattle.semantics.specs.Definitions.Run.{ScheduleItem, entries, Counters, counterTop, countedAt, counted, net, RunAnswer, runFrom, run, schedule, Step, steps}
+use Rattle.semantics.specs.Definitions.Run.{ScheduleItem, entries, Counters, countedAt, counted, net, RunAnswer, runFrom, run, schedule, Step, steps}
 use Rattle.semantics.specs.Claims.Correspondence.{OneReduction}
 use Rattle.semantics.specs.Claims.Accounts.{adds, removes, total, byRule, Accounts, WithinTop, RunAccounts, CallsAccounts}
 use Rattle.semantics.proofs.Moves.{run-induction}

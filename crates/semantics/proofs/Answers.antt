@@ -5,7 +5,7 @@ use native.Mathlib.Omega.{arith}
 use mathlib.Core.Path.{_≡_, refl, ap}
 use mathlib.Core.Logic.{_↔_}
 use mathlib.Core.List.{List}
-use Rattle.semantics.specs.Definitions.Calls.{Verdict, ok, rejected, verdictNumber, checkTable, checkHall, OpenAnswer, opened, notOpened, Opening, openHall, openVerdict}
+use Rattle.semantics.specs.Definitions.Calls.{Verdict, ok, rejected, verdictNumber, checkTable, checkHall, opened, Opening, openHall, openVerdict}
 use Rattle.semantics.specs.Checks.Conditions.{Opens, not-opened, is-opened, OpenNumbers, RefusalNumbers}
 use Rattle.semantics.specs.Checks.Answers.{VerdictTold, OpeningTold, SuggestionTold, ChoiceTold, AnswersTold, ZeroIsAccepted}
 use Rattle.semantics.proofs.HallConditions.{open-numbers, refusal-numbers}

@@ -6,13 +6,11 @@ use mathlib.Core.Path.{_≡_, refl, ap, _∙_}
 use mathlib.Core.List.{List, [], _∷_, _++_, append-assoc, append-nil}
 use lib.ListN.{length, take, length-append, length-take}
 use Rattle.calculus.specs.Reduction.{Rule}
-use Rattle.semantics.specs.Definitions.Table.{Table}
 use Rattle.semantics.specs.Definitions.Configuration.{Configuration}
 use Rattle.semantics.specs.Definitions.Stored.{WellFormed, bytesOf}
 use Rattle.semantics.specs.Definitions.Moves.{Entry, act, inside, Answer, moved, refused, answerTo}
 use Rattle.semantics.specs.Definitions.Run.{Counters, counted, ScheduleItem, entry, malformed, schedule, entries, RunAnswer, continueRun, runFrom, run}
-use Rattle.semantics.specs.Definitions.Calls.{Buffers, Call, runChoices, Admission, admitted, notAdmitted, admission, RunCall, runResult, runAdmitted, runCall, callAnswer, callEntries, afterCalls, entriesDone}
-use Rattle.semantics.specs.Claims.Correspondence.{Accepts}
+use Rattle.semantics.specs.Definitions.Calls.{Buffers, Call, runChoices, Admission, admitted, notAdmitted, admission, runResult, runAdmitted, runCall, callAnswer, callEntries, afterCalls, entriesDone}
 use Rattle.semantics.specs.Claims.Atomicity.{answers}
 use Rattle.semantics.specs.Checks.CallLists.{CallsInTurn, CallsCut}
 use Rattle.semantics.proofs.GoodTable.{accepted-is-good}

@@ -17,6 +17,7 @@ use Rattle.calculus.specs.State.{count, Plus}
 use Rattle.calculus.specs.Log.{WT}
 use Rattle.calculus.specs.Reduction.{Rule, OUT, IN, REP, by, COM, Evolves, ardok, ardf, awr, aoi, aof, aoe, aol, aor, outputs, LogOrder, Reduces, OUTr, INr, REPr, PARL, PARR, ATSTr, ATPASS, ATREr, ATFAILr, ATOKr}
 use Rattle.calculus.proofs.Reductions.{no-output-inside}
+use Rattle.semantics.specs.Definitions.Run.{InBytes}
 use Rattle.semantics.specs.Definitions.Basics.{replaceAt, All}
 use Rattle.semantics.specs.Definitions.Terms.{Expression, endT, retryT, rdT, wtT, orElseT, Program, Term}
 use Rattle.semantics.specs.Definitions.Table.{Table}
@@ -24,7 +25,7 @@ use Rattle.semantics.specs.Definitions.Logs.{emptyLog, addToken, takeTok
 use Rattle.semantics.specs.Definitions.Configuration.{Idle, taking, repeating, block, output, Tree, leaf, fork, Component, idle, transaction, Configuration, branchesOf, nodes, opens}
 use Rattle.semantics.specs.Definitions.Stored.{ComponentOk, WellFormed}
 use Rattle.semantics.specs.Definitions.Moves.{Entry, act, inside, moves, takes, puts, acts, evolves, outOfRange, inner}
-use Rattle.semantics.specs.Claims.Correspondence.{Accepts, InBytes, HasChoices, Completeness}
+use Rattle.semantics.specs.Claims.Correspondence.{Accepts, HasChoices, Completeness}
 use Rattle.semantics.specs.Claims.Denotation.{expr, proc, ongoingOf, componentProcess, Denotes, nothing, alone, beside, parallel, Bounded, WithinLimits}
 use Rattle.semantics.proofs.Lists.{found-below, found-left, found-right, replaceAt-left, replaceAt-right, all-at, all-getD}
 use Rattle.semantics.proofs.Readable.{included-readable, not-included-unreadable}

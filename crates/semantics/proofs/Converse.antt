@@ -2,7 +2,7 @@
 -- the first path readable at commit there are choices that are accepted whole by one call and end with its counts and
 -- stations and no attempt open.
 -- Assumes nothing.
-use Prim.Native.Nat.{ℕ, suc, _+_, _≤_, _<_}
+use Prim.Native.Nat.{ℕ, _+_, _≤_, _<_}
 use native.Mathlib.Omega.{arith}
 use mathlib.Core.Path.{_≡_, refl, sym, ap, _∙_}
 use mathlib.Core.Logic.{_⊎_, inl, inr}
@@ -15,19 +15,19 @@ use Rattle.calculus.specs.Syntax.{Name, Log, State}
 use Rattle.calculus.specs.State.{count, without}
 use Rattle.calculus.specs.Log.{RD, WT}
 use Rattle.calculus.specs.Reduction.{Rule, OUT, IN, REP, ATST, ATOK}
-use Rattle.semantics.specs.Definitions.Basics.{replaceAt, firstOf, All}
+use Rattle.semantics.specs.Definitions.Basics.{replaceAt, firstOf, All, Bytes}
 use Rattle.semantics.specs.Definitions.Terms.{Expression, endT, atomT, Term, process, expression, number, branches}
 use Rattle.semantics.specs.Definitions.Table.{Table}
 use Rattle.semantics.specs.Definitions.Logs.{emptyLog, readable, paths, firstReadable, addToken, takeToken}
 use Rattle.semantics.specs.Definitions.Configuration.{Idle, taking, repeating, block, output, Tree, leaf, Component, idle, transaction, Configuration, opens, opening}
 use Rattle.semantics.specs.Definitions.Moves.{Entry, act, inside, moves, takes, puts, commits, ends, acts, evolves, inner, innerLocal, actsInside, moved, answerTo, ruleNumber}
-use Rattle.semantics.specs.Definitions.Run.{Counters, run}
+use Rattle.semantics.specs.Definitions.Run.{Counters, run, InBytes, entryBytes, scheduleBytes}
 use Rattle.semantics.specs.Checks.AcceptedTables.{GoodTable}
 use Rattle.semantics.specs.Definitions.Stored.{hallBytes, ComponentOk, WellFormed, bytesOf}
 use Rattle.semantics.specs.Definitions.Calls.{Call, runResult, runCall}
 use Rattle.semantics.specs.Claims.Atomicity.{firstBuffers, initialBuffers}
-use Rattle.semantics.specs.Claims.Correspondence.{Bytes, Accepts, InBytes}
-use Rattle.semantics.specs.Claims.ConverseRuns.{PlainState, plainStart, replacing, ConverseStep, stepOut, stepIn, stepRep, stepCommit, ConverseSteps, noStep, stepThen, idleConfiguration, entryBytes, scheduleBytes}
+use Rattle.semantics.specs.Claims.Correspondence.{Accepts}
+use Rattle.semantics.specs.Claims.ConverseRuns.{PlainState, plainStart, replacing, ConverseStep, stepOut, stepIn, stepRep, stepCommit, ConverseSteps, noStep, stepThen, idleConfiguration}
 use Rattle.semantics.proofs.Lists.{found-below, found-map, length-replaceAt, map-replaceAt, all-append, all-at, replaced-here, replaceAt-twice}
 use Rattle.semantics.proofs.Moves.{positionOf, localMove, accepted-inverts, accepted-made}
 use Rattle.semantics.proofs.GoodTable.{accepted-is-good}

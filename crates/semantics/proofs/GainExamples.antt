@@ -1,6 +1,6 @@
 -- The rows on gains, attempts and the one-step run follow from the definitions, by computation.
 -- Assumes nothing.
-use mathlib.Core.Path.{_≡_, refl}
+use mathlib.Core.Path.{refl}
 use Rattle.semantics.specs.Checks.GainExamples.{GainRows, RunRows}
 
 pub gain-rows : GainRows

@@ -10,13 +10,13 @@ use lib.ListN.{length, getElem?}
 use borrow.Author.Tests.{le-leb}
 use Rattle.calculus.specs.Syntax.{Name, rd, wt, Log, State}
 use Rattle.calculus.specs.Reduction.{Rule, ARDOK, ARDF, AWR, AOI, AOF, AOE}
+use Rattle.semantics.specs.Definitions.Run.{InBytes}
 use Rattle.semantics.specs.Definitions.Basics.{replaceAt}
 use Rattle.semantics.specs.Definitions.Terms.{Expression, endT, retryT, rdT, wtT, orElseT}
 use Rattle.semantics.specs.Definitions.Logs.{readable}
 use Rattle.semantics.specs.Definitions.Configuration.{Tree, leaf, fork, Component, transaction, Configuration, branchesOf}
 use Rattle.semantics.specs.Definitions.Stored.{ComponentOk}
-use Rattle.semantics.specs.Definitions.Moves.{inside, moved, moves, atPosition, answerTo, Inner, evolves, noRule, outOfRange, inner, innerLocal, ruleNumber}
-use Rattle.semantics.specs.Claims.Correspondence.{InBytes}
+use Rattle.semantics.specs.Definitions.Moves.{inside, moved, moves, answerTo, Inner, evolves, noRule, outOfRange, inner, innerLocal, ruleNumber}
 use Rattle.semantics.specs.Claims.InnerMoves.{weight, Settled, Moves, unmoved, movedOn, MovesEnd, MovesGoOn, SettledRests, OneEnd, EndsWith, MovesSettleFirstPath}
 use Rattle.semantics.proofs.Measures.{tree-branches-positive}
 use Rattle.semantics.proofs.Lists.{found-below, length-replaceAt, all-at}

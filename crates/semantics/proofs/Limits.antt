@@ -3,7 +3,6 @@
 -- Assumes nothing.
 use native.Mathlib.Omega.{arith}
 use Rattle.semantics.specs.Claims.Correspondence.{EveryHallDenotes, AcceptedIsWithinLimits}
-use Rattle.semantics.specs.Claims.Denotation.{WithinLimits}
 use Rattle.semantics.proofs.GoodTable.{accepted-is-good}
 use Rattle.semantics.proofs.WellFormedKept.{well-formed-step}
 use Rattle.semantics.proofs.Completeness.{stands-length}

@@ -12,6 +12,7 @@ use Rattle.semantics.specs.Definitions.Basics.{replaceAt, All}
 -- the worked examples are checked before any law, so that a wrong definition is first refused by a row that shows it
 use Rattle.semantics.proofs.Examples as Worked
 use Rattle.semantics.proofs.GainExamples as WorkedHistories
+use Rattle.semantics.proofs.EdgeExamples as Edges
 
 -- ---- the element at a position
 

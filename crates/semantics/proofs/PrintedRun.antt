@@ -5,23 +5,24 @@ use native.Mathlib.Omega.{arith}
 use mathlib.Core.Path.{_≡_, refl, sym, ap, _∙_}
 use mathlib.Core.Logic.{_≢_}
 use mathlib.Core.Bool.{Bool, true, false, cond}
-use mathlib.Core.Option.{Option, none, some}
+use mathlib.Core.Option.{Option, none, some, bind}
 use mathlib.Core.List.{List, [], _∷_, _++_}
 use lib.ListN.{length, take, drop, length-drop}
 use lib.Seq.{take-at, drop-append-le, drop-length}
 use lib.Dec.{eqb, ltb}
 use borrow.Author.Tests.{eqb-true, eqb-false, eq-eqb, ne-eqb, ltb-false, lt-ltb, le-ltb}
 use Rattle.semantics.specs.Definitions.Basics.{firstOf}
-use mathlib.Core.Option.{bind}
 use Rattle.semantics.specs.Definitions.Terms.{Program}
-use Rattle.semantics.specs.Definitions.Table.{Kind, kindOf, fields, Reading, Table, TableAnswer, accepted, refusedAt, Content, termRecord, tokensRecord, startRecord, recordContent, Test, tests, RecordOutcome, stop, more, tableEnd, recordPassed, recordTested, recordOfKind, readRecord, thenRead, readFrom, emptyReading, readTable}
+use Rattle.semantics.specs.Definitions.Table.{Kind, kindOf, fields, Reading, Table, TableAnswer, accepted, refusedAt, Content}
+use Rattle.semantics.specs.Definitions.Table.{termRecord, tokensRecord, startRecord, recordContent, Test, tests, RecordOutcome, stop, more, tableEnd}
+use Rattle.semantics.specs.Definitions.Table.{recordPassed, recordTested, recordOfKind, readRecord, thenRead, readFrom, emptyReading, readTable}
 use Rattle.semantics.specs.Definitions.Configuration.{opening}
 use Rattle.semantics.specs.Definitions.Stored.{WellFormed, hallBytes, bytesOf, configurationOf}
 use Rattle.semantics.specs.Definitions.Run.{freshCounters, run}
 use Rattle.semantics.specs.Definitions.Calls.{opened, openSized, openTested, openHall, runResult}
 use Rattle.semantics.specs.Definitions.Report.{report, skipRecord, tableSize, splitReport, sizedReport, printedRun}
 use Rattle.semantics.specs.Claims.Correspondence.{Accepts}
-use Rattle.semantics.specs.Checks.PrintedRun.{TableEnds, at-start, past-record, TablePart, up-to-start, all-of-it, TableFound, AcceptedIsFound, PrintedLong, PrintedRefused, PrintsCalls, PrintedAsCalls}
+use Rattle.semantics.specs.Checks.PrintedRun.{TableEnds, at-start, past-record, TablePart, up-to-start, all-of-it, TableFound, AcceptedIsFound, PrintedLong, PrintedRefused, PrintedAsCalls}
 use Rattle.semantics.proofs.GoodTable.{accepted-is-good}
 use Rattle.semantics.proofs.RecordShapes.{kindNumber, kind-number, ContentReason, said-reason}
 use Rattle.semantics.proofs.RoundTrip.{read-back, opening-is-well-formed}
@@ -54,7 +55,8 @@ ends-at (suc f) (k ∷ bs) n e = from (eqb k 13) refl e (λ size m. ends-at f (d
         ((size m : ℕ) → tableSize f (drop size bs) ≡ some m → TableEnds (drop size bs) m) → TableEnds (k ∷ bs) n
     over K named ne none p q later = let z : _≡_ {A = ℕ} 0 1 = cc in absurd (omega arith)
     over K named ne (some m) p q later =
-        let z : suc (length (fields K)) + m ≡ n = cc in rw (← z) (past-record K named ne (later (length (fields K)) m p))
+        let z : suc (length (fields K)) + m ≡ n = cc in
+        rw (← z) (past-record K named ne (later (length (fields K)) m p))
 
     by-kind : (o : Option Kind) → kindOf k ≡ o → k ≢ 13 → skipRecord o rest ≡ some n →
         ((size m : ℕ) → tableSize f (drop size bs) ≡ some m → TableEnds (drop size bs) m) → TableEnds (k ∷ bs) n
@@ -74,7 +76,8 @@ part-of bs (some n) = take n bs
 part-found : (bs : List ℕ) (o : Option ℕ) → tableSize (suc (length bs)) bs ≡ o → TablePart bs (part-of bs o)
 unfolding part-of
 part-found bs none e =
-    all-of-it (λ n x. let s = size-of (suc (length bs)) bs n x (omega arith) in let z : _≡_ {A = ℕ} 0 1 = cc in omega arith)
+    all-of-it
+    (λ n x. let s = size-of (suc (length bs)) bs n x (omega arith) in let z : _≡_ {A = ℕ} 0 1 = cc in omega arith)
 part-found bs (some n) e = up-to-start n (ends-at (suc (length bs)) bs n e)
 
 -- and nothing else is
@@ -96,7 +99,8 @@ table-found bs =
 -- ---- an accepted table is found in front of any choices
 
 -- a record that passed its tests has its whole body
-whole-body : (r : Reading) (K : Kind) (bs : List ℕ) → firstOf (λ t. t .holds) (tests r K bs) ≡ none → length (fields K) ≤ length bs
+whole-body : (r : Reading) (K : Kind) (bs : List ℕ) → firstOf (λ t. t .holds) (tests r K bs) ≡ none →
+    length (fields K) ≤ length bs
 unfolding firstOf tests
 whole-body r K bs e = ltb-false _ _ (fails (ltb (length bs) (length (fields K))) _ _ e)
   where
@@ -115,25 +119,31 @@ module _ (cs : List ℕ) where
 
   -- over a record that is no start record
   record-ends : (k : ℕ) (rest : List ℕ) (K : Kind) → kindOf k ≡ some K → k ≢ 13 → length (fields K) ≤ length rest →
-      TableEnds (drop (length (fields K)) rest ++ cs) (length (drop (length (fields K)) rest)) → TableEnds (k ∷ (rest ++ cs)) (suc (length rest))
+      TableEnds (drop (length (fields K)) rest ++ cs) (length (drop (length (fields K)) rest)) →
+      TableEnds (k ∷ (rest ++ cs)) (suc (length rest))
   record-ends k rest K named ne whole x =
       let size = length (fields K) in
       let n : suc size + length (drop size rest) ≡ suc (length rest) = simp length-drop (omega arith) in
-      rw (← n) (past-record {n = length (drop size rest)} {bs = rest ++ cs} K named ne (rw (drop-append-le size rest cs whole) x))
+      rw (← n)
+      (past-record {n = length (drop size rest)} {bs = rest ++ cs} K named ne
+      (rw (drop-append-le size rest cs whole) x))
 
-  closed-ends : (r : Reading) (P : Program) (k at : ℕ) (rest : List ℕ) → k ≡ 13 → 1 ≤ length rest → AnswerEnds (k ∷ rest) (tableEnd r P at (drop 1 rest))
+  closed-ends : (r : Reading) (P : Program) (k at : ℕ) (rest : List ℕ) → k ≡ 13 → 1 ≤ length rest →
+      AnswerEnds (k ∷ rest) (tableEnd r P at (drop 1 rest))
   unfolding tableEnd AnswerEnds
   closed-ends r P k at [] e h = absurd (omega arith)
   closed-ends r P k at (x ∷ []) e h = rw e at-start
   closed-ends r P k at (x ∷ y ∷ ys) e h = tt
 
-  passed-ends : (r : Reading) (k at : ℕ) (rest : List ℕ) (K : Kind) → kindOf k ≡ some K → length (fields K) ≤ length rest →
-      (c : Content) → ContentReason K rest c → TurnEnds (k ∷ rest) (recordPassed r c (suc (length (fields K))) at (drop (length (fields K)) rest))
+  passed-ends : (r : Reading) (k at : ℕ) (rest : List ℕ) (K : Kind) → kindOf k ≡ some K →
+      length (fields K) ≤ length rest → (c : Content) → ContentReason K rest c →
+      TurnEnds (k ∷ rest) (recordPassed r c (suc (length (fields K))) at (drop (length (fields K)) rest))
   unfolding recordPassed TurnEnds
   passed-ends r k at rest K named whole (termRecord u) y =
       let n = kind-number k K named in record-ends k rest K named (λ z. omega arith) whole
   passed-ends r k at rest K named whole (tokensRecord a m) y =
-      let n = kind-number k K named in record-ends k rest K named (λ z. let w : kindNumber K ≡ 12 = y .0 in omega arith) whole
+      let n = kind-number k K named in
+      record-ends k rest K named (λ z. let w : kindNumber K ≡ 12 = y .0 in omega arith) whole
   passed-ends r k at rest K named whole (startRecord P) y =
       rw (y .1) (closed-ends r P k at rest (kind-number k K named ∙ y .0) (rw (y .1) at whole))
 
@@ -142,10 +152,12 @@ module _ (cs : List ℕ) where
   turn-ends r at [] = tt
   turn-ends r at (k ∷ rest) = by-kind (kindOf k) refl
     where
-      by-test : (K : Kind) → kindOf k ≡ some K → (o : Option Test) → firstOf (λ t. t .holds) (tests r K rest) ≡ o → TurnEnds (k ∷ rest) (recordTested r at K rest o)
+      by-test : (K : Kind) → kindOf k ≡ some K → (o : Option Test) → firstOf (λ t. t .holds) (tests r K rest) ≡ o →
+          TurnEnds (k ∷ rest) (recordTested r at K rest o)
       by-test K named (some t) e = tt
       by-test K named none e =
-          passed-ends r k _ rest K named (whole-body r K rest e) (recordContent (r .terms) rest K) (said-reason (r .terms) rest K)
+          passed-ends r k _ rest K named (whole-body r K rest e) (recordContent (r .terms) rest K)
+          (said-reason (r .terms) rest K)
 
       by-kind : (o : Option Kind) → kindOf k ≡ o → TurnEnds (k ∷ rest) (recordOfKind r at rest o)
       by-kind none e = tt
@@ -156,12 +168,14 @@ module _ (cs : List ℕ) where
   from-ends zero r at bs = tt
   from-ends (suc f) r at bs = go (readRecord r at bs) (turn-ends r at bs) (λ s w. from-ends f s (at + w) (drop w bs))
     where
-      lifted : (w : ℕ) (a : TableAnswer) → (TableEnds (drop w bs ++ cs) (length (drop w bs)) → TableEnds (bs ++ cs) (length bs)) →
+      lifted : (w : ℕ) (a : TableAnswer) →
+          (TableEnds (drop w bs ++ cs) (length (drop w bs)) → TableEnds (bs ++ cs) (length bs)) →
           AnswerEnds (drop w bs) a → AnswerEnds bs a
       lifted w (accepted t) g x = g x
       lifted w (refusedAt n p) g x = tt
 
-      go : (x : RecordOutcome) → TurnEnds bs x → ((s : Reading) (w : ℕ) → AnswerEnds (drop w bs) (readFrom f s (at + w) (drop w bs))) →
+      go : (x : RecordOutcome) → TurnEnds bs x →
+          ((s : Reading) (w : ℕ) → AnswerEnds (drop w bs) (readFrom f s (at + w) (drop w bs))) →
           AnswerEnds bs (thenRead x (λ s w. readFrom f s (at + w) (drop w bs)))
       go (stop a) e later = e
       go (more s w) e later = lifted w (readFrom f s (at + w) (drop w bs)) e (later s w)
@@ -169,7 +183,8 @@ module _ (cs : List ℕ) where
 pub accepted-is-found : AcceptedIsFound
 unfolding AcceptedIsFound readTable AnswerEnds
 accepted-is-found table t reads choices =
-    let x : TableEnds (table ++ choices) (length table) = rw reads at (from-ends choices (suc (length table)) emptyReading 0 table) in
+    let x : TableEnds (table ++ choices) (length table) =
+    rw reads at (from-ends choices (suc (length table)) emptyReading 0 table) in
     rw (take-at table choices (length table) refl) at (up-to-start (length table) x)
 
 -- ---- the text
@@ -181,11 +196,13 @@ drop-length-take (suc n) [] = refl
 drop-length-take (suc n) (b ∷ bs) = drop-length-take n bs
 
 -- the text goes by the table that is found and the choices behind it
-split-text : (bs table : List ℕ) → TablePart bs table → length bs ≤ 16384 → printedRun bs ≡ report (drop (length table) bs) (readTable table)
+split-text : (bs table : List ℕ) → TablePart bs table → length bs ≤ 16384 →
+    printedRun bs ≡ report (drop (length table) bs) (readTable table)
 unfolding printedRun sizedReport splitReport part-of
 split-text bs table x h =
     rw (le-ltb 16384 (length bs) h)
-    (split (tableSize (suc (length bs)) bs) ∙ ap (λ u. report (drop (length u) bs) (readTable u)) (part-size bs table x))
+    (split (tableSize (suc (length bs)) bs)
+    ∙ ap (λ u. report (drop (length u) bs) (readTable u)) (part-size bs table x))
   where
     split : (o : Option ℕ) → splitReport bs o ≡ report (drop (length (part-of bs o)) bs) (readTable (part-of bs o))
     split none = rw drop-length refl
@@ -200,11 +217,13 @@ unfolding PrintedRefused report
 printed-refused bs h table x n p e = split-text bs table x h ∙ ap (report (drop (length table) bs)) e
 
 -- opening an accepted table in a buffer of a hall's size
-opening-gives : (table : List ℕ) (t : Table) → readTable table ≡ accepted t → (buffer : List ℕ) → length buffer ≡ hallBytes →
+opening-gives : (table : List ℕ) (t : Table) → readTable table ≡ accepted t →
+    (buffer : List ℕ) → length buffer ≡ hallBytes →
     openHall table buffer ≡ record { answer = opened freshCounters; hall = bytesOf (opening t) }
 unfolding openHall openTested openSized
 opening-gives table t reads buffer size =
-    ap (openTested buffer) reads ∙ ap (openSized t buffer) (ap (λ n. eqb n hallBytes) size ∙ eq-eqb hallBytes hallBytes refl)
+    ap (openTested buffer) reads
+    ∙ ap (openSized t buffer) (ap (λ n. eqb n hallBytes) size ∙ eq-eqb hallBytes hallBytes refl)
 
 pub printed-as-calls : PrintedAsCalls
 unfolding PrintedAsCalls report runResult

@@ -5,20 +5,18 @@ use Prim.Native.Nat.{ℕ, zero, suc, _-_, _*_, _≤_, _<_}
 use native.Mathlib.Omega.{arith}
 use mathlib.Core.Path.{_≡_, refl, sym, ap, subst, _∙_}
 use mathlib.Core.Bool.{Bool, true, false, cond}
-use mathlib.Core.Option.{Option, none, some}
-use mathlib.Core.List.{List, [], _∷_, _++_, map, append-assoc}
+use mathlib.Core.Option.{Option, none, some, bind}
+use mathlib.Core.List.{List, [], _∷_, _++_, map, append-assoc, flatten}
 use lib.ListN.{length, replicate, getElem?, length-append, length-map}
 use lib.Dec.{leb, ltb, eqb}
 use borrow.Author.Tests.{leb-true, le-leb, eqb-true}
 use Rattle.calculus.specs.Syntax.{State}
-use Rattle.semantics.specs.Definitions.Basics.{onlyIf, padded, zeros, All}
-use mathlib.Core.Option.{bind}
-use mathlib.Core.List.{flatten}
+use Rattle.semantics.specs.Definitions.Basics.{onlyIf, padded, zeros, All, Bytes}
 use Rattle.semantics.specs.Definitions.Terms.{Expression, Program, nilT, putT, takeT, repeatT, parT, atomT, Term, process, expression, width}
 use Rattle.semantics.specs.Definitions.Configuration.{Idle, taking, repeating, block, output, Tree, Component, idle, transaction, Configuration, branchesOf, opens, opening}
 use Rattle.semantics.specs.Definitions.Stored.{hallBytes, treeBytes, componentBytes, bytesOf, ComponentOk, splitBytes, treeFrom, waitingComponent, transactionOn, ComponentKind, waitingC, outputC, transactionC, otherC, componentKind, componentFrom, componentsFrom, configurationOf}
 use Rattle.semantics.specs.Checks.AcceptedTables.{programNumber, termNumber, ProgramIn, GoodTable}
-use Rattle.semantics.specs.Checks.StoredForm.{Bytes, WidthBoundsOpening, ReadBack, BytesDiffer, ReadIsWellFormed, WellFormedAgrees, StoredFits, OpeningIsWellFormed}
+use Rattle.semantics.specs.Checks.StoredForm.{WidthBoundsOpening, ReadBack, BytesDiffer, ReadIsWellFormed, WellFormedAgrees, StoredFits, OpeningIsWellFormed}
 use Rattle.semantics.proofs.Reading.{given-some, provided-some, zeros-replicate, replicate-zeros}
 use Rattle.semantics.proofs.GoodTable.{accepted-is-good, start-is-term, tokens-are-counts}
 use Rattle.semantics.proofs.Trees.{cut-back, cut-forth, length-padded, padded-of, padded-bytes, tree-back, tree-forth, tree-size, tree-bytes}

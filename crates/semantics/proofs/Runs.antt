@@ -1,6 +1,6 @@
 -- Entries accepted one after another: what every accepted choice keeps, the steps and the counters of their rules.
 -- Assumes nothing.
-use mathlib.Core.Path.{_≡_, refl, ap, _∙_}
+use mathlib.Core.Path.{_≡_, refl, ap}
 use Prim.Native.Nat.{suc, ℕ, zero, _+_}
 use native.Mathlib.Omega.{arith}
 use mathlib.Core.Option.{some}

@@ -15,7 +15,7 @@ use borrow.Author.Tests.{ltb-true, ltb-false, ne-eqb}
 use Rattle.calculus.specs.Syntax.{Name, Log, State}
 use Rattle.calculus.specs.State.{count, without}
 use Rattle.calculus.specs.Log.{RD, WT}
-use Rattle.calculus.specs.Reduction.{Rule, OUT, IN, REP, ATST, ATRE, ATFAIL, ATOK, ARDOK, ARDF, AWR, AOI, AOF, AOE}
+use Rattle.calculus.specs.Reduction.{Rule, OUT, IN, REP, ATST, ATRE, ATFAIL, ATOK}
 use Rattle.semantics.specs.Definitions.Basics.{All, replaceAt}
 use Rattle.semantics.specs.Definitions.Terms.{Expression, endT, retryT, rdT, wtT, orElseT, Program}
 use Rattle.semantics.specs.Definitions.Table.{Table}

@@ -5,20 +5,18 @@ use Prim.Native.Nat.{ℕ, zero, suc, _+_, _-_, _*_, _≤_, _<_}
 use native.Mathlib.Omega.{arith}
 use mathlib.Core.Path.{_≡_, refl, sym, ap, ap₂, _∙_}
 use mathlib.Core.Bool.{Bool, true, false, cond}
-use mathlib.Core.Option.{Option, none, some}
+use mathlib.Core.Option.{Option, none, some, bind}
 use mathlib.Core.List.{List, [], _∷_, _++_, map, append-assoc}
 use lib.ListN.{length, take, drop, replicate, getElem?, length-append, length-map, length-replicate, take-append-drop}
 use lib.Seq.{take-at, drop-at, length-take-le}
 use lib.Dec.{leb, ltb, eqb}
 use borrow.Author.Tests.{leb-true, le-leb, leb-false, lt-leb, eqb-true}
 use Rattle.calculus.specs.Syntax.{Action, rd, wt, Log}
-use Rattle.semantics.specs.Definitions.Basics.{onlyIf, padded, zeros, All}
-use mathlib.Core.Option.{bind}
+use Rattle.semantics.specs.Definitions.Basics.{onlyIf, padded, zeros, All, Bytes}
 use Rattle.semantics.specs.Definitions.Terms.{Expression, retryT, Term, process, expression, number, pathLength}
 use Rattle.semantics.specs.Definitions.Configuration.{Tree, leaf, fork, branchesOf}
 use Rattle.semantics.specs.Definitions.Stored.{actionByte, treeBytes, leafExpression, channelOf, TreeOk, splitBytes, actionOf, logOf, leafFrom, NodeKind, forkN, leafN, otherN, nodeKind, nodeFrom, treeFrom}
 use Rattle.semantics.specs.Checks.AcceptedTables.{termNumber, GoodTable}
-use Rattle.semantics.specs.Checks.StoredForm.{Bytes}
 use Rattle.semantics.proofs.Measures.{branches-positive}
 use Rattle.semantics.proofs.Reading.{and-true, given-some, provided-some, zeros-replicate, replicate-zeros}
 use Rattle.semantics.proofs.Lists.{all-append, all-replicate, found-below}

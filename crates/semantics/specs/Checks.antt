@@ -1,4 +1,5 @@
--- The definitions held against document 01 apart: its tables, moves, refusals, stored form and worked examples. Assumes nothing.
+-- The definitions compared with document 01, piece by piece: its tables, moves, refusals, answers, stored form, printed
+-- run and worked examples. Assumes nothing.
 pub mod PrintedMoves
 pub mod AcceptedTables
 pub mod StoredForm
@@ -10,3 +11,4 @@ pub mod Examples
 pub mod GainExamples
 pub mod ConverseSteps
 pub mod PrintedSuggestions
+pub mod EdgeExamples

@@ -1,4 +1,5 @@
--- What every call of the engine gives, on bytes. Assumes nothing.
+-- What every call of the engine gives, on bytes; and what the claims compare it with: the steps done and the one-step
+-- run. Assumes nothing.
 pub mod Layout
 pub mod Basics
 pub mod Terms

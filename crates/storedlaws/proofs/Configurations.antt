@@ -1,6 +1,6 @@
 -- A configuration's bytes: where its components and nodes stand in them, and the two links from a splice to a
--- configuration, one for a component that gives way to others and one for a node of a transaction that gives way to
--- another.
+-- configuration, one for a component that gives way to others and one for a part of a component that gives way to
+-- other bytes.
 -- Assumes nothing.
 use Prim.Native.Nat.{ℕ, zero, suc, _+_, _-_, _≤_, _<_}
 use native.Mathlib.Omega.{arith}
@@ -36,12 +36,12 @@ all-bytes-append [] ds = refl
 all-bytes-append (c ∷ cs) ds = rw (all-bytes-append cs ds) (sym (append-assoc (componentBytes c) _ _))
 
 -- an entry between what stands before it and behind it
-entry-split : (cs : List Component) (p : ℕ) (c : Component) → getElem? cs p ≡ some c → cs ≡ take p cs ++ (c ∷ drop (suc p) cs)
+pub entry-split : (cs : List Component) (p : ℕ) (c : Component) → getElem? cs p ≡ some c → cs ≡ take p cs ++ (c ∷ drop (suc p) cs)
 entry-split [] p c e = let z : _≡_ {A = ℕ} 0 1 = cc in absurd (omega arith)
 entry-split (x ∷ cs) zero c e = let z : x ≡ c = cc in rw z
 entry-split (x ∷ cs) (suc p) c e = ap (_∷_ x) (entry-split cs p c e)
 
-replace-split : (cs : List Component) (p : ℕ) (c : Component) (ds : List Component) → getElem? cs p ≡ some c →
+pub replace-split : (cs : List Component) (p : ℕ) (c : Component) (ds : List Component) → getElem? cs p ≡ some c →
     replaceAt p ds cs ≡ take p cs ++ (ds ++ drop (suc p) cs)
 unfolding replaceAt
 replace-split [] p c ds e = let z : _≡_ {A = ℕ} 0 1 = cc in absurd (omega arith)
@@ -60,7 +60,7 @@ replace-bytes cs p c ds e =
 
 -- ---- positions
 
-one-bytes : (c : Component) → allBytes (c ∷ []) ≡ componentBytes c
+pub one-bytes : (c : Component) → allBytes (c ∷ []) ≡ componentBytes c
 unfolding allBytes flatten
 one-bytes c = append-nil (componentBytes c)
 
@@ -196,7 +196,6 @@ by-splice h k x y z v a b sh sk fh fk eh ek la lb =
       ordered = omega arith;
       room = record { ordered = omega arith; held = omega arith; fits = omega arith; clear = bytes-clear h sh };
       bytes = sym (stored-as k sk m (spliced (bytesOf h) a b v) ends (spliced-length (bytesOf h) a b v ∙ lb′));
-      used = omega arith;
     }
 
 -- component number p gives way to others
@@ -215,49 +214,38 @@ component-by-splice σ cs p c ds l e fh fk =
     (rw (replace-bytes cs p c ds e) (sym (append-assoc σ x (allBytes ds ++ z))))
     (omega arith) refl
 
+-- a part of component number p gives way to other bytes, which make it another component
+pub part-by-splice : (σ : State) (cs : List Component) (p : ℕ) (c d : Component) (front old new back : List ℕ) → length σ ≡ channels →
+    getElem? cs p ≡ some c → componentBytes c ≡ front ++ (old ++ back) → componentBytes d ≡ front ++ (new ++ back) → Fits cs →
+    Fits (replaceAt p (d ∷ []) cs) →
+    BySplice (record { counts = σ; components = cs }) (record { counts = σ; components = replaceAt p (d ∷ []) cs })
+    (startOf cs p + length front) (startOf cs p + length front + length old) new
+unfolding startOf usedOf
+part-by-splice σ cs p c d front old new back l e was is fh fk =
+    let a = allBytes (take p cs) in
+    let z = allBytes (drop (suc p) cs) in
+    let head = σ ++ (a ++ front) in
+    let m : length head ≡ 16 + length a + length front = simp length-append (omega arith) in
+    let regroup : (x : List ℕ) → σ ++ (a ++ ((front ++ (x ++ back)) ++ z)) ≡ head ++ (x ++ (back ++ z)) = λ x. simp append-assoc in
+    by-splice (record { counts = σ; components = cs }) (record { counts = σ; components = replaceAt p (d ∷ []) cs })
+    head old (back ++ z) new (16 + length a + length front) (16 + length a + length front + length old) l l fh fk
+    (ap (λ y. σ ++ y) (entry-bytes cs p c e) ∙ ap (λ y. σ ++ (a ++ (y ++ z))) was ∙ regroup old)
+    (ap (λ y. σ ++ y) (replace-bytes cs p c (d ∷ []) e) ∙ ap (λ y. σ ++ (a ++ (y ++ z))) (one-bytes d ∙ is) ∙ regroup new)
+    m refl
+
 -- a transaction's bytes before a node, there, and behind it
-transaction-bytes : (n : ℕ) (M : Expression) (s : State) (x : Context) (u : Tree) →
+pub transaction-bytes : (n : ℕ) (M : Expression) (s : State) (x : Context) (u : Tree) →
     componentBytes (transaction n M s (plug x u)) ≡ (transactionKind ∷ n ∷ (s ++ before x)) ++ (treeBytes u ++ behind x)
 unfolding componentBytes
 transaction-bytes n M s x u = ap (λ l. 21 ∷ n ∷ l) (rw (plug-bytes x u) (sym (append-assoc s (before x) (treeBytes u ++ behind x))))
 
-regroup : (a b c d e f : List ℕ) → a ++ (b ++ ((c ++ (d ++ e)) ++ f)) ≡ (a ++ (b ++ c)) ++ (d ++ (e ++ f))
-regroup a b c d e f = simp append-assoc
-
--- node number k of the transaction at p gives way to another tree
-pub node-by-splice : (σ : State) (cs : List Component) (p n : ℕ) (M : Expression) (s : State) (t : Tree) (k : ℕ) (x : Context) (u v : Tree) → length σ ≡ channels →
-    length s ≡ channels → getElem? cs p ≡ some (transaction n M s t) → nodeOf t k ≡ node x u → Fits cs →
-    Fits (replaceAt p (transaction n M s (plug x v) ∷ []) cs) →
-    BySplice (record { counts = σ; components = cs }) (record { counts = σ; components = replaceAt p (transaction n M s (plug x v) ∷ []) cs })
-    (startOf cs p + transactionHead + length (before x)) (startOf cs p + transactionHead + length (before x) + length (treeBytes u)) (treeBytes v)
-unfolding startOf usedOf
-node-by-splice σ cs p n M s t k x u v l ls e f fh fk =
-    let a = allBytes (take p cs) in
-    let z = allBytes (drop (suc p) cs) in
-    let own : List ℕ = 21 ∷ n ∷ (s ++ before x) in
-    let head = σ ++ (a ++ own) in
-    let m : length head ≡ 16 + length a + 18 + length (before x) = simp length-append (omega arith) in
-    let r = node-of t k x u f in
-    by-splice (record { counts = σ; components = cs }) (record { counts = σ; components = replaceAt p (transaction n M s (plug x v) ∷ []) cs })
-    head (treeBytes u) (behind x ++ z) (treeBytes v) (16 + length a + 18 + length (before x)) (16 + length a + 18 + length (before x) + length (treeBytes u)) l l fh fk
-    (ap (λ y. σ ++ y) (entry-bytes cs p (transaction n M s t) e)
-    ∙ ap (λ y. σ ++ (a ++ (y ++ z))) (ap (λ y. componentBytes (transaction n M s y)) r ∙ transaction-bytes n M s x u)
-    ∙ regroup σ a own (treeBytes u) (behind x) z)
-    (ap (λ y. σ ++ y) (replace-bytes cs p (transaction n M s t) (transaction n M s (plug x v) ∷ []) e)
-    ∙ ap (λ y. σ ++ (a ++ (y ++ z))) (one-bytes (transaction n M s (plug x v)) ∙ transaction-bytes n M s x v)
-    ∙ regroup σ a own (treeBytes v) (behind x) z)
-    m refl
-
--- what a call of `splice` requires on the bytes of h, and what it leaves and answers
+-- what a call of `splice` requires on the bytes of h, and what it leaves
 pub splice-can : (h k : Configuration) (s v : List ℕ) (a b n : ℕ) → BySplice h k a b v → s ≡ bytesOf h → n ≡ usedOf (h .components) →
     (a ≤ b) × Room s b (a + length v) n
 splice-can h k s v a b n x e f = rw (e, f) (x .ordered, x .room)
 
 pub splice-does : (h k : Configuration) (s t v : List ℕ) (a b : ℕ) → BySplice h k a b v → s ≡ bytesOf h → t ≡ spliced s a b v → t ≡ bytesOf k
 splice-does h k s t v a b x e f = f ∙ rw e (x .bytes)
-
-pub splice-uses : (h k : Configuration) (v : List ℕ) (a b n r : ℕ) → BySplice h k a b v → n ≡ usedOf (h .components) → r ≡ a + length v + (n - b) → r ≡ usedOf (k .components)
-splice-uses h k v a b n r x e f = f ∙ rw e (x .used)
 
 -- ---- the counts
 

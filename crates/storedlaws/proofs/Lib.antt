@@ -5,3 +5,4 @@ pub mod ReadTrees
 pub mod ReadLeaves
 pub mod TermKinds
 pub mod ReadComponents
+pub mod Starts

@@ -19,7 +19,7 @@ use Rattle.semantics.proofs.Measures.{branches-positive}
 use Rattle.semantics.proofs.Trees.{length-padded}
 use Rattle.stored.specs.declared.Place.the-variants.{At, Nowhere}
 use Rattle.stored.specs.declared.Walk.{Walk}
-use Rattle.stored.specs.Layout.{forkKind, leafKind, leafSize, maxBranches}
+use Rattle.stored.specs.Layout.{forkKind, leafKind, leafSize, maxActions, maxBranches}
 use Rattle.stored.specs.Nodes.{nodeSize, pendingBehind, passed, nodeStart, treeEnd}
 use Rattle.stored.proofs.Nodes.{passed-over}
 use Rattle.storedlaws.specs.Positions.{Context, top, leftOf, rightOf, plug, before, behind, Node, node, beyond, inRightOf, inLeftOf, nodeOf, filled, withNode, around, innerAt}
@@ -27,10 +27,10 @@ use Rattle.storedlaws.proofs.Cursors.{first-byte, over}
 
 -- ---- how many
 
-leaf-bytes : (ts : List Term) (M : Expression) (δ : Log) → TreeOk ts (leaf M δ) → length (treeBytes (leaf M δ)) ≡ leafSize
-unfolding TreeOk treeBytes
-leaf-bytes ts M δ ok =
-    let n : length (map actionByte δ) ≤ 16 = rw (length-map δ actionByte) (let h = ok .1 in omega arith) in
+pub leaf-bytes : (M : Expression) (δ : Log) → length δ ≤ maxActions → length (treeBytes (leaf M δ)) ≡ leafSize
+unfolding treeBytes
+leaf-bytes M δ h =
+    let n : length (map actionByte δ) ≤ 16 = rw (length-map δ actionByte) h in
     let p = length-padded 16 (map actionByte δ) n in omega arith
 
 -- a fork for each leaf but one
@@ -89,7 +89,7 @@ finds-node : (ts : List Term) (t : Tree) (s : List ℕ) (at p k : ℕ) (rest : L
     Finds s p at k (length (treeBytes t)) (nodeOf t k)
 unfolding TreeOk treeBytes nodeOf Finds before passed
 finds-node ts (leaf M δ) s at p zero rest ok e = let z : at + 0 ≡ at = omega arith in (p, rw z)
-finds-node ts (leaf M δ) s at p (suc k) rest ok e = rw (leaf-bytes ts M δ ok) (past-leaf s k p at (first-byte s at 23 _ e))
+finds-node ts (leaf M δ) s at p (suc k) rest ok e = let h = ok .1 in rw (leaf-bytes M δ (omega arith)) (past-leaf s k p at (first-byte s at 23 _ e))
 finds-node ts (fork l r) s at p zero rest ok e = let z : at + 0 ≡ at = omega arith in (p, rw z)
 finds-node ts (fork l r) s at p (suc k) rest ok e =
     let e′ : drop (at + 1) s ≡ treeBytes l ++ (treeBytes r ++ rest) = over s at (22 ∷ []) _ e ∙ append-assoc (treeBytes l) (treeBytes r) rest in

@@ -1,7 +1,7 @@
 -- Where the parts of a configuration stand in its bytes: a component by its number, a node of a tree by its number in
 -- preorder.
 -- Assumes nothing.
-use Prim.Native.Nat.{ℕ, zero, suc, _+_, _-_, _≤_}
+use Prim.Native.Nat.{ℕ, zero, suc, _+_, _≤_}
 use mathlib.Core.Path.{_≡_}
 use mathlib.Core.List.{List, [], _∷_, _++_, map}
 use lib.ListN.{length, getD, take}
@@ -44,7 +44,6 @@ pub record BySplice (h k : Configuration) (a b : ℕ) (v : List ℕ) : Type 0 wh
   pub ordered : a ≤ b
   pub room : Room (bytesOf h) b (a + length v) (usedOf (h .components))
   pub bytes : spliced (bytesOf h) a b v ≡ bytesOf k
-  pub used : a + length v + (usedOf (h .components) - b) ≡ usedOf (k .components)
 
 -- ---- nodes
 

@@ -1,5 +1,5 @@
 -- What every accepted table's list of terms has (document 01, "The rule table"): few terms, each numbered by its place,
--- each resting on entries of the same list, each within the limits.
+-- each made of terms of the same list, each within the limits.
 -- Assumes nothing.
 use Prim.Native.Nat.{ℕ, _≤_, _<_}
 use mathlib.Core.Path.{_≡_}

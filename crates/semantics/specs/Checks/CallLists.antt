@@ -1,5 +1,5 @@
--- Lists of calls (document 01, "The one-step run": each call gets hall and tally as the last one left them), seen from
--- their last call; and that it does not matter where a list of choices is cut into calls.
+-- Lists of calls (demand 3, sentence 4: each call gets hall and tally as the last one left them), seen from their last
+-- call; and that it does not matter where a list of choices is cut into calls.
 -- Assumes nothing.
 use Prim.Native.Nat.{ℕ, _+_}
 use mathlib.Core.Path.{_≡_}

@@ -11,17 +11,17 @@ use lib.ListN.{length, take, drop, set, replicate, getElem?}
 use Rattle.calculus.specs.Syntax.{Name, Log, State}
 use Rattle.calculus.specs.State.{count, Included}
 use Rattle.calculus.specs.Log.{RD, WT}
-use Rattle.semantics.specs.Definitions.Basics.{replaceAt}
+use Rattle.semantics.specs.Definitions.Basics.{replaceAt, Bytes}
 use Rattle.semantics.specs.Definitions.Terms.{Expression, endT, retryT, rdT, wtT, orElseT, Program, nilT, putT, takeT, repeatT, parT, atomT, Term, process, expression, width, branches, pathLength}
 use Rattle.semantics.specs.Definitions.Table.{Kind, kindOf, Field, channelF, programF, expressionF, amountF, fields, Reading, Content, termRecord, tokensRecord, startRecord, recordContent, Table, accepted, refusedAt, readTable}
 use Rattle.semantics.specs.Definitions.Configuration.{Idle, taking, repeating, output, Tree, leaf, fork, idle, transaction, Configuration, opens, opening, nodes}
 use Rattle.semantics.specs.Definitions.Stored.{WellFormed, bytesOf}
 use Rattle.semantics.specs.Definitions.Moves.{Entry, act, inside, refused, answerTo}
-use Rattle.semantics.specs.Definitions.Run.{Counters, RunAnswer, run, schedule, entries}
+use Rattle.semantics.specs.Definitions.Run.{Counters, RunAnswer, run, schedule, entries, scheduleBytes}
 use Rattle.semantics.specs.Definitions.Calls.{Verdict, ok, rejected, checkTable, admitted, notAdmitted, admission, checkHall, opened, notOpened, Opening, openHall, IsMoved, Buffers, runCall}
-use Rattle.semantics.specs.Claims.ConverseRuns.{NoComponent, EmptyChannel, TooManyComponents, FullChannel, scheduleBytes}
+use Rattle.semantics.specs.Claims.ConverseRuns.{NoComponent, EmptyChannel, TooManyComponents, FullChannel}
 use Rattle.semantics.specs.Claims.InnerMoves.{Settled}
-use Rattle.semantics.specs.Claims.Correspondence.{Bytes, Accepts}
+use Rattle.semantics.specs.Claims.Correspondence.{Accepts}
 
 -- a condition holds at its number, and none of a smaller number does
 abbrev pub FirstCondition : (ℕ → Type 0) → ℕ → Type 0

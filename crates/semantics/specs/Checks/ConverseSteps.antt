@@ -1,21 +1,20 @@
 -- The steps of the converse (Claims/ConverseRuns) are those that document 01 means: just what the engine does by choices
 -- at one station, undisturbed. So the converse speaks of no fewer runs than it should.
 -- Assumes nothing.
-use Prim.Native.Nat.{ℕ, _≤_, _<_}
+use Prim.Native.Nat.{ℕ, _≤_}
 use mathlib.Core.Path.{_≡_}
 use mathlib.Core.Logic.{_⊎_}
 use mathlib.Core.Option.{some}
-use mathlib.Core.List.{List, [], _∷_, _++_, map}
+use mathlib.Core.List.{List, _∷_, _++_, map}
 use lib.ListN.{length, getElem?}
-use Rattle.calculus.specs.Syntax.{Name, Log, State}
-use Rattle.calculus.specs.State.{count, without, Included}
+use Rattle.calculus.specs.Syntax.{Log}
+use Rattle.calculus.specs.State.{without, Included}
 use Rattle.calculus.specs.Log.{RD, WT}
 use Rattle.calculus.specs.Reduction.{Rule, ATOK}
 use Rattle.semantics.specs.Definitions.Basics.{replaceAt, All}
-use Rattle.semantics.specs.Definitions.Terms.{Expression, Program}
-use Rattle.semantics.specs.Definitions.Table.{Table}
-use Rattle.semantics.specs.Definitions.Logs.{paths, firstReadable, addToken, takeToken}
-use Rattle.semantics.specs.Definitions.Configuration.{Idle, taking, repeating, block, output, idle, Configuration, opens}
+use Rattle.semantics.specs.Definitions.Terms.{Expression}
+use Rattle.semantics.specs.Definitions.Logs.{paths}
+use Rattle.semantics.specs.Definitions.Configuration.{block, output, Configuration}
 use Rattle.semantics.specs.Definitions.Moves.{act, inside, moved, answerTo, ruleNumber}
 use Rattle.semantics.specs.Definitions.Run.{steps, finalConfiguration}
 use Rattle.semantics.specs.Claims.ConverseRuns.{PlainState, replacing, ConverseStep, ConverseSteps, idleConfiguration}

@@ -1,5 +1,5 @@
--- What is claimed of the printed run (document 01, "The printed run"): for an accepted table it is that of opening a hall
--- and then running the choices on it, as calls on bytes. Proved in proofs/PrintedRun.
+-- What is claimed of the printed run (document 01, "The printed run"): for an accepted table it is that of opening a
+-- hall and then running the choices on it, as calls on bytes. Proved in proofs/PrintedRun.
 -- Assumes nothing.
 use Prim.Native.Nat.{ℕ, suc, _+_, _≤_, _<_}
 use mathlib.Core.Path.{_≡_}
@@ -11,7 +11,7 @@ use Rattle.semantics.specs.Definitions.Table.{Kind, kindOf, fields, Tabl
 use Rattle.semantics.specs.Definitions.Configuration.{Configuration}
 use Rattle.semantics.specs.Definitions.Stored.{hallBytes, configurationOf}
 use Rattle.semantics.specs.Definitions.Run.{Counters}
-use Rattle.semantics.specs.Definitions.Calls.{opened, openHall, Buffers, RunCall, runCall}
+use Rattle.semantics.specs.Definitions.Calls.{opened, openHall, RunCall, runCall}
 use Rattle.semantics.specs.Definitions.Report.{runLine, lines, printedRun}
 use Rattle.semantics.specs.Claims.Correspondence.{Accepts}
 
@@ -20,8 +20,8 @@ use Rattle.semantics.specs.Claims.Correspondence.{Accepts}
 -- so many bytes go up to the end of the first start record, which is found by stepping over records
 pub data TableEnds : List ℕ → ℕ → Type 0 where
   at-start : {bs : List ℕ} → TableEnds (13 ∷ bs) 2
-  past-record : {k n : ℕ} {bs : List ℕ} (K : Kind) → kindOf k ≡ some K → k ≢ 13 → TableEnds (drop (length (fields K)) bs) n →
-      TableEnds (k ∷ bs) (suc (length (fields K)) + n)
+  past-record : {k n : ℕ} {bs : List ℕ} (K : Kind) → kindOf k ≡ some K → k ≢ 13 →
+      TableEnds (drop (length (fields K)) bs) n → TableEnds (k ∷ bs) (suc (length (fields K)) + n)
 
 -- the table is what goes up to there, or all of the input where no start record is found
 pub data TablePart (bs : List ℕ) : List ℕ → Type 0 where
@@ -30,11 +30,14 @@ pub data TablePart (bs : List ℕ) : List ℕ → Type 0 where
 
 -- every input has one, and one only
 unfoldable pub TableFound : Type 0
-TableFound = (bs : List ℕ) → (table : List ℕ) × TablePart bs table × ((other : List ℕ) → TablePart bs other → other ≡ table)
+TableFound =
+    (bs : List ℕ) → (table : List ℕ) × TablePart bs table × ((other : List ℕ) → TablePart bs other → other ≡ table)
 
 -- an accepted table in front of any choices is the one that is found
 unfoldable pub AcceptedIsFound : Type 0
-AcceptedIsFound = (table : List ℕ) (t : Table) → readTable table ≡ accepted t → (choices : List ℕ) → TablePart (table ++ choices) table
+AcceptedIsFound =
+    (table : List ℕ) (t : Table) → readTable table ≡ accepted t →
+    (choices : List ℕ) → TablePart (table ++ choices) table
 
 -- ---- what is printed
 
@@ -47,11 +50,11 @@ PrintedLong = (bs : List ℕ) → 16384 < length bs → printedRun bs ≡ 108 �
 unfoldable pub PrintedRefused : Type 0
 unfolding printedRun runLine
 PrintedRefused =
-    (bs : List ℕ) → length bs ≤ 16384 → (table : List ℕ) → TablePart bs table → (n p : ℕ) → readTable table ≡ refusedAt n p →
-    printedRun bs ≡ runLine n p 0
+    (bs : List ℕ) → length bs ≤ 16384 → (table : List ℕ) → TablePart bs table →
+    (n p : ℕ) → readTable table ≡ refusedAt n p → printedRun bs ≡ runLine n p 0
 
--- a hall opened in a buffer and a run over choices on it, as calls on bytes, and the text of both: number, place, done and tally of the
--- run, counts and stations as they are read back from the hall's bytes
+-- a hall opened in a buffer and a run over choices on it, as calls on bytes, and the text of both: number, place, done
+-- and tally of the run, counts and stations as they are read back from the hall's bytes
 pub record PrintsCalls (table choices : List ℕ) (t : Table) (buffer text : List ℕ) : Type 0 where
   pub tally : Counters
   pub opens : (openHall table buffer) .answer ≡ opened tally
@@ -64,7 +67,13 @@ pub record PrintsCalls (table choices : List ℕ) (t : Table) (buffer text : Lis
   pub prints :
       text
       ≡ lines first
-      (record { number = ran .number; place = ran .place; done = ran .done; configuration = last; counters = ran .buffers .counters })
+      (record {
+        number = ran .number;
+        place = ran .place;
+        done = ran .done;
+        configuration = last;
+        counters = ran .buffers .counters;
+      })
 
 -- for an accepted table, whatever stood in the hall before it was opened
 unfoldable pub PrintedAsCalls : Type 0

@@ -6,12 +6,10 @@ use mathlib.Core.Path.{_≡_}
 use mathlib.Core.Logic.{_↔_}
 use mathlib.Core.List.{List}
 use Rattle.calculus.specs.Reduction.{Rule}
-use Rattle.semantics.specs.Definitions.Basics.{Bytes}
 use Rattle.semantics.specs.Definitions.Table.{Table}
 use Rattle.semantics.specs.Definitions.Configuration.{Configuration}
-use Rattle.semantics.specs.Definitions.Moves.{Entry, act, inside, moved, answerTo}
-use Rattle.semantics.specs.Definitions.Run.{entryBytes, InBytes}
-use Rattle.semantics.specs.Definitions.Calls.{admitted, notAdmitted, admission, Buffers, runCall, SuggestAnswer, suggested, still, notSuggested, suggestValues, SuggestAllowed}
+use Rattle.semantics.specs.Definitions.Moves.{act, inside, moved, answerTo}
+use Rattle.semantics.specs.Definitions.Calls.{admitted, notAdmitted, admission, SuggestAnswer, suggested, still, notSuggested, SuggestAllowed}
 
 -- the answers to a table and a hall
 pub data AnswerAsPrinted (table hall : List ℕ) : SuggestAnswer → Type 0 where
@@ -20,7 +18,7 @@ pub data AnswerAsPrinted (table hall : List ℕ) : SuggestAnswer → Type 0 wher
       p ≤ 255 → answerTo h (act p) ≡ moved r g → AnswerAsPrinted table hall (suggested (act p))
   inside-accepted : {t : Table} {h g : Configuration} {p k : ℕ} {r : Rule} → admission table hall ≡ admitted t h →
       p ≤ 255 → k ≤ 255 → answerTo h (inside p k) ≡ moved r g → AnswerAsPrinted table hall (suggested (inside p k))
-  -- no such choice, of neither kind
+  -- no choice of kind 1 is accepted, and none of kind 2
   none-accepted : {t : Table} {h : Configuration} → admission table hall ≡ admitted t h →
       ((p : ℕ) (r : Rule) (g : Configuration) → p ≤ 255 → answerTo h (act p) ≡ moved r g → ⊥) →
       ((p k : ℕ) (r : Rule) (g : Configuration) → p ≤ 255 → k ≤ 255 → answerTo h (inside p k) ≡ moved r g → ⊥) →

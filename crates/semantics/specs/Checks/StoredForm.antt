@@ -5,18 +5,17 @@ use Prim.Native.Nat.{ℕ, _≤_}
 use mathlib.Core.Path.{_≡_}
 use mathlib.Core.Logic.{_↔_}
 use mathlib.Core.Option.{some}
-use mathlib.Core.List.{List, _++_, map}
+use mathlib.Core.List.{List, _++_, map, flatten}
 use lib.ListN.{length}
 use Rattle.semantics.specs.Definitions.Layout.{maxComponents}
-use mathlib.Core.List.{flatten}
-pub use Rattle.semantics.specs.Definitions.Basics.{Bytes}
+use Rattle.semantics.specs.Definitions.Basics.{Bytes}
 use Rattle.semantics.specs.Definitions.Terms.{Program, Term, width}
 use Rattle.semantics.specs.Definitions.Table.{Table, accepted, readTable}
 use Rattle.semantics.specs.Definitions.Configuration.{Configuration, opens, opening}
 use Rattle.semantics.specs.Definitions.Stored.{ByteCounts, WellFormed, componentBytes, bytesOf, configurationOf, hallBytes}
 use Rattle.semantics.specs.Checks.AcceptedTables.{GoodTable, ProgramIn}
 
--- The terms of every accepted table are good: at most 200, numbered by their places, resting on one another, within the
+-- The terms of every accepted table are good: at most 200, numbered by their places, made of one another, within the
 -- limits.
 abbrev pub AcceptedIsGood : Type 0
 AcceptedIsGood = (bs : List ℕ) (t : Table) → readTable bs ≡ accepted t → GoodTable (t .terms)

@@ -9,11 +9,12 @@ use lib.IntN.{pos, _-ℤ_, natAbs}
 use Rattle.calculus.specs.Syntax.{Name}
 use Rattle.calculus.specs.State.{count, same, occurrences}
 use Rattle.calculus.specs.Reduction.{Rule}
+use Rattle.semantics.specs.Definitions.Layout.{counterTop}
 use Rattle.semantics.specs.Definitions.Table.{Table}
 use Rattle.semantics.specs.Definitions.Configuration.{Configuration}
 use Rattle.semantics.specs.Definitions.Stored.{WellFormed, bytesOf}
 use Rattle.semantics.specs.Definitions.Moves.{effectOf, ruleNumber}
-use Rattle.semantics.specs.Definitions.Run.{Counters, counterTop, net, Step, steps, finalConfiguration, run, schedule, entries}
+use Rattle.semantics.specs.Definitions.Run.{Counters, net, Step, steps, finalConfiguration, run, schedule, entries}
 use Rattle.semantics.specs.Definitions.Calls.{Buffers, Call, afterCalls, entriesDone}
 use Rattle.semantics.specs.Claims.Correspondence.{Accepts}
 

@@ -9,21 +9,20 @@ use mathlib.Core.List.{List, [], _∷_, map}
 use lib.ListN.{length, getElem?, take}
 use Rattle.calculus.specs.Syntax.{Log, State}
 use Rattle.calculus.specs.Reduction.{ATST, ATOK}
-use Rattle.semantics.specs.Definitions.Basics.{All}
+use Rattle.semantics.specs.Definitions.Basics.{All, Bytes}
 use Rattle.semantics.specs.Definitions.Terms.{Expression}
 use Rattle.semantics.specs.Definitions.Table.{Table}
 use Rattle.semantics.specs.Definitions.Logs.{emptyLog, firstReadable}
 use Rattle.semantics.specs.Definitions.Configuration.{Idle, block, Tree, leaf, Component, idle, transaction, Configuration, opening}
 use Rattle.semantics.specs.Definitions.Stored.{hallBytes, bytesOf, configurationOf}
 use Rattle.semantics.specs.Definitions.Moves.{Entry, act}
-use Rattle.semantics.specs.Definitions.Run.{Counters, scheduleBytes, run, Step, steps}
-pub use Rattle.semantics.specs.Definitions.Run.{finalConfiguration}
+use Rattle.semantics.specs.Definitions.Run.{Counters, scheduleBytes, run, Step, steps, finalConfiguration}
 use Rattle.semantics.specs.Definitions.AtomicRun.{Atomic, atomicStart, atomicRun}
 use Rattle.semantics.specs.Definitions.Calls.{Buffers, RunCall, Call, callAnswer, afterCalls, entriesDone, openHall, runCall}
 use Rattle.semantics.specs.Claims.NumberedRun.{aborts, withoutAborted, effects, numberedStart, numberedRun, gainedSince, members}
 use Rattle.semantics.specs.Claims.ConverseRuns.{PlainState, plainStart, ConverseSteps, idleConfiguration}
 use Rattle.semantics.specs.Claims.InnerMoves.{Moves}
-use Rattle.semantics.specs.Claims.Correspondence.{Bytes, Accepts}
+use Rattle.semantics.specs.Claims.Correspondence.{Accepts}
 
 -- an open attempt read as a block not begun
 unfoldable pub rolledBack : Component → Idle
@@ -122,10 +121,11 @@ module _ (table : List ℕ) (t : Table) (buffer : List ℕ) (first : Counters) (
         (a .number ≡ 0) × (a .configuration ≡ finalConfiguration (opening t) (take j (steps (opening t) done))) ×
         (a .configuration .counts ≡ o .counts) × (a .counters ≡ o .counters) ×
         (map rolledBack (a .configuration .components) ≡ map (λ x. x .station) (o .stations))
-    -- Sentence 2, a block acts at once: so `atomic` is defined. And abandoned attempts: take their choices away, and
-    -- the list is still accepted whole, to the same bytes; the one-step run ends in the same state and with as many
-    -- commits, while failed and retries are the first tally's; all that had an effect is done in the same order; no
-    -- attempt is abandoned.
+    -- Sentence 2. A committed block acts in one step at its commit: that is how the one-step run is defined, and with
+    -- `each-choice` the hall has that step's counts and stations right behind the commit. And abandoned attempts: take
+    -- their choices away, and the list is still accepted whole, to the same bytes; the one-step run ends in the same
+    -- state and with as many commits, while failed and retries are the first tally's; all that had an effect is done
+    -- in the same order; no attempt is abandoned.
     pub unaborted-whole : length (steps (opening t) doneWithoutAborted) ≡ length doneWithoutAborted
     pub unaborted-hall :
         bytesOf (finalConfiguration (opening t) (steps (opening t) doneWithoutAborted)) ≡ finalBuffers .hall
@@ -144,6 +144,8 @@ module _ (table : List ℕ) (t : Table) (buffer : List ℕ) (first : Counters) (
     pub attempts :
         (j : ℕ) → j ≤ length done →
         AttemptsOk t first done j (finalConfiguration (opening t) (take j (steps (opening t) done)))
+    -- Sentence 4 is in the definitions: `finalBuffers` and `done` hand hall and tally on from call to call, and `first`
+    -- is any tally (Checks/CallLists says the same of a list's last call).
     -- Sentence 5: for every one-step run within the limits whose blocks take the first path readable at commit there
     -- is a list of choices, in bytes, that one call accepts whole and that ends with its counts and stations and no
     -- attempt open.

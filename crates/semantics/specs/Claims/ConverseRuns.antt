@@ -3,22 +3,17 @@
 -- Assumes nothing.
 use Prim.Native.Nat.{ℕ, _≤_, _<_}
 use mathlib.Core.Path.{_≡_}
-use mathlib.Core.Logic.{_⊎_}
 use mathlib.Core.Option.{some}
 use mathlib.Core.List.{List, [], _∷_, _++_, map}
 use lib.ListN.{length, getElem?}
 use Rattle.calculus.specs.Syntax.{Name, Log, State}
-use Rattle.calculus.specs.State.{count, without, Included}
+use Rattle.calculus.specs.State.{count, without}
 use Rattle.calculus.specs.Log.{RD, WT}
-use Rattle.calculus.specs.Reduction.{Rule, ATOK}
-use Rattle.semantics.specs.Definitions.Basics.{replaceAt, All}
+use Rattle.semantics.specs.Definitions.Basics.{replaceAt}
 use Rattle.semantics.specs.Definitions.Terms.{Expression, Program}
 use Rattle.semantics.specs.Definitions.Table.{Table}
-use Rattle.semantics.specs.Definitions.Logs.{paths, firstReadable, addToken, takeToken}
+use Rattle.semantics.specs.Definitions.Logs.{firstReadable, addToken, takeToken}
 use Rattle.semantics.specs.Definitions.Configuration.{Idle, taking, repeating, block, output, idle, Configuration, opens}
-use Rattle.semantics.specs.Definitions.Moves.{act, inside, moved, answerTo, ruleNumber}
-use Rattle.semantics.specs.Definitions.Run.{steps, finalConfiguration}
-unfoldable pub use Rattle.semantics.specs.Definitions.Run.{entryBytes, scheduleBytes}
 
 -- ---- the conditions of the refusals that a step may meet
 

@@ -9,15 +9,13 @@ use lib.ListN.{length, take, getElem?}
 use Rattle.calculus.specs.Syntax.{Name, State, Process, par}
 use Rattle.calculus.specs.State.{SameNames}
 use Rattle.calculus.specs.Reduction.{Rule, OUT, Label, by, COM, EvolvesAt, Reduces, LogOrder, AnyOrder, outputs}
-pub use Rattle.semantics.specs.Definitions.Basics.{Bytes}
-use Rattle.semantics.specs.Definitions.Basics.{replaceAt}
+use Rattle.semantics.specs.Definitions.Basics.{Bytes, replaceAt}
 use Rattle.semantics.specs.Definitions.Terms.{Expression}
 use Rattle.semantics.specs.Definitions.Table.{Table, accepted, readTable}
 use Rattle.semantics.specs.Definitions.Configuration.{Tree, Component, transaction, Configuration, opening}
 use Rattle.semantics.specs.Definitions.Stored.{WellFormed, bytesOf, hallBytes}
 use Rattle.semantics.specs.Definitions.Moves.{Entry, act, inside, moved, answerTo, effectOf, ruleNumber}
-use Rattle.semantics.specs.Definitions.Run.{Counters, Step, run, steps, schedule, entries}
-unfoldable pub use Rattle.semantics.specs.Definitions.Run.{InBytes}
+use Rattle.semantics.specs.Definitions.Run.{Counters, Step, run, steps, schedule, entries, InBytes}
 use Rattle.semantics.specs.Definitions.Calls.{Quiescent}
 use Rattle.semantics.specs.Claims.Denotation.{proc, ongoingOf, componentProcess, Denotes, WithinLimits}
 
@@ -40,7 +38,7 @@ unfoldable pub OpeningDenotes : Type 0
 unfolding proc opening
 OpeningDenotes = (t : Table) → Denotes (proc (t .start)) ((opening t) .components)
 
--- every list of components stands for some process, so that what follows is never said of none
+-- every list of components stands for some process: "whatever process a hall stands for", below, there is one
 unfoldable pub EveryHallDenotes : Type 0
 EveryHallDenotes = (cs : List Component) → (P : Process) × Denotes P cs
 

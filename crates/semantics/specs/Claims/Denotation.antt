@@ -4,8 +4,8 @@
 use Prim.Native.Nat.{ℕ, _+_, _≤_}
 use mathlib.Core.Path.{_≡_}
 use mathlib.Core.List.{List, [], _∷_, _++_}
-use Rattle.calculus.specs.Syntax.{Name, rd, wt, State, Expr, end, retry, prefix, orElse, Ongoing, running, orElse′, Process, nil, out, inp, rep, par, atom, ongoing}
-use Rattle.calculus.specs.Reduction.{Rule, Label, by, COM}
+use Rattle.calculus.specs.Syntax.{rd, wt, State, Expr, end, retry, prefix, orElse, Ongoing, running, orElse′, Process, nil, out, inp, rep, par, atom, ongoing}
+use Rattle.calculus.specs.Reduction.{Label, by, COM}
 use Rattle.semantics.specs.Definitions.Layout.{maxCount, maxComponents}
 use Rattle.semantics.specs.Definitions.Basics.{All}
 use Rattle.semantics.specs.Definitions.Terms.{Expression, endT, retryT, rdT, wtT, orElseT, Program, nilT, putT, takeT, repeatT, parT, atomT}

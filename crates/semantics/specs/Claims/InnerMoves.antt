@@ -8,6 +8,7 @@ use mathlib.Core.List.{List, [], _∷_}
 use lib.ListN.{getElem?}
 use Rattle.calculus.specs.Syntax.{State}
 use Rattle.calculus.specs.Reduction.{Rule}
+use Rattle.semantics.specs.Definitions.Run.{InBytes}
 use Rattle.semantics.specs.Definitions.Basics.{replaceAt}
 use Rattle.semantics.specs.Definitions.Terms.{Expression, endT, retryT, rdT, wtT, orElseT}
 use Rattle.semantics.specs.Definitions.Table.{Table}
@@ -15,7 +16,7 @@ use Rattle.semantics.specs.Definitions.Logs.{emptyLog, firstReadable}
 use Rattle.semantics.specs.Definitions.Configuration.{Tree, leaf, fork, transaction, Configuration}
 use Rattle.semantics.specs.Definitions.Stored.{WellFormed}
 use Rattle.semantics.specs.Definitions.Moves.{inside, moved, answerTo, evolves, inner}
-use Rattle.semantics.specs.Claims.Correspondence.{Accepts, InBytes}
+use Rattle.semantics.specs.Claims.Correspondence.{Accepts}
 
 -- the measure: 1 for an action, 2 for an orElse, of which 1 stays with the fork that it becomes
 unfoldable pub weightOf : Expression → ℕ

@@ -1,17 +1,14 @@
 -- What is claimed of a suggestion (demand 2, its last sentence; document 01, "What the contracts settle"): that
 -- there always is an answer, that a suggested choice runs, that nothing runs where still is said.
 -- Assumes nothing.
-use Prim.Native.Nat.{ℕ, _≤_}
+use Prim.Native.Nat.{ℕ}
 use mathlib.Core.Path.{_≡_}
 use mathlib.Core.Logic.{_↔_}
 use mathlib.Core.List.{List}
-use Rattle.calculus.specs.Reduction.{Rule}
 use Rattle.semantics.specs.Definitions.Basics.{Bytes}
-use Rattle.semantics.specs.Definitions.Table.{Table}
-use Rattle.semantics.specs.Definitions.Configuration.{Configuration}
-use Rattle.semantics.specs.Definitions.Moves.{Entry, act, inside, moved, answerTo}
+use Rattle.semantics.specs.Definitions.Moves.{Entry}
 use Rattle.semantics.specs.Definitions.Run.{entryBytes, InBytes}
-use Rattle.semantics.specs.Definitions.Calls.{admitted, notAdmitted, admission, Buffers, runCall, SuggestAnswer, suggested, still, notSuggested, suggestValues, SuggestAllowed}
+use Rattle.semantics.specs.Definitions.Calls.{Buffers, runCall, SuggestAnswer, suggested, still, suggestValues, SuggestAllowed}
 
 -- whatever is handed in, some answer is allowed
 unfoldable pub SuggestionExists : Type 0

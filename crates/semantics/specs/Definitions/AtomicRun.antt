@@ -1,8 +1,8 @@
 -- The atomic run (document 01, "The one-step run"): each committed block acts in one step, at its commit. It has no
 -- refusals, no transactions and no trees. It uses none of the moves of a hall, and counts by itself.
 --
--- A note holds the counts when its attempt was opened. What may stand beside them is left open (`N`): nothing in the
--- run of document 01, `fedAll` below; a number in specs/History.
+-- A note (`N`) has the counts at which its attempt was opened. In the run of document 01, `atomicRun` below, it has
+-- nothing else; in Claims/NumberedRun it also has a number.
 -- Assumes nothing.
 use Prim.Native.Nat.{ℕ, suc}
 use mathlib.Core.Bool.{cond}
@@ -31,7 +31,8 @@ pub record Atomic (N : Type 0) : Type 0 where
   pub stations : List (WithNote N)
   pub counters : Counters
 
--- a counter rises by one, and one at its top stays there
+-- A counter rises by one, and one at its top stays there. It is the same function as Run.saturatingSuc, on purpose
+-- written again, with its top written out: the one-step run takes nothing from a hall's moves, not even the counting.
 unfoldable pub raised : ℕ → ℕ
 raised n = cond (ltb n 4294967295) (suc n) 4294967295
 

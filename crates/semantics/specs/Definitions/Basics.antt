@@ -1,4 +1,4 @@
--- Small functions on lists and options that the definitions share. Nothing here is about the engine.
+-- Small functions on lists, options and bytes that the definitions share.
 -- Assumes nothing.
 use Prim.Native.Nat.{ℕ, zero, suc, _-_, _≤_}
 use mathlib.Core.Bool.{Bool, true, false, cond, _&&_}

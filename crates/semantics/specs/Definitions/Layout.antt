@@ -1,4 +1,6 @@
--- The numbers of the byte forms and the limits (document 01): each stands here once, and everything else names it.
+-- The limits and the numbers of the stored form (document 01), each with a name for the definitions to use. Kinds of
+-- records and choices and the numbers of refusals stand where they are read. The one-step run, the converse's steps and
+-- the checks write their numbers out, so that a wrong number here does not go into them too.
 -- Assumes nothing.
 use Prim.Native.Nat.{ℕ}
 
@@ -63,7 +65,8 @@ forkKind = 22
 abbrev pub leafKind : ℕ
 leafKind = 23
 
--- a leaf's term and the length of its log, before the log's bytes; and all that follows a leaf's kind
+-- a leaf's term and the length of its log, before the log's bytes; and with the log's 16 bytes all that follows a
+-- leaf's kind
 abbrev pub leafHead : ℕ
 leafHead = 2
 
@@ -78,6 +81,6 @@ noRecord = 255
 abbrev pub writeOffset : ℕ
 writeOffset = 16
 
--- no log byte reaches this
+-- no log byte reaches this: the offset of writes, and the channels once more
 abbrev pub actionBytes : ℕ
 actionBytes = 32

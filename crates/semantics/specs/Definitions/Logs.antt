@@ -1,14 +1,14 @@
 -- The one test of a log's reads against counts, and the paths of an expression (document 01, "Choices and moves").
 -- Assumes nothing.
-use Prim.Native.Nat.{ℕ, suc}
+use Prim.Native.Nat.{suc}
 use mathlib.Core.Bool.{Bool}
 use mathlib.Core.Option.{Option}
 use mathlib.Core.List.{List, [], _∷_, _++_, map}
 use lib.ListN.{set}
 use lib.Dec.{leb}
-use Rattle.calculus.specs.Syntax.{Name, Action, rd, wt, Log, State}
+use Rattle.calculus.specs.Syntax.{Name, rd, wt, Log, State}
 use Rattle.calculus.specs.State.{count, occurrences, without}
-use Rattle.calculus.specs.Log.{RD, WT}
+use Rattle.calculus.specs.Log.{RD}
 use Rattle.semantics.specs.Definitions.Basics.{allOf, firstOf}
 use Rattle.semantics.specs.Definitions.Terms.{Expression, endT, retryT, rdT, wtT, orElseT}
 

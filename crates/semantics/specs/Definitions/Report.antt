@@ -77,8 +77,8 @@ lines first a =
     runLine (a .number) (a .place) (a .done) ++ (countersLine (a .counters) ++
     (channelLines 0 (first .counts) (last .counts) ++ flatten (map componentLine (last .components))))
 
--- a refused table has its R line and nothing else. The paper has one more case, a hall that does not open: the program lends
--- opening a hall of the right size, so behind an accepted table there is no such case.
+-- a refused table has its R line and nothing else. The paper has one more case, a hall that does not open: the program
+-- lends opening a hall of the right size, so behind an accepted table there is no such case.
 unfoldable pub report : List ℕ → TableAnswer → List ℕ
 unfolding lines runLine opening run freshCounters
 report choices (refusedAt n p) = runLine n p 0
@@ -92,7 +92,7 @@ unfolding fields
 skipRecord none rest = none
 skipRecord (some K) rest = rest (length (fields K))
 
--- how many bytes there are up to the end of the first start record, going from record to record
+-- how many bytes there are up to the end of the first start record (kind 13, of two bytes), going from record to record
 unfoldable pub tableSize : ℕ → List ℕ → Option ℕ
 unfolding skipRecord kindOf bind
 tableSize zero bs = none
@@ -106,7 +106,7 @@ unfolding report readTable
 splitReport bs none = report [] (readTable bs)
 splitReport bs (some n) = report (drop n bs) (readTable (take n bs))
 
--- an input that is too long is not read at all
+-- an input that is too long is not read at all: the line `long` is all that is printed
 unfoldable pub sizedReport : List ℕ → Bool → List ℕ
 unfolding splitReport tableSize
 sizedReport bs true = 108 ∷ 111 ∷ 110 ∷ 103 ∷ 10 ∷ []

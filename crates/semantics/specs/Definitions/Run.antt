@@ -6,8 +6,7 @@ use mathlib.Core.List.{List, [], _∷_, _++_}
 use lib.Dec.{eqb}
 use lib.IntN.{ℤ, pos, _-ℤ_}
 use Rattle.calculus.specs.Reduction.{Rule}
-pub use Rattle.semantics.specs.Definitions.Layout.{counterTop}
-use Rattle.semantics.specs.Definitions.Layout.{maxByte}
+use Rattle.semantics.specs.Definitions.Layout.{counterTop, maxByte}
 use Rattle.semantics.specs.Definitions.Configuration.{Configuration}
 use Rattle.semantics.specs.Definitions.Moves.{Entry, act, inside, Answer, moved, refused, answerTo, ruleNumber}
 

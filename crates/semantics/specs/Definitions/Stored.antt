@@ -2,9 +2,9 @@
 -- Assumes nothing.
 use Prim.Native.Nat.{ℕ, zero, suc, _+_, _-_, _≤_, _<_}
 use mathlib.Core.Path.{_≡_}
-use mathlib.Core.Bool.{Bool, true, false, cond, _&&_}
-use mathlib.Core.Option.{Option, none, some}
-use mathlib.Core.List.{List, [], _∷_, _++_, map}
+use mathlib.Core.Bool.{cond, _&&_}
+use mathlib.Core.Option.{Option, none, some, bind}
+use mathlib.Core.List.{List, [], _∷_, _++_, map, flatten}
 use lib.ListN.{length, getD, take, drop, getElem?}
 use lib.Dec.{leb, ltb, eqb}
 use Rattle.calculus.specs.Syntax.{Name, Action, rd, wt, Log, State}
@@ -12,9 +12,7 @@ pub use Rattle.semantics.specs.Definitions.Layout.{channels}
 pub use Rattle.semantics.specs.Definitions.Layout.{hallBytes}
 use Rattle.semantics.specs.Definitions.Layout.{maxCount, maxComponents, maxBranches, maxActions, waitingKind, transactionKind, outputKind, forkKind, leafKind, leafHead, leafBody, noRecord, writeOffset, actionBytes}
 use Rattle.semantics.specs.Definitions.Basics.{onlyIf, padded, zeros, All}
-use mathlib.Core.Option.{bind}
-use mathlib.Core.List.{flatten}
-use Rattle.semantics.specs.Definitions.Terms.{Expression, endT, retryT, rdT, wtT, orElseT, Program, nilT, putT, takeT, repeatT, parT, atomT, Term, process, expression, number, branches, pathLength}
+use Rattle.semantics.specs.Definitions.Terms.{Expression, retryT, nilT, putT, takeT, repeatT, parT, atomT, Term, process, expression, number, pathLength}
 use Rattle.semantics.specs.Definitions.Configuration.{Idle, taking, repeating, block, output, Tree, leaf, fork, Component, idle, transaction, Configuration, branchesOf}
 
 -- ---- a configuration's bytes

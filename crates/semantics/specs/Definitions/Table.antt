@@ -2,10 +2,10 @@
 -- Any list of bytes is accepted, with its terms, tokens and start, or refused with a number and a place.
 -- Assumes nothing.
 use Prim.Native.Nat.{ℕ, zero, suc, _+_}
-use mathlib.Core.Bool.{Bool, true, false, not, _&&_, _||_}
+use mathlib.Core.Bool.{Bool, true, false, not, _||_}
 use mathlib.Core.Option.{Option, none, some}
 use mathlib.Core.List.{List, [], _∷_, _++_}
-use lib.ListN.{length, getD, take, drop, set, replicate, getElem?}
+use lib.ListN.{length, getD, drop, set, replicate, getElem?}
 use lib.Dec.{leb, ltb, eqb}
 use Rattle.calculus.specs.Syntax.{Name, State}
 use Rattle.calculus.specs.State.{count}
@@ -65,7 +65,8 @@ pub data TableAnswer : Type 0 where
   accepted : Table → TableAnswer
   refusedAt : (number place : ℕ) → TableAnswer
 
--- a reference's term, by its class; the tests come first, so the last clauses are never used for an accepted record
+-- whether a reference is to a process or to an expression, and which one. The tests for it come first: where a record
+-- is accepted, `asProgram` meets a process and `asExpression` an expression, and their other clauses are not used.
 unfoldable pub isProgram : Option Term → Bool
 isProgram none = false
 isProgram (some (process P)) = true
