@@ -73,6 +73,3 @@ count-plus σ b a σ′ p = rw (p .added) (elim (ℕ-discrete a b) [ yes e ↦ e
 
     other : a ≢ b → count (set σ b (suc (count σ b))) a ≡ count σ a + same a b
     other e = let z = same-other a b e in let g = getD-set-other σ b a (suc (count σ b)) 0 e in omega arith
-
-pub length-plus : (σ : State) (a : Name) (σ′ : State) → Plus σ a σ′ → length σ′ ≡ length σ
-length-plus σ a σ′ p = rw (p .added) (length-set σ a (suc (count σ a)))

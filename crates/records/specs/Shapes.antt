@@ -5,23 +5,8 @@ use Prim.Native.Nat.{ℕ, zero, suc}
 use mathlib.Core.Bool.{Bool, false}
 use mathlib.Core.Option.{Option, none, some}
 use mathlib.Core.List.{List, []}
+pub use Rattle.semantics.specs.Checks.AcceptedTables.{kindByte}
 use Rattle.semantics.specs.Definitions.Table.{Kind, nilK, putK, takeK, repeatK, parK, atomK, endK, retryK, rdK, wtK, orElseK, tokensK, startK, kindOf, Field, channelF, programF, expressionF, amountF, fields}
-
--- the byte of a kind
-abbrev pub kindByte : Kind → ℕ
-kindByte nilK = 1
-kindByte putK = 2
-kindByte takeK = 3
-kindByte repeatK = 4
-kindByte parK = 5
-kindByte atomK = 6
-kindByte endK = 7
-kindByte retryK = 8
-kindByte rdK = 9
-kindByte wtK = 10
-kindByte orElseK = 11
-kindByte tokensK = 12
-kindByte startK = 13
 
 -- the fields behind a byte of kind; none where the byte is no kind
 unfoldable pub fieldsOf : Option Kind → List Field

@@ -38,6 +38,7 @@ pub mod RunConditions
 pub mod CallConditions
 pub mod CallLists
 pub mod Suggestions
+pub mod SuggestionExamples
 pub mod Theorems
 pub mod GainExamples
 pub mod PrintedRun

@@ -24,7 +24,8 @@ use Rattle.semantics.specs.Definitions.Report.{report, skipRecord, table
 use Rattle.semantics.specs.Claims.Correspondence.{Accepts}
 use Rattle.semantics.specs.Checks.PrintedRun.{TableEnds, at-start, past-record, TablePart, up-to-start, all-of-it, TableFound, AcceptedIsFound, PrintedLong, PrintedRefused, PrintedAsCalls}
 use Rattle.semantics.proofs.GoodTable.{accepted-is-good}
-use Rattle.semantics.proofs.RecordShapes.{kindNumber, kind-number, ContentReason, said-reason}
+use Rattle.semantics.specs.Checks.AcceptedTables.{kindByte}
+use Rattle.semantics.proofs.RecordShapes.{kind-number, ContentReason, said-reason}
 use Rattle.semantics.proofs.RoundTrip.{read-back, opening-is-well-formed}
 use Rattle.semantics.proofs.WellFormedKept.{well-formed-step}
 use Rattle.semantics.proofs.Runs.{runs-keep}
@@ -143,7 +144,7 @@ module _ (cs : List ℕ) where
       let n = kind-number k K named in record-ends k rest K named (λ z. omega arith) whole
   passed-ends r k at rest K named whole (tokensRecord a m) y =
       let n = kind-number k K named in
-      record-ends k rest K named (λ z. let w : kindNumber K ≡ 12 = y .0 in omega arith) whole
+      record-ends k rest K named (λ z. let w : kindByte K ≡ 12 = y .0 in omega arith) whole
   passed-ends r k at rest K named whole (startRecord P) y =
       rw (y .1) (closed-ends r P k at rest (kind-number k K named ∙ y .0) (rw (y .1) at whole))
 

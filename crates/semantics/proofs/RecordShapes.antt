@@ -9,44 +9,29 @@ use mathlib.Core.List.{List, [], _∷_, map}
 use lib.ListN.{length, getD, getElem?}
 use Rattle.semantics.specs.Definitions.Terms.{Expression, Program, Term, process, expression}
 use Rattle.semantics.specs.Definitions.Table.{Kind, nilK, putK, takeK, repeatK, parK, atomK, endK, retryK, rdK, wtK, orElseK, tokensK, startK, kinds, kindOf, Field, channelF, programF, expressionF, amountF, fields, asProgram, asExpression, Content, termRecord, tokensRecord, startRecord, recordContent}
+use Rattle.semantics.specs.Checks.AcceptedTables.{kindByte}
 use Rattle.semantics.specs.Checks.Conditions.{printedBodies, Body, RecordAsPrinted, nil1, put2, take3, repeat4, par5, atom6, end7, retry8, rd9, wt10, orElse11, tokens12, start13, ReadAsPrinted}
 use Rattle.semantics.proofs.Lists.{none-found, found-below, found-at, none-past, found-map}
 
 -- ---- kinds and their numbers
 
--- the byte that names a kind
-unfoldable pub kindNumber : Kind → ℕ
-kindNumber nilK = 1
-kindNumber putK = 2
-kindNumber takeK = 3
-kindNumber repeatK = 4
-kindNumber parK = 5
-kindNumber atomK = 6
-kindNumber endK = 7
-kindNumber retryK = 8
-kindNumber rdK = 9
-kindNumber wtK = 10
-kindNumber orElseK = 11
-kindNumber tokensK = 12
-kindNumber startK = 13
-
 -- these kinds are numbered in order
 abbrev Numbered : ℕ → List Kind → Type 0
 Numbered n [] = Unit {0}
-Numbered n (K ∷ Ks) = (kindNumber K ≡ n) × Numbered (suc n) Ks
+Numbered n (K ∷ Ks) = (kindByte K ≡ n) × Numbered (suc n) Ks
 
 numbered-at : (n : ℕ) (Ks : List Kind) → Numbered n Ks → (j : ℕ) (K : Kind) → getElem? Ks j ≡ some K →
-    n + j ≡ kindNumber K
+    n + j ≡ kindByte K
 numbered-at n [] h j K e = absurd (none-found j K e)
-numbered-at n (L ∷ Ks) h zero K e = let q : L ≡ K = cc in let z : kindNumber L ≡ n = h .0 in rw (← q) (omega arith)
+numbered-at n (L ∷ Ks) h zero K e = let q : L ≡ K = cc in let z : kindByte L ≡ n = h .0 in rw (← q) (omega arith)
 numbered-at n (L ∷ Ks) h (suc j) K e = let z = numbered-at (suc n) Ks (h .1) j K e in omega arith
 
 in-order : Numbered 1 kinds
-unfolding kinds kindNumber
+unfolding kinds
 in-order = (refl, (refl, (refl, (refl, (refl, (refl, (refl, (refl, (refl, (refl, (refl, (refl, (refl, tt)))))))))))))
 
 -- a byte that names a kind is that kind's number
-pub kind-number : (k : ℕ) (K : Kind) → kindOf k ≡ some K → k ≡ kindNumber K
+pub kind-number : (k : ℕ) (K : Kind) → kindOf k ≡ some K → k ≡ kindByte K
 unfolding kindOf
 kind-number zero K e = absurd (let z : _≡_ {A = ℕ} 0 1 = cc in omega arith)
 kind-number (suc j) K e = let z = numbered-at 1 kinds in-order j K e in omega arith
@@ -70,13 +55,13 @@ kind-without (suc j) e = inr (let z = none-past kinds j e in omega arith)
 
 -- what a record says goes by its kind
 abbrev pub ContentReason : Kind → List ℕ → Content → Type 0
-ContentReason K bs (termRecord t) = kindNumber K ≤ 11
+ContentReason K bs (termRecord t) = kindByte K ≤ 11
 ContentReason K bs (tokensRecord a n) =
-    (kindNumber K ≡ 12) × (length (fields K) ≡ 2) × (a ≡ getD bs 0 0) × (n ≡ getD bs 1 0)
-ContentReason K bs (startRecord P) = (kindNumber K ≡ 13) × (length (fields K) ≡ 1)
+    (kindByte K ≡ 12) × (length (fields K) ≡ 2) × (a ≡ getD bs 0 0) × (n ≡ getD bs 1 0)
+ContentReason K bs (startRecord P) = (kindByte K ≡ 13) × (length (fields K) ≡ 1)
 
 pub said-reason : (ts : List Term) (bs : List ℕ) (K : Kind) → ContentReason K bs (recordContent ts bs K)
-unfolding recordContent fields kindNumber
+unfolding recordContent fields
 said-reason ts bs nilK = omega arith
 said-reason ts bs putK = omega arith
 said-reason ts bs takeK = omega arith
@@ -94,15 +79,15 @@ said-reason ts bs startK = (refl, refl)
 -- ---- the printed bodies
 
 -- the fields of each kind are the body that is printed for its number
-bodies-as-printed : map (λ K. (kindNumber K, fields K)) kinds ≡ printedBodies
-unfolding kinds kindNumber fields printedBodies
+bodies-as-printed : map (λ K. (kindByte K, fields K)) kinds ≡ printedBodies
+unfolding kinds fields printedBodies
 bodies-as-printed = refl
 
 pub body-of : (k : ℕ) (K : Kind) → kindOf k ≡ some K → Body k (fields K)
 unfolding kindOf
 body-of zero K e = absurd (let z : _≡_ {A = ℕ} 0 1 = cc in omega arith)
 body-of (suc j) K e =
-    (j, rw (kind-number (suc j) K e, ← bodies-as-printed) (found-map (λ L. (kindNumber L, fields L)) kinds j K e))
+    (j, rw (kind-number (suc j) K e, ← bodies-as-printed) (found-map (λ L. (kindByte L, fields L)) kinds j K e))
 
 pub body-is : (k : ℕ) (K : Kind) → kindOf k ≡ some K → (fs : List Field) → Body k fs → fs ≡ fields K
 unfolding kindOf kinds printedBodies
@@ -110,10 +95,10 @@ body-is k K e fs (i, g) = go (found-at kinds i (found-below printedBodies i (k, 
   where
     go : (L : Kind) × (getElem? kinds i ≡ some L) → fs ≡ fields K
     go (L, q) =
-        let row : _≡_ {A = Option (ℕ × List Field)} (some (kindNumber L, fields L)) (some (k, fs)) =
-        sym (found-map (λ J. (kindNumber J, fields J)) kinds i L q) ∙ ap (λ rows. getElem? rows i) bodies-as-printed ∙
+        let row : _≡_ {A = Option (ℕ × List Field)} (some (kindByte L, fields L)) (some (k, fs)) =
+        sym (found-map (λ J. (kindByte J, fields J)) kinds i L q) ∙ ap (λ rows. getElem? rows i) bodies-as-printed ∙
         g in
-        let same : _≡_ {A = ℕ × List Field} (kindNumber L, fields L) (k, fs) = cc in
+        let same : _≡_ {A = ℕ × List Field} (kindByte L, fields L) (k, fs) = cc in
         let number : suc i ≡ k = kind-number (suc i) L q ∙ ap (λ x. x .0) same in
         let kind : K ≡ L = (let z : kindOf (suc i) ≡ some K = ap kindOf number ∙ e in cc) in
         rw kind (sym (ap (λ x. x .1) same))
@@ -149,8 +134,8 @@ pub data Fits (ts : List Term) : List Field → List ℕ → Type 0 where
 
 -- a record with such a body is printed as it is read
 pub printed-as-read : (ts : List Term) (K : Kind) (bs : List ℕ) → Fits ts (fields K) bs →
-    RecordAsPrinted ts (kindNumber K ∷ bs) (suc (length (fields K))) (recordContent ts bs K)
-unfolding fields kindNumber recordContent asProgram asExpression
+    RecordAsPrinted ts (kindByte K ∷ bs) (suc (length (fields K))) (recordContent ts bs K)
+unfolding fields recordContent asProgram asExpression
 printed-as-read ts nilK bs no-field = nil1
 printed-as-read ts putK bs (a-channel no-field) = put2
 printed-as-read ts takeK bs (a-channel (a-program e no-field)) = rw e (take3 e)

@@ -21,7 +21,8 @@ use Rattle.semantics.specs.Definitions.Terms.{Program, Term, process, ex
 use Rattle.semantics.specs.Definitions.Table.{Kind, kindOf, Field, channelF, programF, expressionF, amountF, fields, Reading, Table, TableAnswer, accepted, refusedAt, isProgram, isExpression, Content, termRecord, tokensRecord, startRecord, recordContent, anyField, tooManyTerms, channelOutOfRange, forwardReference, classMismatch, overLimit, badTokens, Test, tests, RecordOutcome, stop, more, tableEnd, recordPassed, recordTested, recordOfKind, readRecord, thenRead, readFrom, emptyReading, readTable}
 use Rattle.semantics.specs.Checks.Conditions.{Body, BodyByte, RecordAsPrinted, start13, ReadAsPrinted, TableCondition, kind-unknown, body-short, terms-many, channel-over, reference-later, class-expression, class-process, width-over, paths-over, tokens-none, tokens-again, byte-follows, start-missing, NoCondition, Reached, at-first, past-term, past-tokens, TableRefused, TableAccepted, TableNumbers}
 use Rattle.semantics.proofs.Lists.{none-found, found-below, none-past}
-use Rattle.semantics.proofs.RecordShapes.{kindNumber, kind-number, kind-within, kind-positive, kind-without, ContentReason, said-reason, body-of, body-is, read-as-printed, Fits, no-field, a-channel, a-program, an-expression, an-amount, printed-as-read}
+use Rattle.semantics.specs.Checks.AcceptedTables.{kindByte}
+use Rattle.semantics.proofs.RecordShapes.{kind-number, kind-within, kind-positive, kind-without, ContentReason, said-reason, body-of, body-is, read-as-printed, Fits, no-field, a-channel, a-program, an-expression, an-amount, printed-as-read}
 
 -- ---- a test on all fields
 
@@ -461,7 +462,7 @@ closed-reason r p bs w P (start13 {r = b} {bs = rest} e) clear = go rest clear
 
 module _ (r : Reading) (p k : ℕ) (rest : List ℕ) where
   -- a record that is no start record and passed its tests meets no condition
-  met-none : (K : Kind) → kindOf k ≡ some K → Clear r k rest 9 → kindNumber K ≤ 12 → NoCondition r (k ∷ rest)
+  met-none : (K : Kind) → kindOf k ≡ some K → Clear r k rest 9 → kindByte K ≤ 12 → NoCondition r (k ∷ rest)
   met-none K named clear l =
       meets-none r k rest clear (λ o c. let z = follow-means r o k rest c in let y = kind-number k K named in
       omega arith)

@@ -12,3 +12,4 @@ pub mod GainExamples
 pub mod ConverseSteps
 pub mod PrintedSuggestions
 pub mod EdgeExamples
+pub mod SuggestionExamples

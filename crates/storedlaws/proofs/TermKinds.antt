@@ -11,11 +11,11 @@ use Rattle.semantics.specs.Definitions.Terms.{endT, retryT, rdT, wtT, orElseT, 
 use Rattle.semantics.specs.Definitions.Configuration.{Tree}
 use Rattle.semantics.specs.Definitions.Stored.{waitingComponent, transactionOn}
 use Rattle.terms.specs.Decoded.{kindAt, RecordOf, Decoded}
-use Rattle.storedlaws.specs.Reading.{there, kindOf, kindIn, waits}
+use Rattle.storedlaws.specs.Reading.{there, termKind, kindIn, waits}
 
 -- a record's kind is its term's
-record-kind : (i k l r : ℕ) (t : Term) → RecordOf i k l r t → k ≡ kindOf t
-unfolding kindOf
+record-kind : (i k l r : ℕ) (t : Term) → RecordOf i k l r t → k ≡ termKind t
+unfolding termKind
 record-kind i k l r (process (nilT n)) h = h
 record-kind i k l r (process (putT n a)) h = h .0
 record-kind i k l r (process (takeT n a P)) h = h .0
@@ -29,12 +29,12 @@ record-kind i k l r (expression (wtT n a M)) h = h .0
 record-kind i k l r (expression (orElseT n M N)) h = h .0
 
 module _ (ts : List Term) (d : List ℕ) (x : Decoded ts d) where
-  pub term-kind : (i : ℕ) (t : Term) → getElem? ts i ≡ some t → kindAt d i ≡ kindOf t
+  pub term-kind : (i : ℕ) (t : Term) → getElem? ts i ≡ some t → kindAt d i ≡ termKind t
   term-kind i t e = record-kind i _ _ _ t (x .records i t e)
 
 -- which terms a component waits on
 pub waiting-kinds : (o : Option Term) → there (waitingComponent o) ≡ waits (kindIn o)
-unfolding there waitingComponent kindIn kindOf waits
+unfolding there waitingComponent kindIn termKind waits
 waiting-kinds none = refl
 waiting-kinds (some (process (nilT n))) = refl
 waiting-kinds (some (process (putT n a))) = refl
@@ -50,7 +50,7 @@ waiting-kinds (some (expression (orElseT n M N))) = refl
 
 -- a transaction is of a block
 pub block-kind : (o : Option Term) (s : State) (t : Tree) → there (transactionOn (waitingComponent o) s t) ≡ eqb (kindIn o) 6
-unfolding there transactionOn waitingComponent kindIn kindOf
+unfolding there transactionOn waitingComponent kindIn termKind
 block-kind none s t = refl
 block-kind (some (process (nilT n))) s t = refl
 block-kind (some (process (putT n a))) s t = refl

@@ -10,6 +10,8 @@ use lib.Dec.{leb, eqb}
 use Rattle.calculus.specs.Syntax.{State}
 use Rattle.semantics.specs.Definitions.Basics.{onlyIf, zeros}
 use mathlib.Core.Option.{bind}
+use Rattle.semantics.specs.Definitions.Table.{nilK, putK, takeK, repeatK, parK, atomK, endK, retryK, rdK, wtK, orElseK}
+use Rattle.semantics.specs.Checks.AcceptedTables.{kindByte}
 use Rattle.semantics.specs.Definitions.Terms.{endT, retryT, rdT, wtT, orElseT, nilT, putT, takeT, repeatT, parT, atomT}
 use Rattle.semantics.specs.Definitions.Terms.{Term, process, expression}
 use Rattle.semantics.specs.Definitions.Configuration.{Component, Configuration, branchesOf}
@@ -59,26 +61,26 @@ configured σ read rest =
 
 -- ---- terms
 
--- a term's kind, as document 01 numbers them
-unfoldable pub kindOf : Term → ℕ
-kindOf (process (nilT n)) = 1
-kindOf (process (putT n a)) = 2
-kindOf (process (takeT n a P)) = 3
-kindOf (process (repeatT n a P)) = 4
-kindOf (process (parT n P Q)) = 5
-kindOf (process (atomT n M)) = 6
-kindOf (expression (endT n)) = 7
-kindOf (expression (retryT n)) = 8
-kindOf (expression (rdT n a M)) = 9
-kindOf (expression (wtT n a M)) = 10
-kindOf (expression (orElseT n M N)) = 11
+-- the byte of a term's kind
+unfoldable pub termKind : Term → ℕ
+termKind (process (nilT n)) = kindByte nilK
+termKind (process (putT n a)) = kindByte putK
+termKind (process (takeT n a P)) = kindByte takeK
+termKind (process (repeatT n a P)) = kindByte repeatK
+termKind (process (parT n P Q)) = kindByte parK
+termKind (process (atomT n M)) = kindByte atomK
+termKind (expression (endT n)) = kindByte endK
+termKind (expression (retryT n)) = kindByte retryK
+termKind (expression (rdT n a M)) = kindByte rdK
+termKind (expression (wtT n a M)) = kindByte wtK
+termKind (expression (orElseT n M N)) = kindByte orElseK
 
 -- 0 for no term
 unfoldable pub kindIn : Option Term → ℕ
-unfolding kindOf
+unfolding termKind
 kindIn none = 0
-kindIn (some t) = kindOf t
+kindIn (some t) = termKind t
 
 -- a component may wait on a term of this kind: takes, repeated takes and blocks
 unfoldable pub waits : ℕ → Bool
-waits k = cond (eqb k 3) true (cond (eqb k 4) true (eqb k 6))
+waits k = cond (eqb k (kindByte takeK)) true (cond (eqb k (kindByte repeatK)) true (eqb k (kindByte atomK)))

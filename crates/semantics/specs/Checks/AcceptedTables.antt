@@ -7,7 +7,24 @@ use mathlib.Core.Option.{some}
 use mathlib.Core.List.{List}
 use lib.ListN.{length, getElem?}
 use Rattle.semantics.specs.Definitions.Layout.{channels, maxTerms, maxComponents, maxBranches, maxActions}
+use Rattle.semantics.specs.Definitions.Table.{Kind, nilK, putK, takeK, repeatK, parK, atomK, endK, retryK, rdK, wtK, orElseK, tokensK, startK}
 use Rattle.semantics.specs.Definitions.Terms.{Expression, endT, retryT, rdT, wtT, orElseT, Program, nilT, putT, takeT, repeatT, parT, atomT, Term, process, expression, number, width, branches, pathLength}
+
+-- the byte that names a kind
+abbrev pub kindByte : Kind → ℕ
+kindByte nilK = 1
+kindByte putK = 2
+kindByte takeK = 3
+kindByte repeatK = 4
+kindByte parK = 5
+kindByte atomK = 6
+kindByte endK = 7
+kindByte retryK = 8
+kindByte rdK = 9
+kindByte wtK = 10
+kindByte orElseK = 11
+kindByte tokensK = 12
+kindByte startK = 13
 
 -- a process's term number
 unfoldable pub programNumber : Program → ℕ
