@@ -1,4 +1,4 @@
--- The moves inside an attempt, in any order, come to an end and to one end only: the claims of specs/InnerMoves.
+-- The moves inside an attempt, in any order, come to an end and to one end only: the claims of specs/Claims/InnerMoves.
 -- Assumes nothing.
 use Prim.Native.Nat.{ℕ, zero, suc, _≤_, _<_}
 use native.Mathlib.Omega.{arith}

@@ -1,6 +1,7 @@
 -- The proofs of the claims in specs/, and the laws they rest on. The worked examples come first: the laws of lists and
 -- of reading name them, and all else rests on those.
 pub mod Examples
+pub mod MovesWorked
 pub mod EdgeExamples
 pub mod Lists
 pub mod Reading

@@ -13,6 +13,8 @@ use Rattle.semantics.specs.Definitions.Basics.{replaceAt, All}
 use Rattle.semantics.proofs.Examples as Worked
 use Rattle.semantics.proofs.GainExamples as WorkedHistories
 use Rattle.semantics.proofs.EdgeExamples as Edges
+use Rattle.semantics.proofs.MovesWorked as WorkedMoves
+use Rattle.semantics.proofs.SuggestionExamples as WorkedSuggestions
 
 -- ---- the element at a position
 

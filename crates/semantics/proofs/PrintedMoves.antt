@@ -1,4 +1,4 @@
--- The definition of a choice accepts exactly the moves as printed: the claims of specs/PrintedMoves.
+-- The definition of a choice accepts exactly the moves as printed: the claims of specs/Checks/PrintedMoves.
 -- Assumes nothing.
 use Prim.Native.Nat.{ℕ, zero, suc, _+_, _-_, _≤_}
 use native.Mathlib.Omega.{arith}
@@ -17,7 +17,7 @@ use Rattle.semantics.specs.Definitions.Terms.{Expression, endT, retryT, 
 use Rattle.semantics.specs.Definitions.Logs.{emptyLog, readable, addToken, takeToken}
 use Rattle.semantics.specs.Definitions.Configuration.{Idle, taking, repeating, block, output, Tree, leaf, fork, Component, idle, transaction, Configuration, opens, nodes}
 use Rattle.semantics.specs.Definitions.Moves.{Entry, act, inside, LocalAnswer, moves, blocked, takes, puts, commits, ends, acts, Inner, evolves, noRule, outOfRange, reads, atLeaf, atFork, inLeft, inRight, inner, innerLocal, actsInside, moved, answerTo, ruleNumber}
-use Rattle.semantics.specs.Checks.PrintedMoves.{OpensInto, nil-opens, put-opens, take-opens, repeat-opens, par-opens, atom-opens, GivesWay, at-first, further, NodeBecomes, at-root, at-left, at-right, NodeMoves, ardok8, ardf9, awr10, aoi11, aof12, aoe13, MoveAsPrinted, out1, in2, rep3, atst4, atre5, atfail6, atok7, inside8-13, OpensAsPrinted, MovesAsPrinted, tried, both, Gives, GivesInside, MovesWorked}
+use Rattle.semantics.specs.Checks.PrintedMoves.{OpensInto, nil-opens, put-opens, take-opens, repeat-opens, par-opens, atom-opens, GivesWay, at-first, further, NodeBecomes, at-root, at-left, at-right, NodeMoves, ardok8, ardf9, awr10, aoi11, aof12, aoe13, MoveAsPrinted, out1, in2, rep3, atst4, atre5, atfail6, atok7, inside8-13, OpensAsPrinted, MovesAsPrinted}
 use Rattle.semantics.proofs.Lists.{none-found, found-below, length-replaceAt}
 use Rattle.semantics.proofs.Readable.{readable-included, unreadable-not-included, included-readable, not-included-unreadable}
 use Rattle.semantics.proofs.Reading.{by-cases}
@@ -292,24 +292,3 @@ pub moves-as-printed : MovesAsPrinted
 unfolding MovesAsPrinted
 moves-as-printed ts h ok e r n g =
     (λ q. rw (q .1) at (chosen-printed h e r g (q .0)), printed-chosen h (ok .few))
-
--- ---- worked out
-
-pub moves-worked : MovesWorked
-unfolding Gives GivesInside tried both answerTo
-moves-worked =
-    record {
-      OUT-1 = refl;
-      IN-2 = refl;
-      REP-3 = refl;
-      ATST-4 = refl;
-      ATRE-5 = refl;
-      ATFAIL-6 = refl;
-      ATOK-7 = refl;
-      ARDOK-8 = refl;
-      ARDF-9 = refl;
-      AWR-10 = refl;
-      AOI-11 = refl;
-      AOF-12 = refl;
-      AOE-13 = refl;
-    }

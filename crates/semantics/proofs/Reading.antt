@@ -15,6 +15,8 @@ use mathlib.Core.Option.{bind}
 use Rattle.semantics.proofs.Examples as Worked
 use Rattle.semantics.proofs.GainExamples as WorkedHistories
 use Rattle.semantics.proofs.EdgeExamples as Edges
+use Rattle.semantics.proofs.MovesWorked as WorkedMoves
+use Rattle.semantics.proofs.SuggestionExamples as WorkedSuggestions
 
 -- ---- tests
 

@@ -1,5 +1,5 @@
 -- A suggestion: what is allowed, what runs, and that something is always allowed, by a search in order of positions and
--- nodes. The claims of specs/Suggestions.
+-- nodes. The claims of specs/Claims/Suggestions.
 -- Assumes nothing.
 use Prim.Native.Nat.{ℕ, zero, suc, _+_, _≤_, _<_}
 use native.Mathlib.Omega.{arith}

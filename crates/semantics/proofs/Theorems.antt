@@ -24,6 +24,7 @@ use Rattle.semantics.proofs.Handover as Together
 use Rattle.semantics.proofs.AnyOrder as Any
 use Rattle.semantics.proofs.InnerMoves as Inside
 use Rattle.semantics.proofs.PrintedMoves as Printing
+use Rattle.semantics.proofs.MovesWorked as WorkedMoves
 use Rattle.semantics.proofs.CallsAsOne.{opened-calls}
 use Rattle.semantics.proofs.Abandoned.{kept-runs}
 use Rattle.semantics.proofs.GoodTable.{accepted-is-good}
@@ -110,7 +111,7 @@ pub moves-as-printed : MovesAsPrinted
 moves-as-printed = Printing.moves-as-printed
 
 pub moves-worked : MovesWorked
-moves-worked = Printing.moves-worked
+moves-worked = WorkedMoves.moves-worked
 
 -- ---- the counts after a run
 

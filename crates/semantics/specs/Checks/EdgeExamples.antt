@@ -1,4 +1,4 @@
--- Worked examples beside the table of specs/Examples, for the edges at which a definition could be off by one or miss a
+-- Worked examples beside the table of specs/Checks/Examples, for the edges at which a definition could be off by one or miss a
 -- case while everything else is still proved: answers to single choices, tables, printed runs, stored halls, several
 -- calls, and the rules. Each row goes through the calls that it is about. Proved in proofs/EdgeExamples.
 -- Assumes nothing.
