@@ -1,16 +1,12 @@
 // The counters (document 01's tally): how many transactions committed, failed at their commit, and ended in retry.
+use rules::ATFAIL;
+use rules::ATOK;
+use rules::ATRE;
 ghost use mathlib.Core.Path.{_≡_};
 ghost use Rattle.calculus.specs.Reduction.{Rule};
 ghost use Rattle.semantics.specs.Definitions.Moves.{ruleNumber};
 ghost use Rattle.semantics.specs.Definitions.Run.{freshCounters, counted};
 ghost use Rattle.counters.specs.Counted.{countersOf, raisedBy};
-
-// The rules that are counted: ATOK, ATFAIL, ATRE.
-pub const RULE_COMMITS: u8 = 7;
-
-pub const RULE_FAILS: u8 = 6;
-
-pub const RULE_RETRIES: u8 = 5;
 
 // A counter that has come here stays.
 pub const COUNTER_TOP: u32 = 4294967295;
@@ -51,9 +47,9 @@ impl Counters {
         ensures { λ r. ⌜ ((done : Rule) → ruleNumber done ≡ rule → countersOf r ≡ counted done (countersOf self)) ⌝ }
     {
         Counters {
-            commits: raised(RULE_COMMITS, rule, self.commits),
-            failed: raised(RULE_FAILS, rule, self.failed),
-            retries: raised(RULE_RETRIES, rule, self.retries),
+            commits: raised(ATOK, rule, self.commits),
+            failed: raised(ATFAIL, rule, self.failed),
+            retries: raised(ATRE, rule, self.retries),
         }
     }
 }

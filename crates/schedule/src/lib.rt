@@ -1,4 +1,6 @@
 // The bytes of a schedule (document 01's list of choices): the entry that begins at an offset.
+use rules::CUT_SHORT;
+use rules::UNKNOWN_KIND;
 ghost use mathlib.Core.Path.{_≡_};
 ghost use lib.ListN.{drop};
 ghost use Rattle.semantics.specs.Definitions.Run.{schedule};
@@ -13,11 +15,6 @@ pub const KIND_INSIDE: u8 = 2;
 pub const ACT_SIZE: usize = 2;
 
 pub const INSIDE_SIZE: usize = 3;
-
-// Refusals: no such kind of entry, and an entry cut short.
-pub const UNKNOWN_KIND: u8 = 12;
-
-pub const CUT_SHORT: u8 = 13;
 
 // What stands at an offset of a schedule: an entry with the offset behind it, what is refused, or nothing any more.
 pub enum Parsed {
