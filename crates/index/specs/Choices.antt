@@ -30,7 +30,13 @@ pub record Accepts (d s starts : List ℕ) (n : ℕ) (e : Entry) (rule : ℕ) : 
   pub holds : Holds terms configuration s starts n
   pub reply : replyOf (answerTo configuration e) ≡ movedBy rule
 
--- what the entry makes of the configuration is held now
-pub record Applied (d s starts : List ℕ) (n : ℕ) (e : Entry) (s′ starts′ : List ℕ) (n′ : ℕ) : Type 0 where
+-- where the entry is accepted by the rule of this number, what it makes of the configuration is held now
+pub record Applied (d s starts : List ℕ) (n : ℕ) (e : Entry) (rule : ℕ) (s′ starts′ : List ℕ) (n′ : ℕ) : Type 0 where
+  pub found : (ts : List Term) (h : Configuration) → Decoded ts d → Holds ts h s starts n →
+      replyOf (answerTo h e) ≡ movedBy rule → Holds ts (afterwards (answerTo h e) h) s′ starts′ n′
+
+-- an entry that is looked at and then made: what it makes of the configuration is held now, accepted or refused
+pub record Chosen (d s starts : List ℕ) (n : ℕ) (e : Entry) (r : Reply) (s′ starts′ : List ℕ) (n′ : ℕ) : Type 0 where
+  pub looked : Looked d s starts n e r
   pub found : (ts : List Term) (h : Configuration) → Decoded ts d → Holds ts h s starts n →
       Holds ts (afterwards (answerTo h e) h) s′ starts′ n′
