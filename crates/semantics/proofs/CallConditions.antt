@@ -28,20 +28,20 @@ run-call-numbers table l bs table-bytes hall-bytes =
 
 -- ---- number 0
 
--- no choice's condition has it
-choice-positive : (h : Configuration) (n : ℕ) (e : Entry) → ChoiceCondition h n e → 14 ≤ n
-choice-positive h n e (no-station a) = omega arith
-choice-positive h n e (no-station-inside a) = omega arith
-choice-positive h n e (unsettled m M s t a b) = omega arith
-choice-positive h n e (no-attempt c a) = omega arith
-choice-positive h n e (no-node m M s t a b) = omega arith
-choice-positive h n e (at-rest m M s t u a b c) = omega arith
-choice-positive h n e (in-empty m a P b c) = omega arith
-choice-positive h n e (rep-empty m a P b c) = omega arith
-choice-positive h n e (in-many m a P b c) = omega arith
-choice-positive h n e (rep-many m a P b c) = omega arith
-choice-positive h n e (commit-many m M s k δ a b c) = omega arith
-choice-positive h n e (out-full a b c) = omega arith
+-- the conditions of a choice have the numbers 14 to 20
+pub choice-range : (h : Configuration) (n : ℕ) (e : Entry) → ChoiceCondition h n e → (14 ≤ n) × (n ≤ 20)
+choice-range h n e (no-station a) = (omega arith, omega arith)
+choice-range h n e (no-station-inside a) = (omega arith, omega arith)
+choice-range h n e (unsettled m M s t a b) = (omega arith, omega arith)
+choice-range h n e (no-attempt c a) = (omega arith, omega arith)
+choice-range h n e (no-node m M s t a b) = (omega arith, omega arith)
+choice-range h n e (at-rest m M s t u a b c) = (omega arith, omega arith)
+choice-range h n e (in-empty m a P b c) = (omega arith, omega arith)
+choice-range h n e (rep-empty m a P b c) = (omega arith, omega arith)
+choice-range h n e (in-many m a P b c) = (omega arith, omega arith)
+choice-range h n e (rep-many m a P b c) = (omega arith, omega arith)
+choice-range h n e (commit-many m M s k δ a b c) = (omega arith, omega arith)
+choice-range h n e (out-full a b c) = (omega arith, omega arith)
 
 -- a run stops with it at the end of its bytes and nowhere else
 zero-ends : (h : Configuration) (n : ℕ) (bs : List ℕ) → Stops h n bs → n ≡ 0 → bs ≡ []
@@ -50,9 +50,9 @@ zero-ends h n bs (kind-neither a b) e = absurd (omega arith)
 zero-ends h n bs act-short e = absurd (omega arith)
 zero-ends h n bs inside-short e = absurd (omega arith)
 zero-ends h n bs node-short e = absurd (omega arith)
-zero-ends h n bs (act-refused {p = p} f) e = absurd (let z = choice-positive h n (act p) (f .0) in omega arith)
+zero-ends h n bs (act-refused {p = p} f) e = absurd (let z = choice-range h n (act p) (f .0) .0 in omega arith)
 zero-ends h n bs (inside-refused {p = p} {k} f) e =
-    absurd (let z = choice-positive h n (inside p k) (f .0) in omega arith)
+    absurd (let z = choice-range h n (inside p k) (f .0) .0 in omega arith)
 
 -- a run that stops has its reason: where its number is 0 its place is the end, and the other way round
 done-all : (bs : List ℕ) (a : RunAnswer) → RunStops bs a → (a .number ≡ 0) ↔ (a .place ≡ length bs)

@@ -3,6 +3,7 @@
 use Prim.Native.Nat.{ℕ, zero, suc, _+_, _≤_}
 use native.Mathlib.Omega.{arith}
 use mathlib.Core.Path.{_≡_, refl, ap, _∙_}
+use mathlib.Core.Logic.{_≢_}
 use mathlib.Core.List.{List, [], _∷_, _++_, append-assoc, append-nil}
 use lib.ListN.{length, take, length-append, length-take}
 use Rattle.calculus.specs.Reduction.{Rule}
@@ -10,9 +11,9 @@ use Rattle.semantics.specs.Definitions.Configuration.{Configuration}
 use Rattle.semantics.specs.Definitions.Stored.{WellFormed, bytesOf}
 use Rattle.semantics.specs.Definitions.Moves.{Entry, act, inside, Answer, moved, refused, answerTo}
 use Rattle.semantics.specs.Definitions.Run.{Counters, counted, ScheduleItem, entry, malformed, schedule, entries, RunAnswer, continueRun, runFrom, run}
-use Rattle.semantics.specs.Definitions.Calls.{Buffers, Call, runChoices, Admission, admitted, notAdmitted, admission, runResult, runAdmitted, runCall, callAnswer, callEntries, afterCalls, entriesDone}
+use Rattle.semantics.specs.Definitions.Calls.{Buffers, Call, stepBytes, callBytes, Admission, admitted, notAdmitted, admission, runResult, runAdmitted, runCall, callAnswer, callEntries, afterCalls, entriesDone}
 use Rattle.semantics.specs.Claims.Atomicity.{answers}
-use Rattle.semantics.specs.Checks.CallLists.{CallsInTurn, CallsCut}
+use Rattle.semantics.specs.Checks.CallLists.{CallBytes, CallsInTurn, CallsCut}
 use Rattle.semantics.proofs.GoodTable.{accepted-is-good}
 use Rattle.semantics.proofs.WellFormedKept.{well-formed-step}
 use Rattle.semantics.proofs.Runs.{runs-keep}
@@ -65,21 +66,30 @@ call-few table l choices = go (admission table (l .hall))
     go (notAdmitted n p) = omega arith
     go (admitted t h) = let z = run-from-few (schedule choices) h (l .counters) 0 0 in omega arith
 
+pub call-bytes : CallBytes
+unfolding CallBytes stepBytes
+call-bytes = (λ choices. refl, λ p k. refl, λ p k. refl, other)
+  where
+    other : (kind p k : ℕ) → kind ≢ 1 → kind ≢ 2 → stepBytes kind p k ≡ kind ∷ []
+    other zero p k one two = refl
+    other (suc zero) p k one two = absurd (one refl)
+    other (suc (suc zero)) p k one two = absurd (two refl)
+    other (suc (suc (suc n))) p k one two = refl
+
 pub calls-in-turn : CallsInTurn
 unfolding CallsInTurn afterCalls answers entriesDone callAnswer callEntries
 calls-in-turn table l = (refl, refl, refl, behind)
   where
-    behind : (cs : List Call) (choices : List ℕ) →
-        let all = cs ++ (runChoices choices ∷ []) in
-        let a = runCall table (afterCalls table l cs) choices in
+    behind : (cs : List Call) (c : Call) →
+        let all = cs ++ (c ∷ []) in
+        let a = runCall table (afterCalls table l cs) (callBytes c) in
         (afterCalls table l all ≡ a .buffers) × (answers table l all ≡ answers table l cs ++ (a ∷ [])) ×
-        (entriesDone table l all ≡ entriesDone table l cs ++ take (a .done) (entries (schedule choices))) ×
+        (entriesDone table l all ≡ entriesDone table l cs ++ take (a .done) (entries (schedule (callBytes c)))) ×
         (length (entriesDone table l all) ≡ length (entriesDone table l cs) + a .done)
-    behind cs choices =
-        let c = runChoices choices in
-        let es = entries (schedule choices) in
-        let a = runCall table (afterCalls table l cs) choices in
-        let few = call-few table (afterCalls table l cs) choices in
+    behind cs c =
+        let es = entries (schedule (callBytes c)) in
+        let a = runCall table (afterCalls table l cs) (callBytes c) in
+        let few = call-few table (afterCalls table l cs) (callBytes c) in
         let own : length (take (a .done) es) ≡ a .done = length-take (a .done) es ∙ omega arith in (
           after-last table cs l c,
           answers-last table cs l c,

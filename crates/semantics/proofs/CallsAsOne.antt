@@ -23,9 +23,9 @@ use Rattle.semantics.specs.Definitions.Configuration.{Idle, taking, repe
 use Rattle.semantics.specs.Definitions.Stored.{WellFormed, hallBytes, bytesOf}
 use Rattle.semantics.specs.Definitions.Moves.{Entry, act, inside, Answer, moved, refused, applyAt, atPosition, answerTo, LocalAnswer, moves, blocked, takes, puts, ends, acts, actsInside, Inner, evolves, noRule, outOfRange, inner, innerLocal}
 use Rattle.semantics.specs.Definitions.Run.{ScheduleItem, entry, malformed, schedule, entries, Counters, counted, RunAnswer, continueRun, runFrom, run, steps}
-use Rattle.semantics.specs.Definitions.Calls.{admitted, formTested, sizeTested, tableTested, admission, openSized, openTested, Buffers, RunCall, runResult, runAdmitted, runCall, Call, runChoices, callAnswer, afterCalls, callEntries, entriesDone}
+use Rattle.semantics.specs.Definitions.Calls.{admitted, formTested, sizeTested, tableTested, admission, openSized, openTested, openHall, Buffers, RunCall, runResult, runAdmitted, runCall, Call, callBytes, callAnswer, afterCalls, callEntries, entriesDone}
 use Rattle.semantics.specs.Claims.Correspondence.{Accepts}
-use Rattle.semantics.specs.Claims.Atomicity.{answers, firstBuffers}
+use Rattle.semantics.specs.Claims.Atomicity.{answers}
 use Rattle.semantics.specs.Checks.AcceptedTables.{GoodTable}
 use Rattle.semantics.proofs.GoodTable.{accepted-is-good}
 use Rattle.semantics.proofs.RoundTrip.{stored-fits, read-back, opening-is-well-formed}
@@ -127,7 +127,7 @@ choose-high h (inside p k) = go (getElem? (h .components) p)
     go (some c) = settles-high p (actsInside (h .counts) c k) h (inside-high (h .counts) c k)
 
 -- of any bytes
-schedule-high : (bs : List ℕ) → All ItemHigh (schedule bs)
+pub schedule-high : (bs : List ℕ) → All ItemHigh (schedule bs)
 unfolding schedule
 schedule-high [] = tt
 schedule-high (zero ∷ bs) = (omega arith, tt)
@@ -211,14 +211,14 @@ module _ (table : List ℕ) (t : Table) (reads : readTable table ≡ accepted t)
   -- each call does the choices that it counts, to the hall that it leaves
   call-tells : (l : Buffers) (h : Configuration) → l .hall ≡ bytesOf h → WellFormed (t .terms) h → (c : Call) → CallTells l h c (callAnswer table l c)
   unfolding callAnswer callEntries runResult
-  call-tells l h e w (runChoices bs) = rw (stored-run l h e w bs) told
+  call-tells l h e w c = rw (stored-run l h e w (callBytes c)) told
     where
       a : RunAnswer
-      a = run h (l .counters) bs
+      a = run h (l .counters) (callBytes c)
 
-      told : CallTells l h (runChoices bs) (runResult a)
+      told : CallTells l h c (runResult a)
       told =
-          let r = run-tells h (l .counters) bs in
+          let r = run-tells h (l .counters) (callBytes c) in
           let w′ = runs-keep (WellFormed (t .terms)) (λ h e r g w q. well-formed-step e good w q) (r .0) w in
           record { after = a .configuration; well-formed = w′; hall = refl; runs = r .0; tally = r .1; number = r .2 }
 
@@ -252,7 +252,12 @@ module _ (table : List ℕ) (t : Table) (reads : readTable table ≡ accepted t)
 
 -- ---- from the opening
 
--- the hall that opening gives
+-- what the first call is lent: the hall that opening gives, and any tally
+unfoldable pub firstBuffers : (table buffer : List ℕ) → Counters → Buffers
+unfolding openHall
+firstBuffers table buffer c = record { hall = (openHall table buffer) .hall; counters = c }
+
+-- that hall is the opening's
 pub opened-hall : (table : List ℕ) (t : Table) → readTable table ≡ accepted t → (buffer : List ℕ) → length buffer ≡ hallBytes → (first : Counters) →
     (firstBuffers table buffer first) .hall ≡ bytesOf (opening t)
 unfolding firstBuffers openTested

@@ -21,7 +21,7 @@ use Rattle.semantics.specs.Definitions.Logs.{emptyLog, readable, takeTok
 use Rattle.semantics.specs.Definitions.Configuration.{Idle, taking, repeating, block, output, Tree, leaf, fork, Component, idle, transaction, Configuration, opens, nodes}
 use Rattle.semantics.specs.Definitions.Moves.{Entry, act, inside, moves, blocked, takes, puts, commits, ends, acts, Inner, evolves, noRule, outOfRange, reads, atLeaf, atFork, inLeft, inRight, inner, innerLocal, actsInside, Answer, moved, refused, applyAt, atPosition, answerTo}
 use Rattle.semantics.specs.Definitions.Calls.{IsMoved}
-use Rattle.semantics.specs.Claims.ConverseRuns.{NoComponent, EmptyChannel, TooManyComponents, FullChannel}
+use Rattle.semantics.specs.Claims.ConverseRuns.{EmptyChannel, TooManyComponents, FullChannel}
 use Rattle.semantics.specs.Claims.InnerMoves.{Settled}
 use Rattle.semantics.specs.Checks.Conditions.{FirstCondition, preorder, NoRuleAtNode, ChoiceCondition, no-station, no-station-inside, unsettled, no-attempt, no-node, at-rest, in-empty, rep-empty, in-many, rep-many, commit-many, out-full, ChoiceNumbers}
 use Rattle.semantics.proofs.Lists.{none-past, found-below, found-left, found-right, length-replaceAt}
@@ -296,7 +296,7 @@ module _ (h : Configuration) (p k : ℕ) where
 -- ---- a choice
 
 -- 14 comes first, and meets nothing before it
-no-station-first : (h : Configuration) (p : ℕ) → NoComponent (h .components) p → FirstCondition (λ m. ChoiceCondition h m (act p)) 14
+no-station-first : (h : Configuration) (p : ℕ) → length (h .components) ≤ p → FirstCondition (λ m. ChoiceCondition h m (act p)) 14
 no-station-first h p z = (no-station z, λ m l k. before m l k)
   where
     before : (m : ℕ) → m < 14 → ChoiceCondition h m (act p) → ⊥
@@ -309,7 +309,7 @@ no-station-first h p z = (no-station z, λ m l k. before m l k)
     before m l (commit-many n M s i δ f r y) = omega arith
     before m l (out-full a f y) = omega arith
 
-no-station-inside-first : (h : Configuration) (p k : ℕ) → NoComponent (h .components) p → FirstCondition (λ m. ChoiceCondition h m (inside p k)) 14
+no-station-inside-first : (h : Configuration) (p k : ℕ) → length (h .components) ≤ p → FirstCondition (λ m. ChoiceCondition h m (inside p k)) 14
 no-station-inside-first h p k z = (no-station-inside z, λ m l c. before m l c)
   where
     before : (m : ℕ) → m < 14 → ChoiceCondition h m (inside p k) → ⊥

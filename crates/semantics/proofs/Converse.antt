@@ -25,7 +25,7 @@ use Rattle.semantics.specs.Definitions.Run.{Counters, run, InBytes, entr
 use Rattle.semantics.specs.Checks.AcceptedTables.{GoodTable}
 use Rattle.semantics.specs.Definitions.Stored.{hallBytes, ComponentOk, WellFormed, bytesOf}
 use Rattle.semantics.specs.Definitions.Calls.{Call, runResult, runCall}
-use Rattle.semantics.specs.Claims.Atomicity.{firstBuffers, initialBuffers}
+use Rattle.semantics.specs.Claims.Atomicity.{initialBuffers}
 use Rattle.semantics.specs.Claims.Correspondence.{Accepts}
 use Rattle.semantics.specs.Claims.ConverseRuns.{PlainState, plainStart, replacing, ConverseStep, stepOut, stepIn, stepRep, stepCommit, ConverseSteps, noStep, stepThen, idleConfiguration}
 use Rattle.semantics.proofs.Lists.{found-below, found-map, length-replaceAt, map-replaceAt, all-append, all-at, replaced-here, replaceAt-twice}
@@ -34,7 +34,7 @@ use Rattle.semantics.proofs.GoodTable.{accepted-is-good}
 use Rattle.semantics.proofs.RoundTrip.{opening-is-well-formed}
 use Rattle.semantics.proofs.WellFormedKept.{well-formed-step}
 use Rattle.semantics.proofs.Runs.{Runs, rested, ran, runs-append, runs-keep, runs-whole}
-use Rattle.semantics.proofs.CallsAsOne.{opened-hall, stored-run}
+use Rattle.semantics.proofs.CallsAsOne.{firstBuffers, opened-hall, stored-run}
 use Rattle.semantics.proofs.Drive.{nodesFor, Driven, arrived, driven, drives-commit, nodes-few}
 
 -- ---- one step at a position

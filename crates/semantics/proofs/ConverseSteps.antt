@@ -22,7 +22,7 @@ use Rattle.semantics.specs.Definitions.Configuration.{Idle, taking, repe
 use Rattle.semantics.specs.Definitions.Moves.{act, inside, LocalAnswer, moves, blocked, takes, puts, commits, ends, acts, actsInside, moved, answerTo, ruleNumber}
 use Rattle.semantics.specs.Claims.InnerMoves.{Moves, unmoved, MovesSettleFirstPath}
 use Rattle.semantics.specs.Claims.ConverseRuns.{PlainState, replacing, ConverseStep, stepOut, stepIn, stepRep, stepCommit, ConverseSteps, noStep, stepThen, idleConfiguration}
-use Rattle.semantics.specs.Checks.ConverseSteps.{DoneAt, StepsAreMoves, ReadableBlocksStep, StepsGoOn}
+use Rattle.semantics.specs.Checks.ConverseSteps.{StartIsOpening, DoneAt, StepsAreMoves, ReadableBlocksStep, StepsGoOn}
 use Rattle.semantics.proofs.Lists.{found-below, found-at, found-map, map-replaceAt, replaced-here, replaceAt-twice}
 use Rattle.semantics.proofs.Reading.{by-cases}
 use Rattle.semantics.proofs.Readable.{included-readable, not-included-unreadable}
@@ -178,7 +178,7 @@ module _ (s : PlainState) (p n : ℕ) (M : Expression) (found : getElem? (s .sta
       let same : transaction n M (s .counts) (i .0) ≡ m .component = let e = there (i .0) in let d = m .found in cc in
       let own : ends (s .counts) n M (i .0) ≡ moves (ATOK δ) (g .counts) (m .laid) = rw (← same) at (m .local) in
       let c = commits-with (s .counts) n M (i .0) δ (g .counts) (m .laid) own in
-      let first = moves-settle-first-path (s .counts) M (leaf (endT (c .0)) δ) (rw (← (c .1)) (i .1)) tt in
+      let first = moves-settle-first-path (s .counts) M (c .0) δ .0 (rw (← (c .1)) (i .1)) in
       let left = left-idle s p (without (s .counts) (RD δ)) (map output (WT δ)) g (c .2) (m .placed ∙ in-place (i .0) (m .laid) ∙ rw (c .3)) in
       let fits : length (replaceAt p (map output (WT δ)) (s .stations)) ≤ 64 =
       few-left (replacing s p (without (s .counts) (RD δ)) (map output (WT δ))) g left (m .fits) in
@@ -202,6 +202,10 @@ attempt-step s p ks f δ g (ran {f = h} r d to) q = go (acted s p r h d)
     go (inr (begins, (n, M, found, same))) = commit-step s p n M found ks f δ g (rw same to) q
 
 -- ---- the claims
+
+pub start-is-opening : StartIsOpening
+unfolding StartIsOpening
+start-is-opening t = refl
 
 pub steps-are-moves : StepsAreMoves
 unfolding StepsAreMoves DoneAt StepDone OwnMove ruleNumber

@@ -17,7 +17,7 @@ use Rattle.semantics.specs.Definitions.Logs.{readable}
 use Rattle.semantics.specs.Definitions.Configuration.{Tree, leaf, fork, Component, transaction, Configuration, branchesOf}
 use Rattle.semantics.specs.Definitions.Stored.{ComponentOk}
 use Rattle.semantics.specs.Definitions.Moves.{inside, moved, moves, answerTo, Inner, evolves, noRule, outOfRange, inner, innerLocal, ruleNumber}
-use Rattle.semantics.specs.Claims.InnerMoves.{weight, Settled, Moves, unmoved, movedOn, MovesEnd, MovesGoOn, SettledRests, OneEnd, EndsWith, MovesSettleFirstPath}
+use Rattle.semantics.specs.Claims.InnerMoves.{weight, Settled, Moves, unmoved, movedOn, MovesLowerWeight, MovesGoOn, SettledRests, OneOutcome, MovesSettleFirstPath}
 use Rattle.semantics.proofs.Measures.{tree-branches-positive}
 use Rattle.semantics.proofs.Lists.{found-below, length-replaceAt, all-at}
 use Rattle.semantics.proofs.Moves.{positionOf, localMove, accepted-inverts, Moving, inner-induction}
@@ -141,21 +141,12 @@ settled-final s (leaf (orElseT n M N) δ) h = absurd h
 settled-final s (fork l r) h = absurd h
 
 -- so two of them that were reached from one tree are the same
-pub one-end : OneEnd
-unfolding OneEnd
-one-end s u v w m h n k =
+pub one-outcome : OneOutcome
+unfolding OneOutcome
+one-outcome s u v w m h n k =
     sym (settled-final s v h) ∙ moves-keep-final m ∙ sym (moves-keep-final n) ∙ settled-final s w k
 
 -- ---- the first readable path
-
--- a settled tree that is true to its block ends as the block's first path says
-ends-with : (s : State) (M : Expression) (u : Tree) → Settled u → Faithful s M u → EndsWith s M u
-ends-with s M (leaf (endT n) δ) h f = faithful-end s M n δ f
-ends-with s M (leaf (retryT n) δ) h f = faithful-retry s M n δ f
-ends-with s M (leaf (rdT n a N) δ) h f = h
-ends-with s M (leaf (wtT n a N) δ) h f = h
-ends-with s M (leaf (orElseT n N N′) δ) h f = h
-ends-with s M (fork l r) h f = h
 
 -- some moves inside keep a tree true to its block
 moves-keep : (s : State) (M : Expression) {t u : Tree} → Moves s t u → Faithful s M t → Faithful s M u
@@ -171,7 +162,9 @@ moves-snoc k r (movedOn j x d m) e = movedOn j x d (moves-snoc k r m e)
 -- moves in any order settle the first path readable at the snapshot
 pub moves-settle-first-path : MovesSettleFirstPath
 unfolding MovesSettleFirstPath
-moves-settle-first-path s M u m h = ends-with s M u h (moves-keep s M m (faithful-start s M))
+moves-settle-first-path s M n δ =
+    let start = faithful-start s M in
+    (λ m. faithful-end s M n δ (moves-keep s M m start), λ m. faithful-retry s M n δ (moves-keep s M m start))
 
 -- ---- the rules of the moves inside
 
@@ -217,9 +210,9 @@ inside-alone h p k n M s u e r g q =
     (i .0, i .1, sym (i .2), rw (i .3) (m .placed))
 
 -- a move inside the attempt at p lowers its measure
-pub moves-end : MovesEnd
-unfolding MovesEnd
-moves-end bs t a h w p k n M s u e r g q =
+pub moves-lower-weight : MovesLowerWeight
+unfolding MovesLowerWeight
+moves-lower-weight bs t a h w p k n M s u e r g q =
     let i = inside-alone h p k n M s u e r g q in
     let low : weight (i .0) < weight u = rw (i .1) at (inner-lowers s u k) in
     (i .0, i .1, low, λ j. record { counts = i .2 j; components = i .3 j })

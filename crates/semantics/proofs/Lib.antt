@@ -38,8 +38,10 @@ pub mod Answers
 pub mod RunConditions
 pub mod CallConditions
 pub mod CallLists
+pub mod Steps
 pub mod Suggestions
 pub mod SuggestionExamples
+pub mod StepExamples
 pub mod Theorems
 pub mod GainExamples
 pub mod PrintedRun

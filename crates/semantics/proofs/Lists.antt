@@ -15,6 +15,7 @@ use Rattle.semantics.proofs.GainExamples as WorkedHistories
 use Rattle.semantics.proofs.EdgeExamples as Edges
 use Rattle.semantics.proofs.MovesWorked as WorkedMoves
 use Rattle.semantics.proofs.SuggestionExamples as WorkedSuggestions
+use Rattle.semantics.proofs.StepExamples as WorkedSteps
 
 -- ---- the element at a position
 

@@ -266,13 +266,13 @@ module _ (t : Table) (first : Counters) (es : List Entry) where
   opened-at : (j : ℕ) (k : Standing H j (at j) (runAt j)) (q i n : ℕ) (M : Expression) (s : State) (u : Tree) →
       getElem? (k .live) q ≡ some (tries i n M s u) →
       (o : AttemptOpened t first es j q n M) × (o .step .before .counts ≡ s) × Moves s (leaf M emptyLog) u ×
-      (gainedSince (o .number) (map (λ u. u .rule) (take j H)) ≡ [] → NoMore (at j .counts) s)
+      (gainedSince (o .opener) (map (λ u. u .rule) (take j H)) ≡ [] → NoMore (at j .counts) s)
   opened-at j k q i n M s u f =
       let own : Known H j (at j .counts) i s = all-at (KnownLive H j (at j .counts)) (k .live) q (tries i n M s u) (k .known) f in
       let there : getElem? (runAt j .run .stations) q ≡ some (noted (tries i n M s u)) =
       rw (k .paced .stations) (found-map noted (k .live) q (tries i n M s u) f) in (
         record {
-          number = i;
+          opener = i;
           earlier = own .earlier;
           step = own .step;
           found = own .found;
@@ -306,7 +306,7 @@ module _ (t : Table) (first : Counters) (es : List Entry) where
   commit-ok j s k (committed p i n M σ x ε now) f same chosen rule δ q =
       let o = opened-at j k p i n M σ (leaf (endT x) ε) f in
       let log : ε ≡ δ = cc in
-      let then : firstReadable σ M ≡ some δ = rw (← log) (moves-settle-first-path σ M (leaf (endT x) ε) (o .2) tt) in
+      let then : firstReadable σ M ≡ some δ = rw (← log) (moves-settle-first-path σ M x ε .0 (o .2)) in
       (p, n, M, o .0, chosen, rw (o .1) then, λ quiet. rw same (first-now (at j .counts) σ M δ (o .3 quiet) (rw (← log) now) then))
   commit-ok j s k (evolved p m i n M σ u w x v late) f same chosen rule δ q = absurd (let d = ap ruleNumber (sym rule ∙ q) in omega arith)
 

@@ -20,7 +20,7 @@ use Rattle.semantics.specs.Definitions.Configuration.{opening}
 use Rattle.semantics.specs.Definitions.Stored.{WellFormed, hallBytes, bytesOf, configurationOf}
 use Rattle.semantics.specs.Definitions.Run.{freshCounters, run}
 use Rattle.semantics.specs.Definitions.Calls.{opened, openSized, openTested, openHall, runResult}
-use Rattle.semantics.specs.Definitions.Report.{report, skipRecord, tableSize, splitReport, sizedReport, printedRun}
+use Rattle.semantics.specs.Definitions.Report.{report, tableSize, splitReport, sizedReport, printedRun}
 use Rattle.semantics.specs.Claims.Correspondence.{Accepts}
 use Rattle.semantics.specs.Checks.PrintedRun.{TableEnds, at-start, past-record, TablePart, up-to-start, all-of-it, TableFound, AcceptedIsFound, PrintedLong, PrintedRefused, PrintedAsCalls}
 use Rattle.semantics.proofs.GoodTable.{accepted-is-good}
@@ -35,7 +35,7 @@ use Rattle.semantics.proofs.CallsAsOne.{run-tells, stored-run}
 
 -- the steps over records go as far as the relation says
 size-of : (f : ℕ) (bs : List ℕ) (n : ℕ) → TableEnds bs n → length bs < f → tableSize f bs ≡ some n
-unfolding tableSize skipRecord bind
+unfolding tableSize bind
 size-of zero bs n x h = absurd (omega arith)
 size-of (suc f) bs n at-start h = refl
 size-of (suc f) bs n (past-record {k = k} {n = m} {bs = rest} K e ne x) h =
@@ -43,7 +43,7 @@ size-of (suc f) bs n (past-record {k = k} {n = m} {bs = rest} K e ne x) h =
 
 -- and where they go, the relation says so
 ends-at : (f : ℕ) (bs : List ℕ) (n : ℕ) → tableSize f bs ≡ some n → TableEnds bs n
-unfolding tableSize skipRecord bind
+unfolding tableSize bind
 ends-at zero bs n e = let z : _≡_ {A = ℕ} 0 1 = cc in absurd (omega arith)
 ends-at (suc f) [] n e = let z : _≡_ {A = ℕ} 0 1 = cc in absurd (omega arith)
 ends-at (suc f) (k ∷ bs) n e = from (eqb k 13) refl e (λ size m. ends-at f (drop size bs) m)
@@ -59,12 +59,12 @@ ends-at (suc f) (k ∷ bs) n e = from (eqb k 13) refl e (λ size m. ends-at f (d
         let z : suc (length (fields K)) + m ≡ n = cc in
         rw (← z) (past-record K named ne (later (length (fields K)) m p))
 
-    by-kind : (o : Option Kind) → kindOf k ≡ o → k ≢ 13 → skipRecord o rest ≡ some n →
+    by-kind : (o : Option Kind) → kindOf k ≡ o → k ≢ 13 → bind o (λ K. rest (length (fields K))) ≡ some n →
         ((size m : ℕ) → tableSize f (drop size bs) ≡ some m → TableEnds (drop size bs) m) → TableEnds (k ∷ bs) n
     by-kind none named ne q later = let z : _≡_ {A = ℕ} 0 1 = cc in absurd (omega arith)
     by-kind (some K) named ne q later = over K named ne (tableSize f (drop (length (fields K)) bs)) refl q later
 
-    from : (b : Bool) → eqb k 13 ≡ b → cond b (some 2) (skipRecord (kindOf k) rest) ≡ some n →
+    from : (b : Bool) → eqb k 13 ≡ b → cond b (some 2) (bind (kindOf k) (λ K. rest (length (fields K)))) ≡ some n →
         ((size m : ℕ) → tableSize f (drop size bs) ≡ some m → TableEnds (drop size bs) m) → TableEnds (k ∷ bs) n
     from true p q later = let z : 2 ≡ n = cc in rw (← z, eqb-true k 13 p) at-start
     from false p q later = by-kind (kindOf k) refl (eqb-false k 13 p) q later

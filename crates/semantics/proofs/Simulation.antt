@@ -185,13 +185,13 @@ fed-stepped a z e r σ′ laid f v (took p n b P) = rw (f, map-map noted rests (
 fed-stepped a z e r σ′ laid f v (repeated p n b P) = rw (f, map-map noted rests (opens P ++ (repeating n b P ∷ [])))
 fed-stepped a z e r σ′ laid f v (began p n M) = rw f
 fed-stepped a z e r σ′ laid f v (retried p i n M s x δ) =
-    let none-there : firstReadable s M ≡ none = moves-settle-first-path s M (leaf (retryT x) δ) v tt in
+    let none-there : firstReadable s M ≡ none = moves-settle-first-path s M x δ .1 v in
     note-settled a p i n M s (leaf (retryT x) δ) f ∙ rw (none-there, raised-risen)
 fed-stepped a z e r σ′ laid f v (failed p i n M s x δ now) =
-    let first : firstReadable s M ≡ some δ = moves-settle-first-path s M (leaf (endT x) δ) v tt in
+    let first : firstReadable s M ≡ some δ = moves-settle-first-path s M x δ .0 v in
     note-settled a p i n M s (leaf (endT x) δ) f ∙ rw (first, path-tested, now)
 fed-stepped a z e r σ′ laid f v (committed p i n M s x δ now) =
-    let first : firstReadable s M ≡ some δ = moves-settle-first-path s M (leaf (endT x) δ) v tt in
+    let first : firstReadable s M ≡ some δ = moves-settle-first-path s M x δ .0 v in
     note-settled a p i n M s (leaf (endT x) δ) f ∙ rw (first, path-tested, now, map-map noted rests (map output (WT δ)))
 fed-stepped a z e r σ′ laid f v (evolved p k i n M s u w x q late) =
     rw (replaceAt-same (a .run .stations) p (noted (tries i n M s u)) f, counted-inside x (a .run .counters) late)

@@ -14,9 +14,10 @@ use Rattle.semantics.specs.Definitions.Table.{Table}
 use Rattle.semantics.specs.Definitions.Configuration.{Configuration}
 use Rattle.semantics.specs.Definitions.Moves.{Entry, act, inside, Answer, moved, refused, answerTo}
 use Rattle.semantics.specs.Definitions.Run.{Counters, schedule, entries, entryBytes, InBytes, RunAnswer, continueRun, runFrom, run}
-use Rattle.semantics.specs.Definitions.Calls.{Admission, admitted, notAdmitted, admission, runResult, runAdmitted, runCall, SuggestAnswer, suggested, still, notSuggested, SuggestValues, choiceSaid, stillSaid, refusalSaid, suggestValues, IsMoved, IsRefused, Quiescent, Suggestable, SuggestAdmitted, SuggestAllowed}
+use Rattle.semantics.specs.Definitions.Calls.{Admission, admitted, notAdmitted, admission, runResult, runAdmitted, runCall, SuggestAnswer, suggested, still, notSuggested, IsMoved, IsRefused, Quiescent, Suggestable, SuggestAdmitted, SuggestAllowed}
 use Rattle.semantics.specs.Checks.PrintedSuggestions.{AnswerAsPrinted, act-accepted, inside-accepted, none-accepted, turned-down, AllowedAsPrinted}
-use Rattle.semantics.specs.Claims.Suggestions.{SuggestionExists, SuggestedRuns, StillRunsNone, AnswersDiffer}
+use Rattle.semantics.specs.Checks.Answers.{SuggestValues, choiceSaid, stillSaid, refusalSaid, suggestValues, AnswersDiffer}
+use Rattle.semantics.specs.Claims.Suggestions.{SuggestionExists, SuggestedRuns, StillRunsNone}
 
 -- ---- what is allowed
 

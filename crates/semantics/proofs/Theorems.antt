@@ -2,15 +2,16 @@
 -- Assumes nothing.
 use Rattle.semantics.specs.Claims.Correspondence.{Soundness, RunSoundness, EveryHallDenotes, AcceptedIsWithinLimits, Completeness, CompletenessAnyOrder, StillIsStill, KeepsWellFormed, OpeningDenotes, Located, LogOrderAsPrinted, HandoverIsCOM}
 use Rattle.semantics.specs.Claims.Accounts.{RunAccounts, CallsAccounts}
-use Rattle.semantics.specs.Checks.ConverseSteps.{StepsAreMoves, ReadableBlocksStep, StepsGoOn}
-use Rattle.semantics.specs.Claims.InnerMoves.{MovesEnd, MovesGoOn, SettledRests, MovesSettleFirstPath, OneEnd}
+use Rattle.semantics.specs.Checks.ConverseSteps.{StartIsOpening, StepsAreMoves, ReadableBlocksStep, StepsGoOn}
+use Rattle.semantics.specs.Claims.InnerMoves.{MovesLowerWeight, MovesGoOn, SettledRests, MovesSettleFirstPath, OneOutcome}
 use Rattle.semantics.specs.Checks.PrintedMoves.{OpensAsPrinted, MovesAsPrinted, MovesWorked}
 use Rattle.semantics.specs.Checks.PrintedSuggestions.{AllowedAsPrinted}
-use Rattle.semantics.specs.Claims.Suggestions.{SuggestionExists, SuggestedRuns, StillRunsNone, AnswersDiffer}
-use Rattle.semantics.specs.Claims.Atomicity.{AtomicityOfCalls, initialBuffers, finalBuffers, done, doneWithoutAborted, atomic}
+use Rattle.semantics.specs.Claims.Suggestions.{SuggestionExists, SuggestedRuns, StillRunsNone}
+use Rattle.semantics.specs.Claims.Atomicity.{AtomicityOfCalls, initialBuffers, finalBuffers, allDone, doneWithoutAborted, atomic}
 use Rattle.semantics.specs.Checks.Conditions.{ReadAsPrinted, TableNumbers, MissingAtLength, HallNumbers, CheckNumbers, OpenNumbers, RefusalNumbers, ChoiceNumbers, RunNumbers, OneReason, RunCallNumbers, RunCallZero}
-use Rattle.semantics.specs.Checks.Answers.{AnswersTold, ZeroIsAccepted}
-use Rattle.semantics.specs.Checks.CallLists.{CallsInTurn, CallsCut}
+use Rattle.semantics.specs.Checks.Answers.{AnswersTold, AnswersDiffer, ZeroIsAccepted}
+use Rattle.semantics.specs.Checks.CallLists.{CallBytes, CallsInTurn, CallsCut}
+use Rattle.semantics.specs.Checks.Steps.{StepsAsPrinted, StepNumbers, NodeOfKind1, StepIsCall}
 use mathlib.Core.Path.{refl, sym, ap, _∙_}
 use mathlib.Core.List.{map}
 use Rattle.semantics.specs.Definitions.Stored.{bytesOf, configurationOf}
@@ -25,7 +26,7 @@ use Rattle.semantics.proofs.AnyOrder as Any
 use Rattle.semantics.proofs.InnerMoves as Inside
 use Rattle.semantics.proofs.PrintedMoves as Printing
 use Rattle.semantics.proofs.MovesWorked as WorkedMoves
-use Rattle.semantics.proofs.CallsAsOne.{opened-calls}
+use Rattle.semantics.proofs.CallsAsOne.{firstBuffers, opened-calls}
 use Rattle.semantics.proofs.Abandoned.{kept-runs}
 use Rattle.semantics.proofs.GoodTable.{accepted-is-good}
 use Rattle.semantics.proofs.RoundTrip.{read-back}
@@ -42,6 +43,7 @@ use Rattle.semantics.proofs.Answers as Telling
 use Rattle.semantics.proofs.RunConditions as OnRuns
 use Rattle.semantics.proofs.CallConditions as OnCalls
 use Rattle.semantics.proofs.CallLists as Turns
+use Rattle.semantics.proofs.Steps as OnSteps
 use Rattle.semantics.proofs.Suggestions as Suggesting
 use Rattle.semantics.proofs.RecordShapes as Shapes
 use Rattle.semantics.proofs.Limits as Bounds
@@ -123,8 +125,8 @@ calls-accounts = Counting.calls-accounts
 
 -- ---- the moves inside an attempt
 
-pub moves-end : MovesEnd
-moves-end = Inside.moves-end
+pub moves-lower-weight : MovesLowerWeight
+moves-lower-weight = Inside.moves-lower-weight
 
 pub moves-go-on : MovesGoOn
 moves-go-on = Inside.moves-go-on
@@ -132,8 +134,8 @@ moves-go-on = Inside.moves-go-on
 pub settled-rests : SettledRests
 settled-rests = Inside.settled-rests
 
-pub one-end : OneEnd
-one-end = Inside.one-end
+pub one-outcome : OneOutcome
+one-outcome = Inside.one-outcome
 
 pub moves-settle-first-path : MovesSettleFirstPath
 moves-settle-first-path = Inside.moves-settle-first-path
@@ -144,7 +146,7 @@ pub numbered-is-atomic : NumberedIsAtomic
 numbered-is-atomic = Pace.numbered-is-atomic
 
 pub atomicity-of-calls : AtomicityOfCalls
-unfolding AtomicityOfCalls initialBuffers finalBuffers done doneWithoutAborted atomic
+unfolding AtomicityOfCalls initialBuffers finalBuffers allDone doneWithoutAborted atomic firstBuffers
 atomicity-of-calls table t accepts buffer size first cs =
     let all = opened-calls table t accepts buffer size first cs in
     let led = runs-steps (all .runs) in
@@ -157,7 +159,7 @@ atomicity-of-calls table t accepts buffer size first cs =
       never-rejected = all .numbers;
       whole = led .0;
       hall = all .hall ∙ ap bytesOf (sym (led .1));
-      left = all .after;
+      after = all .after;
       read =
           ap (configurationOf (t .terms)) (all .hall)
           ∙ read-back (t .terms) (all .after) (accepted-is-good table t (accepts .1)) (all .well-formed);
@@ -178,10 +180,13 @@ atomicity-of-calls table t accepts buffer size first cs =
           };
       unaborted-effects = spared .same-effects;
       unaborted-none = spared .none-abandoned;
-      paths = commits-ok t first (done table t buffer first cs);
-      attempts = λ j h. attempts-ok t first (done table t buffer first cs) j (rw (led .0) h);
+      paths = commits-ok t first (allDone table t buffer first cs);
+      attempts = λ j h. attempts-ok t first (allDone table t buffer first cs) j (rw (led .0) h);
       converse = converse-holds table t accepts buffer size first cs;
     }
+
+pub start-is-opening : StartIsOpening
+start-is-opening = Steps.start-is-opening
 
 pub steps-are-moves : StepsAreMoves
 steps-are-moves = Steps.steps-are-moves
@@ -236,6 +241,23 @@ run-call-numbers = OnCalls.run-call-numbers
 
 pub run-call-zero : RunCallZero
 run-call-zero = OnCalls.run-call-zero
+
+-- ---- a step, and lists of calls
+
+pub steps-as-printed : StepsAsPrinted
+steps-as-printed = OnSteps.steps-as-printed
+
+pub step-numbers : StepNumbers
+step-numbers = OnSteps.step-numbers
+
+pub node-of-kind-1 : NodeOfKind1
+node-of-kind-1 = OnSteps.node-of-kind-1
+
+pub step-is-call : StepIsCall
+step-is-call = OnSteps.step-is-call
+
+pub call-bytes : CallBytes
+call-bytes = Turns.call-bytes
 
 pub calls-in-turn : CallsInTurn
 calls-in-turn = Turns.calls-in-turn

@@ -6,6 +6,7 @@ pub mod StoredForm
 pub mod Conditions
 pub mod Answers
 pub mod CallLists
+pub mod Steps
 pub mod PrintedRun
 pub mod Examples
 pub mod GainExamples
@@ -13,3 +14,4 @@ pub mod ConverseSteps
 pub mod PrintedSuggestions
 pub mod EdgeExamples
 pub mod SuggestionExamples
+pub mod StepExamples

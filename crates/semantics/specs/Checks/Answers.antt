@@ -8,8 +8,8 @@ use mathlib.Core.List.{List, [], _∷_}
 use Rattle.calculus.specs.Reduction.{Rule}
 use Rattle.semantics.specs.Definitions.Configuration.{Configuration}
 use Rattle.semantics.specs.Definitions.Moves.{act, inside, moved, refused, ruleNumber, movedBy, refusedBy, replyOf}
-use Rattle.semantics.specs.Definitions.Run.{Counters}
-use Rattle.semantics.specs.Definitions.Calls.{ok, rejected, verdictNumber, verdictPlace, checkTable, checkHall, opened, notOpened, openHall, openVerdict, suggested, still, notSuggested, choiceSaid, stillSaid, refusalSaid, suggestValues}
+use Rattle.semantics.specs.Definitions.Run.{Counters, entryBytes}
+use Rattle.semantics.specs.Definitions.Calls.{ok, rejected, verdictNumber, verdictPlace, checkTable, checkHall, opened, notOpened, openHall, openVerdict, SuggestAnswer, suggested, still, notSuggested}
 
 -- a check: number and place, both 0 where nothing is refused
 unfoldable pub VerdictTold : Type 0
@@ -22,13 +22,30 @@ unfoldable pub OpeningTold : Type 0
 unfolding openVerdict
 OpeningTold = (c : Counters) (n p : ℕ) → (openVerdict (opened c) ≡ ok) × (openVerdict (notOpened n p) ≡ rejected n p)
 
--- a suggestion: the bytes of a choice of kind 1 or 2, nothing, or a refusal's number and place
+-- what each case of a suggestion says: the bytes of a choice, nothing, or a number with its place
+pub data SuggestValues : Type 0 where
+  choiceSaid : (bytes : List ℕ) → SuggestValues
+  stillSaid : SuggestValues
+  refusalSaid : (number place : ℕ) → SuggestValues
+
+unfoldable pub suggestValues : SuggestAnswer → SuggestValues
+unfolding entryBytes
+suggestValues (suggested e) = choiceSaid (entryBytes e)
+suggestValues still = stillSaid
+suggestValues (notSuggested n p) = refusalSaid n p
+
+-- written out: the bytes of a choice are those of kind 1 or 2
 unfoldable pub SuggestionTold : Type 0
 unfolding suggestValues
 SuggestionTold =
     (n p k : ℕ) → (suggestValues (suggested (act p)) ≡ choiceSaid (1 ∷ p ∷ [])) ×
     (suggestValues (suggested (inside p k)) ≡ choiceSaid (2 ∷ p ∷ k ∷ [])) ×
     (suggestValues still ≡ stillSaid) × (suggestValues (notSuggested n p) ≡ refusalSaid n p)
+
+-- different answers have different values
+unfoldable pub AnswersDiffer : Type 0
+unfolding suggestValues
+AnswersDiffer = (a b : SuggestAnswer) → suggestValues a ≡ suggestValues b → a ≡ b
 
 -- a choice: the number of the rule done, or that of the refusal
 unfoldable pub ChoiceTold : Type 0

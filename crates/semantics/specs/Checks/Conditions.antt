@@ -19,7 +19,7 @@ use Rattle.semantics.specs.Definitions.Stored.{WellFormed, bytesOf}
 use Rattle.semantics.specs.Definitions.Moves.{Entry, act, inside, refused, answerTo}
 use Rattle.semantics.specs.Definitions.Run.{Counters, RunAnswer, run, schedule, entries, scheduleBytes}
 use Rattle.semantics.specs.Definitions.Calls.{Verdict, ok, rejected, checkTable, admitted, notAdmitted, admission, checkHall, opened, notOpened, Opening, openHall, IsMoved, Buffers, runCall}
-use Rattle.semantics.specs.Claims.ConverseRuns.{NoComponent, EmptyChannel, TooManyComponents, FullChannel}
+use Rattle.semantics.specs.Claims.ConverseRuns.{EmptyChannel, TooManyComponents, FullChannel}
 use Rattle.semantics.specs.Claims.InnerMoves.{Settled}
 use Rattle.semantics.specs.Claims.Correspondence.{Accepts}
 
@@ -242,8 +242,8 @@ NoRuleAtNode (fork l r) = ¬ Settled l
 -- a condition of a choice on a configuration
 pub data ChoiceCondition (h : Configuration) : ℕ → Entry → Type 0 where
   -- 14: past the last component
-  no-station : {p : ℕ} → NoComponent (h .components) p → ChoiceCondition h 14 (act p)
-  no-station-inside : {p k : ℕ} → NoComponent (h .components) p → ChoiceCondition h 14 (inside p k)
+  no-station : {p : ℕ} → length (h .components) ≤ p → ChoiceCondition h 14 (act p)
+  no-station-inside : {p k : ℕ} → length (h .components) ≤ p → ChoiceCondition h 14 (inside p k)
   -- 15: kind 1 at a transaction that has moves inside it left, kind 2 where no transaction is open
   unsettled : {p : ℕ} (n : ℕ) (M : Expression) (s : State) (t : Tree) →
       getElem? (h .components) p ≡ some (transaction n M s t) → ¬ Settled t →

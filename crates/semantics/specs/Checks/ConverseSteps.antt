@@ -13,11 +13,17 @@ use Rattle.calculus.specs.Log.{RD, WT}
 use Rattle.calculus.specs.Reduction.{Rule, ATOK}
 use Rattle.semantics.specs.Definitions.Basics.{replaceAt, All}
 use Rattle.semantics.specs.Definitions.Terms.{Expression}
+use Rattle.semantics.specs.Definitions.Table.{Table}
 use Rattle.semantics.specs.Definitions.Logs.{paths}
-use Rattle.semantics.specs.Definitions.Configuration.{block, output, Configuration}
+use Rattle.semantics.specs.Definitions.Configuration.{block, output, Configuration, opening}
 use Rattle.semantics.specs.Definitions.Moves.{act, inside, moved, answerTo, ruleNumber}
 use Rattle.semantics.specs.Definitions.Run.{steps, finalConfiguration}
-use Rattle.semantics.specs.Claims.ConverseRuns.{PlainState, replacing, ConverseStep, ConverseSteps, idleConfiguration}
+use Rattle.semantics.specs.Claims.ConverseRuns.{PlainState, plainStart, replacing, ConverseStep, ConverseSteps, idleConfiguration}
+
+-- they start from the hall that opening gives
+unfoldable pub StartIsOpening : Type 0
+unfolding idleConfiguration plainStart opening
+StartIsOpening = (t : Table) → idleConfiguration (plainStart t) ≡ opening t
 
 -- what the engine does by choices at p alone, from a hall without attempts: one OUT, IN or REP (rules 1 to 3); or an
 -- attempt is opened, moved inside at some nodes and committed
@@ -25,8 +31,8 @@ unfoldable pub DoneAt : PlainState → ℕ → Configuration → Type 0
 unfolding idleConfiguration
 DoneAt s p g =
     ((r : Rule) × (answerTo (idleConfiguration s) (act p) ≡ moved r g) × (ruleNumber r ≤ 3)) ⊎
-    ((δ : Log) × (nodes : List ℕ) ×
-    (let es = act p ∷ map (inside p) nodes in
+    ((δ : Log) × (ks : List ℕ) ×
+    (let es = act p ∷ map (inside p) ks in
     let ss = steps (idleConfiguration s) es in
     (length ss ≡ length es) × (answerTo (finalConfiguration (idleConfiguration s) ss) (act p) ≡ moved (ATOK δ) g)))
 

@@ -18,7 +18,7 @@ use Rattle.semantics.specs.Definitions.Moves.{answerTo, Effect, effectOf
 use Rattle.semantics.specs.Definitions.Run.{Counters, schedule, entries, scheduleBytes, run}
 use Rattle.semantics.specs.Definitions.Calls.{Verdict, checkTable, checkHall, admissionVerdict, Admission, notAdmitted}
 use Rattle.semantics.specs.Definitions.Calls.{formTested, opened, notOpened, openHall, openVerdict}
-use Rattle.semantics.specs.Definitions.Calls.{Buffers, runCall, runChoices, afterCalls, entriesDone}
+use Rattle.semantics.specs.Definitions.Calls.{Buffers, runCall, Call, runChoices, afterCalls, entriesDone}
 use Rattle.semantics.specs.Definitions.Report.{printedRun}
 use Rattle.semantics.specs.Claims.Denotation.{WithinLimits}
 use Rattle.semantics.specs.Claims.Atomicity.{answers}
@@ -275,6 +275,8 @@ printedRuns =
     -- the net at both ends: rep 1.put 0 with 255 tokens in tray 1, all of them moved to tray 0
     prints (numbers "2 0 4 1 0 12 1 255 13 1" ++ times 255 (numbers "1 0 1 0"))
     "R 0 1020 510\nC 0 0 0\nT 0 0 255 255\nT 1 255 -255 0\nW 1\n" ∷
+    -- a net below 0 where tokens are left: take 0.nil, three of them
+    prints (numbers "1 3 0 0 12 0 3 13 1 1 0") "R 0 2 1\nC 0 0 0\nT 0 3 -1 2\n" ∷
     -- 16,384 bytes are read, here with 8,189 choices and the last cut short; one byte more is too long
     prints (numbers "8 6 0 13 1" ++ (times 8189 (numbers "1 0") ++ numbers "1"))
     "R 13 16378 8189\nC 0 0 4094\nA 1 1\n" ∷
@@ -437,11 +439,10 @@ pub record CallsOutcome : Type 0 where
   pub hall : List ℕ
   pub oneStep : Option OneStep
 
-unfoldable pub callsOutcome : (table : List ℕ) → Counters → List (List ℕ) → CallsOutcome
+unfoldable pub callsOutcome : (table : List ℕ) → Counters → List Call → CallsOutcome
 unfolding noise openHall answers afterCalls entriesDone scheduleBytes oneStepRun readTable
-callsOutcome table c choices =
+callsOutcome table c cs =
     let l : Buffers = record { hall = (openHall table noise) .hall; counters = c } in
-    let cs = map runChoices choices in
     let done = entriesDone table l cs in
     record {
       replies = map (λ a. a .number ∷ a .place ∷ a .done ∷ []) (answers table l cs);
@@ -457,7 +458,7 @@ unfoldable pub SeveralCalls : Type 0
 unfolding numbers tally trays hallOf callsOutcome
 SeveralCalls =
     callsOutcome (numbers "7 10 1 0 9 0 1 6 2 12 0 1 13 3") (tally 3 4 5)
-    (numbers "1 0 2 0 0 2 0 5 1 0" ∷ numbers "2 0 0 1 0 1 0" ∷ numbers "1" ∷ [])
+    (map runChoices (numbers "1 0 2 0 0 2 0 5 1 0" ∷ numbers "2 0 0 1 0 1 0" ∷ numbers "1" ∷ []))
     ≡ record {
       replies = numbers "16 5 2" ∷ numbers "0 7 3" ∷ numbers "13 0 0" ∷ [];
       done = numbers "1 0 2 0 0 2 0 0 1 0 1 0";

@@ -1,11 +1,13 @@
 -- Worked examples of a suggestion (document 01, "What the contracts settle"): on a hall just opened from the table of the
--- printed run, on one without stations, and with a table that is refused.
+-- printed run, on that hall with an attempt open, on one without stations, and where table or hall is turned down. Each
+-- says which answer is allowed, and that no other is.
 -- Assumes nothing.
 use Prim.Native.Nat.{ℕ}
+use mathlib.Core.Path.{_≡_}
 use mathlib.Core.List.{List, []}
 use Rattle.semantics.specs.Definitions.Moves.{act, inside}
-use Rattle.semantics.specs.Definitions.Calls.{openHall, suggested, still, notSuggested, SuggestAllowed}
-use Rattle.semantics.specs.Checks.Examples.{numbers, noise}
+use Rattle.semantics.specs.Definitions.Calls.{openHall, SuggestAnswer, suggested, still, notSuggested, SuggestAllowed}
+use Rattle.semantics.specs.Checks.Examples.{numbers, noise, trays, hallOf, attempt, leafOf}
 
 -- a block that reads tray 0 and writes tray 1, one token in tray 0; nil alone
 unfoldable pub blockTable : List ℕ
@@ -16,14 +18,18 @@ unfoldable pub nilTable : List ℕ
 unfolding numbers
 nilTable = numbers "1 13 0"
 
+-- this answer is allowed, and no other is
+abbrev pub Only : (table hall : List ℕ) → SuggestAnswer → Type 0
+Only table hall a = SuggestAllowed table hall a × ((b : SuggestAnswer) → SuggestAllowed table hall b → b ≡ a)
+
 pub record SuggestionExamples : Type 0 where
-  -- the one station may begin its attempt: that is allowed, and no other answer
-  pub begins : SuggestAllowed blockTable ((openHall blockTable noise) .hall) (suggested (act 0))
-  pub no-second : SuggestAllowed blockTable ((openHall blockTable noise) .hall) (suggested (act 1)) → ⊥
-  pub not-inside : SuggestAllowed blockTable ((openHall blockTable noise) .hall) (suggested (inside 0 0)) → ⊥
-  pub not-still : SuggestAllowed blockTable ((openHall blockTable noise) .hall) still → ⊥
+  -- the one station may begin its attempt
+  pub begins : Only blockTable ((openHall blockTable noise) .hall) (suggested (act 0))
+  -- with the attempt open it may move inside, at its one node
+  pub reads : Only blockTable (hallOf (trays "1") (attempt 3 "1" (leafOf 2 0 ""))) (suggested (inside 0 0))
   -- without stations it is still
-  pub nil-is-still : SuggestAllowed nilTable ((openHall nilTable noise) .hall) still
-  -- a hall that is not well formed, and a table that is refused
-  pub malformed : SuggestAllowed blockTable noise (notSuggested 11 0)
-  pub refused : SuggestAllowed [] noise (notSuggested 9 0)
+  pub nil-is-still : Only nilTable ((openHall nilTable noise) .hall) still
+  -- bytes that are no hall, a hall of another size, and a table that is refused, which comes first
+  pub malformed : Only blockTable noise (notSuggested 11 0)
+  pub wrong-size : Only blockTable [] (notSuggested 10 0)
+  pub refused : Only [] noise (notSuggested 9 0)

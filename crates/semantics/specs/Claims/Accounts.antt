@@ -16,7 +16,7 @@ use Rattle.semantics.specs.Definitions.Stored.{WellFormed, bytesOf}
 use Rattle.semantics.specs.Definitions.Moves.{effectOf, ruleNumber}
 use Rattle.semantics.specs.Definitions.Run.{Counters, net, Step, steps, finalConfiguration, run, schedule, entries}
 use Rattle.semantics.specs.Definitions.Calls.{Buffers, Call, afterCalls, entriesDone}
-use Rattle.semantics.specs.Claims.Correspondence.{Accepts}
+use Rattle.semantics.specs.Claims.Correspondence.{Accepts, EveryHall}
 
 -- what a rule adds to a channel, and what it takes from it
 unfoldable pub adds : Name → Rule → ℕ
@@ -56,12 +56,11 @@ WithinTop c = (c .commits ≤ counterTop) × (c .failed ≤ counterTop) × (c .r
 
 -- a run over choice bytes: done is how many choices moved
 unfoldable pub RunAccounts : Type 0
-RunAccounts =
-    (bs : List ℕ) (t : Table) → Accepts bs t → (h : Configuration) → WellFormed (t .terms) h →
+RunAccounts = EveryHall (λ t h.
     (c : Counters) → WithinTop c → (choices : List ℕ) →
     let ss = steps h (entries (schedule choices)) in
     let a = run h c choices in
-    (a .done ≡ length ss) × Accounts h (a .configuration) c (a .counters) ss
+    (a .done ≡ length ss) × Accounts h (a .configuration) c (a .counters) ss)
 
 -- a list of calls on a stored hall, choices refused on the way included: the sums go over the choices done, of all
 -- calls as one list

@@ -17,10 +17,6 @@ use Rattle.semantics.specs.Definitions.Configuration.{Idle, taking, repe
 
 -- ---- the conditions of the refusals that a step may meet
 
--- 14: the position lies past the last component
-abbrev pub NoComponent {ℓ} : {A : Type ℓ} → List A → ℕ → Type 0
-NoComponent xs p = length xs ≤ p
-
 -- 18: nothing is there to take
 abbrev pub EmptyChannel : State → Name → Type 0
 EmptyChannel σ a = count σ a ≡ 0

@@ -1,22 +1,20 @@
 -- What is claimed of the moves inside an attempt (demand 3, on the path that a block takes): in any order they come to
--- an end, and to one end only.
+-- an end, and to one outcome only.
 -- Assumes nothing.
 use Prim.Native.Nat.{ℕ, _+_, _<_}
 use mathlib.Core.Path.{_≡_}
 use mathlib.Core.Option.{none, some}
 use mathlib.Core.List.{List, [], _∷_}
 use lib.ListN.{getElem?}
-use Rattle.calculus.specs.Syntax.{State}
+use Rattle.calculus.specs.Syntax.{Log, State}
 use Rattle.calculus.specs.Reduction.{Rule}
 use Rattle.semantics.specs.Definitions.Run.{InBytes}
 use Rattle.semantics.specs.Definitions.Basics.{replaceAt}
 use Rattle.semantics.specs.Definitions.Terms.{Expression, endT, retryT, rdT, wtT, orElseT}
-use Rattle.semantics.specs.Definitions.Table.{Table}
 use Rattle.semantics.specs.Definitions.Logs.{emptyLog, firstReadable}
 use Rattle.semantics.specs.Definitions.Configuration.{Tree, leaf, fork, transaction, Configuration}
-use Rattle.semantics.specs.Definitions.Stored.{WellFormed}
 use Rattle.semantics.specs.Definitions.Moves.{inside, moved, answerTo, evolves, inner}
-use Rattle.semantics.specs.Claims.Correspondence.{Accepts}
+use Rattle.semantics.specs.Claims.Correspondence.{EveryHall}
 
 -- the measure: 1 for an action, 2 for an orElse, of which 1 stays with the fork that it becomes
 unfoldable pub weightOf : Expression → ℕ
@@ -47,23 +45,21 @@ pub data Moves (s : State) : Tree → Tree → Type 0 where
 
 -- on every well-formed hall: a move inside the attempt at p is one of its nodes', lowers its measure and changes
 -- nothing else
-unfoldable pub MovesEnd : Type 0
+unfoldable pub MovesLowerWeight : Type 0
 unfolding weight
-MovesEnd =
-    (bs : List ℕ) (t : Table) → Accepts bs t → (h : Configuration) → WellFormed (t .terms) h →
+MovesLowerWeight = EveryHall (λ t h.
     (p k n : ℕ) (M : Expression) (s : State) (u : Tree) → getElem? (h .components) p ≡ some (transaction n M s u) →
     (r : Rule) (g : Configuration) → answerTo h (inside p k) ≡ moved r g →
     (v : Tree) × (inner s u k ≡ evolves r v) × (weight v < weight u) ×
-    (g ≡ record { counts = h .counts; components = replaceAt p (transaction n M s v ∷ []) (h .components) })
+    (g ≡ record { counts = h .counts; components = replaceAt p (transaction n M s v ∷ []) (h .components) }))
 
 -- an attempt that is no single end or retry leaf has a move inside it
 unfoldable pub MovesGoOn : Type 0
 unfolding InBytes
-MovesGoOn =
-    (bs : List ℕ) (t : Table) → Accepts bs t → (h : Configuration) → WellFormed (t .terms) h →
+MovesGoOn = EveryHall (λ t h.
     (p n : ℕ) (M : Expression) (s : State) (u : Tree) → getElem? (h .components) p ≡ some (transaction n M s u) →
     ¬ Settled u →
-    (k : ℕ) × (r : Rule) × (g : Configuration) × InBytes (inside p k) × (answerTo h (inside p k) ≡ moved r g)
+    (k : ℕ) × (r : Rule) × (g : Configuration) × InBytes (inside p k) × (answerTo h (inside p k) ≡ moved r g))
 
 -- and a single end or retry leaf has none
 unfoldable pub SettledRests : Type 0
@@ -71,21 +67,14 @@ SettledRests = (s : State) (u : Tree) → Settled u → (k : ℕ) (r : Rule) (v 
 
 -- whatever the order of the moves, one and the same tree stands at the end, its log and its term number included; from
 -- every tree, also one that no run reached
-unfoldable pub OneEnd : Type 0
-OneEnd = (s : State) (u v w : Tree) → Moves s u v → Settled v → Moves s u w → Settled w → v ≡ w
+unfoldable pub OneOutcome : Type 0
+OneOutcome = (s : State) (u v w : Tree) → Moves s u v → Settled v → Moves s u w → Settled w → v ≡ w
 
--- where a settled attempt stands against its block's first path readable at the snapshot: end with that path as its
--- log, or retry where there is none
-abbrev pub EndsWith : State → Expression → Tree → Type 0
-EndsWith s M (leaf (endT n) δ) = firstReadable s M ≡ some δ
-EndsWith s M (leaf (retryT n) δ) = firstReadable s M ≡ none
-EndsWith s M (leaf (rdT n a N) δ) = ⊥
-EndsWith s M (leaf (wtT n a N) δ) = ⊥
-EndsWith s M (leaf (orElseT n N N′) δ) = ⊥
-EndsWith s M (fork l r) = ⊥
-
--- for an attempt that a run opened, in whatever order its moves are made
+-- an attempt that a run opened, whatever the order of its moves, is settled by its block's first path readable at the
+-- snapshot: at end with that path as its log, at retry where there is none
 unfoldable pub MovesSettleFirstPath : Type 0
 unfolding emptyLog
 MovesSettleFirstPath =
-    (s : State) (M : Expression) (u : Tree) → Moves s (leaf M emptyLog) u → Settled u → EndsWith s M u
+    (s : State) (M : Expression) (n : ℕ) (δ : Log) →
+    (Moves s (leaf M emptyLog) (leaf (endT n) δ) → firstReadable s M ≡ some δ) ×
+    (Moves s (leaf M emptyLog) (leaf (retryT n) δ) → firstReadable s M ≡ none)

@@ -8,7 +8,7 @@ use mathlib.Core.List.{List}
 use Rattle.semantics.specs.Definitions.Basics.{Bytes}
 use Rattle.semantics.specs.Definitions.Moves.{Entry}
 use Rattle.semantics.specs.Definitions.Run.{entryBytes, InBytes}
-use Rattle.semantics.specs.Definitions.Calls.{Buffers, runCall, SuggestAnswer, suggested, still, suggestValues, SuggestAllowed}
+use Rattle.semantics.specs.Definitions.Calls.{Buffers, runCall, SuggestAnswer, suggested, still, SuggestAllowed}
 
 -- whatever is handed in, some answer is allowed
 unfoldable pub SuggestionExists : Type 0
@@ -28,8 +28,3 @@ unfolding SuggestAllowed
 StillRunsNone =
     (table : List ℕ) (l : Buffers) → SuggestAllowed table (l .hall) still →
     (choices : List ℕ) → Bytes choices → (runCall table l choices) .done ≡ 0
-
--- different answers have different values
-unfoldable pub AnswersDiffer : Type 0
-unfolding suggestValues
-AnswersDiffer = (a b : SuggestAnswer) → suggestValues a ≡ suggestValues b → a ≡ b

@@ -1,18 +1,18 @@
 -- What every public call gives, on bytes (document 01, "Reasons to turn a request down" and "What the contracts
 -- settle").
 -- Assumes nothing.
-use Prim.Native.Nat.{ℕ}
+use Prim.Native.Nat.{ℕ, zero, suc}
 use mathlib.Core.Path.{_≡_}
 use mathlib.Core.Bool.{Bool, true, false}
 use mathlib.Core.Option.{Option, none, some}
-use mathlib.Core.List.{List, [], _∷_, _++_}
-use lib.ListN.{length, take}
+use mathlib.Core.List.{List, [], _∷_, _++_, map}
+use lib.ListN.{length, take, getD}
 use lib.Dec.{eqb}
 use Rattle.semantics.specs.Definitions.Table.{Table, TableAnswer, accepted, refusedAt, readTable}
 use Rattle.semantics.specs.Definitions.Configuration.{Configuration, opening}
 use Rattle.semantics.specs.Definitions.Stored.{hallBytes, bytesOf, configurationOf}
-use Rattle.semantics.specs.Definitions.Moves.{Entry, Answer, moved, refused, answerTo}
-use Rattle.semantics.specs.Definitions.Run.{Counters, freshCounters, RunAnswer, run, schedule, entries, entryBytes, InBytes}
+use Rattle.semantics.specs.Definitions.Moves.{Entry, Answer, moved, refused, answerTo, ruleNumber}
+use Rattle.semantics.specs.Definitions.Run.{Counters, freshCounters, RunAnswer, run, schedule, entries, InBytes, steps}
 
 -- accepted, or refused with a number and a place
 pub data Verdict : Type 0 where
@@ -139,14 +139,51 @@ unfoldable pub runCall : (table : List ℕ) → Buffers → (choices : List ℕ)
 unfolding runAdmitted admission
 runCall table l choices = runAdmitted l choices (admission table (l .hall))
 
+-- ---- step: one choice, given as three numbers
+
+-- its bytes in a schedule; a kind that is neither 1 nor 2 stands alone, and a run refuses it with 12
+unfoldable pub stepBytes : (kind position node : ℕ) → List ℕ
+stepBytes zero p k = 0 ∷ []
+stepBytes (suc zero) p k = 1 ∷ p ∷ []
+stepBytes (suc (suc zero)) p k = 2 ∷ p ∷ k ∷ []
+stepBytes (suc (suc (suc n))) p k = suc (suc (suc n)) ∷ []
+
+-- the answer, with the number of the rule that moved (0 where refused), and what was lent afterwards
+pub record StepCall : Type 0 where
+  pub number : ℕ
+  pub place : ℕ
+  pub rule : ℕ
+  pub buffers : Buffers
+
+-- the number of the first rule done, 0 where none is
+unfoldable pub firstRule : Admission → List Entry → ℕ
+unfolding steps ruleNumber
+firstRule (notAdmitted n p) es = 0
+firstRule (admitted t h) es = getD (map (λ s. ruleNumber (s .rule)) (steps h es)) 0 0
+
+-- a run of that one choice
+unfoldable pub stepCall : (table : List ℕ) → Buffers → (kind position node : ℕ) → StepCall
+unfolding stepBytes runCall firstRule admission entries schedule
+stepCall table l kind position node =
+    let choice = stepBytes kind position node in
+    let a = runCall table l choice in
+    let rule = firstRule (admission table (l .hall)) (entries (schedule choice)) in
+    record { number = a .number; place = a .place; rule = rule; buffers = a .buffers }
+
 -- ---- a list of calls on one table, hall and counters
 
 pub data Call : Type 0 where
   runChoices : List ℕ → Call
+  stepChoice : (kind position node : ℕ) → Call
+
+unfoldable pub callBytes : Call → List ℕ
+unfolding stepBytes
+callBytes (runChoices choices) = choices
+callBytes (stepChoice kind position node) = stepBytes kind position node
 
 unfoldable pub callAnswer : List ℕ → Buffers → Call → RunCall
-unfolding runCall
-callAnswer table l (runChoices choices) = runCall table l choices
+unfolding runCall callBytes
+callAnswer table l c = runCall table l (callBytes c)
 
 -- each call gets hall and counters as the last one left them
 unfoldable pub afterCalls : List ℕ → Buffers → List Call → Buffers
@@ -156,8 +193,8 @@ afterCalls table l (c ∷ cs) = afterCalls table ((callAnswer table l c) .buffer
 
 -- the entries of a call's schedule
 unfoldable pub callEntries : Call → List Entry
-unfolding entries schedule
-callEntries (runChoices choices) = entries (schedule choices)
+unfolding entries schedule callBytes
+callEntries c = entries (schedule (callBytes c))
 
 -- the entries done, over all calls as one list: of each call as many as its answer says
 unfoldable pub entriesDone : List ℕ → Buffers → List Call → List Entry
@@ -172,18 +209,6 @@ pub data SuggestAnswer : Type 0 where
   suggested : Entry → SuggestAnswer
   still : SuggestAnswer
   notSuggested : (number place : ℕ) → SuggestAnswer
-
--- what each case says in numbers, no two answers the same: the bytes of a choice, nothing, or a number with its place
-pub data SuggestValues : Type 0 where
-  choiceSaid : (bytes : List ℕ) → SuggestValues
-  stillSaid : SuggestValues
-  refusalSaid : (number place : ℕ) → SuggestValues
-
-unfoldable pub suggestValues : SuggestAnswer → SuggestValues
-unfolding entryBytes
-suggestValues (suggested e) = choiceSaid (entryBytes e)
-suggestValues still = stillSaid
-suggestValues (notSuggested n p) = refusalSaid n p
 
 abbrev pub IsMoved : Answer → Type 0
 IsMoved (moved r h) = Unit {0}

@@ -17,10 +17,10 @@ pub data Tree : Type 0 where
   leaf : Expression → Log → Tree
   fork : Tree → Tree → Tree
 
--- a component: idle, or a transaction of block number n with expression M, its snapshot and its nodes
+-- a component: idle, or a transaction of block number n with expression M, its snapshot and the tree of its nodes
 pub data Component : Type 0 where
   idle : Idle → Component
-  transaction : (n : ℕ) (M : Expression) (snapshot : State) (nodes : Tree) → Component
+  transaction : (n : ℕ) (M : Expression) (snapshot : State) (tree : Tree) → Component
 
 pub record Configuration : Type 0 where
   pub counts : State

@@ -137,8 +137,8 @@ unfoldable pub applyAt : ℕ → LocalAnswer → Configuration → Answer
 unfolding replaceAt
 applyAt p (blocked n) h = refused n
 applyAt p (moves r σ cs) h =
-    let left = replaceAt p cs (h .components) in
-    cond (leb (length left) maxComponents) (moved r (record { counts = σ; components = left })) (refused 19)
+    let after = replaceAt p cs (h .components) in
+    cond (leb (length after) maxComponents) (moved r (record { counts = σ; components = after })) (refused 19)
 
 -- refusal 14: the position lies past the last component
 unfoldable pub atPosition : Option Component → (Component → Answer) → Answer

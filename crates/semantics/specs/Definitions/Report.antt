@@ -11,7 +11,7 @@ use Rattle.calculus.specs.Syntax.{State}
 use Rattle.semantics.specs.Definitions.Layout.{maxInput}
 use mathlib.Core.Option.{bind}
 use mathlib.Core.List.{flatten}
-use Rattle.semantics.specs.Definitions.Table.{Kind, kindOf, fields, TableAnswer, accepted, refusedAt, readTable}
+use Rattle.semantics.specs.Definitions.Table.{kindOf, fields, TableAnswer, accepted, refusedAt, readTable}
 use Rattle.semantics.specs.Definitions.Configuration.{taking, repeating, block, output, Component, idle, transaction, Configuration, opening, nodes}
 use Rattle.semantics.specs.Definitions.Run.{Counters, freshCounters, RunAnswer, net, run}
 
@@ -86,20 +86,15 @@ report choices (accepted t) = lines (opening t) (run (opening t) freshCounters c
 
 -- ---- the input's two parts
 
--- over a record that is no start record, where its kind is known
-unfoldable pub skipRecord : Option Kind → (ℕ → Option ℕ) → Option ℕ
-unfolding fields
-skipRecord none rest = none
-skipRecord (some K) rest = rest (length (fields K))
-
 -- how many bytes there are up to the end of the first start record (kind 13, of two bytes), going from record to record
 unfoldable pub tableSize : ℕ → List ℕ → Option ℕ
-unfolding skipRecord kindOf bind
+unfolding fields kindOf bind
 tableSize zero bs = none
 tableSize (suc f) [] = none
 tableSize (suc f) (k ∷ bs) =
     cond (eqb k 13) (some 2)
-    (skipRecord (kindOf k) (λ size. bind (tableSize f (drop size bs)) (λ n. some (suc size + n))))
+    (bind (kindOf k) (λ K.
+    let size = length (fields K) in bind (tableSize f (drop size bs)) (λ n. some (suc size + n))))
 
 unfoldable pub splitReport : List ℕ → Option ℕ → List ℕ
 unfolding report readTable

@@ -1,4 +1,0 @@
-pub mod Accepted
-pub mod Checking
-pub mod Opening
-pub mod Verdicts

@@ -1,4 +1,0 @@
-pub mod Entries
-pub mod Holding
-pub mod Replacing
-pub mod InPlace

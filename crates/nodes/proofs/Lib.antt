@@ -1,3 +1,0 @@
-pub mod Logs
-pub mod Leaves
-pub mod Nodes

@@ -1,3 +1,0 @@
-pub mod KindBytes
-pub mod Turns
-pub mod Contents

@@ -1,4 +1,0 @@
-pub mod TermKinds
-pub mod TermMeasures
-pub mod Stores
-pub mod Limits
