@@ -1,0 +1,42 @@
+-- What an entry of a schedule (a choice) is answered while a configuration is held, and what it makes of what is held.
+--
+-- d is a decoded table; s has the bytes, starts the index, n the number of components (stations).
+-- Assumes nothing.
+use Prim.Native.Nat.{ℕ}
+use mathlib.Core.Path.{_≡_}
+use mathlib.Core.List.{List}
+use Rattle.semantics.specs.Definitions.Terms.{Term}
+use Rattle.semantics.specs.Definitions.Configuration.{Configuration}
+use Rattle.semantics.specs.Definitions.Moves.{Entry, Answer, moved, refused, answerTo, movedBy, replyOf}
+use Rattle.terms.specs.Decoded.{Decoded}
+use Rattle.rules.specs.declared.Reply.{Reply}
+use Rattle.rules.specs.Replies.{replyIs}
+use Rattle.index.specs.Holds.{Holds}
+
+-- the configuration after an answer: a refusal leaves it as it was
+unfoldable pub afterwards : Answer → Configuration → Configuration
+afterwards (moved r g) h = g
+afterwards (refused n) h = h
+
+-- r is what the entry is answered, whichever configuration of whichever table is held
+pub record Looked (d s starts : List ℕ) (n : ℕ) (e : Entry) (r : Reply) : Type 0 where
+  pub found : (ts : List Term) (h : Configuration) → Decoded ts d → Holds ts h s starts n → replyIs r ≡ replyOf (answerTo h e)
+
+-- the entry is accepted, by the rule of this number
+pub record Accepts (d s starts : List ℕ) (n : ℕ) (e : Entry) (rule : ℕ) : Type 0 where
+  pub terms : List Term
+  pub configuration : Configuration
+  pub decoded : Decoded terms d
+  pub holds : Holds terms configuration s starts n
+  pub reply : replyOf (answerTo configuration e) ≡ movedBy rule
+
+-- where the entry is accepted by the rule of this number, what it makes of the configuration is held now
+pub record Applied (d s starts : List ℕ) (n : ℕ) (e : Entry) (rule : ℕ) (s′ starts′ : List ℕ) (n′ : ℕ) : Type 0 where
+  pub found : (ts : List Term) (h : Configuration) → Decoded ts d → Holds ts h s starts n →
+      replyOf (answerTo h e) ≡ movedBy rule → Holds ts (afterwards (answerTo h e) h) s′ starts′ n′
+
+-- an entry that is looked at and then made: what it makes of the configuration is held now, accepted or refused
+pub record Chosen (d s starts : List ℕ) (n : ℕ) (e : Entry) (r : Reply) (s′ starts′ : List ℕ) (n′ : ℕ) : Type 0 where
+  pub looked : Looked d s starts n e r
+  pub found : (ts : List Term) (h : Configuration) → Decoded ts d → Holds ts h s starts n →
+      Holds ts (afterwards (answerTo h e) h) s′ starts′ n′

@@ -1,0 +1,8 @@
+-- The laws of needs, of counts, of writes and of logs as values; their links to the definitions; where logs stand.
+pub mod Padding
+pub mod Needing
+pub mod Counting
+pub mod Writing
+pub mod Keeping
+pub mod Links
+pub mod Places

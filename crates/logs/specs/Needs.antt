@@ -1,0 +1,47 @@
+-- What the bytes of a log need: how often each channel (tray) is read. And needs held against counts, by the one test.
+-- Assumes nothing.
+use Prim.Native.Nat.{ℕ, zero, suc, _+_, _-_}
+use mathlib.Core.Bool.{Bool, true, cond, _&&_}
+use mathlib.Core.List.{List, [], _∷_}
+use lib.ListN.{getD, set, replicate}
+use lib.Dec.{leb, ltb}
+use Rattle.semantics.specs.Definitions.Layout.{channels, writeOffset}
+
+-- ---- needs, by channel
+
+-- one more of a channel
+unfoldable pub alsoNeeded : List ℕ → ℕ → List ℕ
+alsoNeeded need a = set need a (getD need a 0 + 1)
+
+-- one more action: a read's byte is its channel, and a write needs nothing
+unfoldable pub needing : List ℕ → ℕ → List ℕ
+unfolding alsoNeeded
+needing need b = cond (ltb b writeOffset) (alsoNeeded need b) need
+
+-- the actions in order
+unfoldable pub needsFrom : List ℕ → List ℕ → List ℕ
+unfolding needing
+needsFrom need [] = need
+needsFrom need (b ∷ bs) = needsFrom (needing need b) bs
+
+unfoldable pub needsOf : List ℕ → List ℕ
+unfolding needsFrom
+needsOf bs = needsFrom (replicate channels 0) bs
+
+-- ---- needs and counts
+
+-- the first so many channels are needed no more often than the counts say that stand from an offset on
+unfoldable pub withinFirst : (need s : List ℕ) → (at n : ℕ) → Bool
+withinFirst need s at zero = true
+withinFirst need s at (suc n) = withinFirst need s at n && leb (getD need n 0) (getD s (at + n) 0)
+
+-- the one test of reads against counts
+unfoldable pub withinAt : (need s : List ℕ) → (at : ℕ) → Bool
+unfolding withinFirst
+withinAt need s at = withinFirst need s at channels
+
+-- counts lowered by needs; what stands behind them stays
+unfoldable pub lowered : (need s : List ℕ) → List ℕ
+lowered [] s = s
+lowered (n ∷ need) [] = []
+lowered (n ∷ need) (c ∷ s) = (c - n) ∷ lowered need s

@@ -1,0 +1,175 @@
+// Logs (document 01, "The stored hall" and "Choices and moves"): as values, and what a stored log needs and writes.
+//
+// What the reads of a log come to is an array of needs, one for each channel (tray). It is held against counts by one
+// test, `within`, whatever the counts are: the hall's own or a snapshot. A stored log is read where it stands, at an
+// offset of a hall's bytes.
+use buffer::wide;
+use stored::CHANNELS;
+use stored::IDLE_SIZE;
+use stored::KIND_OUTPUT;
+use stored::LOG_SIZE;
+ghost use mathlib.Core.Path.{_≡_};
+ghost use mathlib.Core.Bool.{true};
+ghost use mathlib.Core.List.{[], _∷_, _++_};
+ghost use Prim.Native.Nat.{_+_, _≤_, _<_};
+ghost use lib.ListN.{length, getD, take, drop};
+ghost use Rattle.semantics.specs.Definitions.Layout.{maxByte, channels, maxActions};
+ghost use Rattle.semantics.specs.Definitions.Logs.{emptyLog};
+ghost use Rattle.logs.specs.Needs.{alsoNeeded, needsOf, withinAt, lowered};
+ghost use Rattle.logs.specs.Writes.{writesOf};
+ghost use Rattle.logs.specs.Values.{LogIs, LogWith, OutputsAre};
+
+// A write's byte is its channel and this; a read's is its channel.
+pub const WRITES: u8 = stored::WRITE_OFFSET;
+
+// A log: how many actions it has, and a byte for each of them, with zeros behind.
+pub struct Log {
+    pub length: u8,
+    pub actions: [u8; 16],
+}
+
+// The components (stations) that the writes of a log become, as bytes with zeros behind, and how many they are.
+pub struct Outputs {
+    pub bytes: [u8; 32],
+    pub count: usize,
+}
+
+impl Log {
+    // The empty log.
+    pub fn empty() -> Self
+        ensures { λ r. ⌜ LogIs r emptyLog ⌝ }
+    {
+        Log {
+            length: 0,
+            actions: [0u8; 16],
+        }
+    }
+
+    // The log of so many actions whose bytes begin at an offset.
+    pub fn read(s: &[u8], at: usize, size: u8) -> Self
+        requires { ⌜ at + maxActions ≤ length (now s) ⌝ }
+        ensures { λ r. ⌜ (r .length ≡ size) × (r .actions ≡ take maxActions (drop at (now (s .entry)))) ⌝ }
+    {
+        let mut actions = [0u8; 16];
+        let mut i: usize = 0;
+        while i < LOG_SIZE {
+            actions[i] = s[at + i];
+            i += 1;
+        }
+        Log {
+            length: size,
+            actions,
+        }
+    }
+
+    // The log with one action more.
+    pub fn with(self, action: u8) -> Self
+        requires { ⌜ self .length < maxActions ⌝ }
+        ensures { λ r. ⌜ LogWith self action r ⌝ }
+    {
+        let mut actions = self.actions;
+        let length = self.length;
+        let at = wide(length);
+        actions[at] = action;
+        Log {
+            length: length + 1,
+            actions,
+        }
+    }
+}
+
+// A channel is needed once more.
+fn one_more(times: u8) -> u8
+    requires { ⌜ times < maxByte ⌝ }
+    ensures { λ r. ⌜ r ≡ times + 1 ⌝ }
+{
+    times + 1
+}
+
+// How often each channel is read by the log of so many actions whose bytes begin at an offset.
+pub fn needs_of(s: &[u8], at: usize, size: usize) -> [u8; 16]
+    requires { ⌜ (size ≤ maxActions) × (at + size ≤ length (now s)) ⌝ }
+    ensures { λ r. ⌜ r ≡ needsOf (take size (drop at (now (s .entry)))) ⌝ }
+{
+    let mut need = [0u8; 16];
+    let mut i: usize = 0;
+    while i < size {
+        let action = wide(s[at + i]);
+        i += 1;
+        if action < CHANNELS {
+            need[action] = one_more(need[action]);
+        }
+    }
+    need
+}
+
+// The needs with one more read, of a channel.
+pub fn need_also(need: [u8; 16], channel: u8) -> [u8; 16]
+    requires { ⌜ (channel < channels) × (getD need channel 0 < maxByte) ⌝ }
+    ensures { λ r. ⌜ r ≡ alsoNeeded need channel ⌝ }
+{
+    let mut more = need;
+    let at = wide(channel);
+    more[at] = one_more(more[at]);
+    more
+}
+
+// What a stored log needs with a read of a channel at its end.
+pub fn needs_with(s: &[u8], at: usize, size: usize, channel: u8) -> [u8; 16]
+    requires { ⌜ (size ≤ maxActions) × (at + size ≤ length (now s)) × (channel < channels) ⌝ }
+    ensures { λ r. ⌜ r ≡ needsOf (take size (drop at (now (s .entry))) ++ (channel ∷ [])) ⌝ }
+{
+    need_also(needs_of(s, at, size), channel)
+}
+
+// The one test of reads against counts: each need is at most the count of its channel, of the counts that stand at an
+// offset. There is no way out of the loop, so that all are compared at once.
+pub fn within(need: [u8; 16], s: &[u8], at: usize) -> bool
+    requires { ⌜ at + channels ≤ length (now s) ⌝ }
+    ensures { λ r. ⌜ r ≡ withinAt need (now (s .entry)) at ⌝ }
+{
+    let mut enough = true;
+    let mut i: usize = 0;
+    while i < CHANNELS {
+        let needed = need[i];
+        let count = s[at + i];
+        i += 1;
+        if count < needed {
+            enough = false;
+        }
+    }
+    enough
+}
+
+// The counts of a hall, lowered by needs that they cover.
+pub fn take_needs(s: &mut [u8], need: [u8; 16])
+    requires { ⌜ (channels ≤ length (now s)) × (withinAt need (now s) 0 ≡ true) ⌝ }
+    ensures { λ _. ⌜ now (s .exit) ≡ lowered need (now (s .entry)) ⌝ }
+{
+    let mut channel: usize = 0;
+    while channel < CHANNELS {
+        s[channel] = s[channel] - need[channel];
+        channel += 1;
+    }
+}
+
+// The components that the writes of a stored log become, in log order.
+pub fn outputs_of(s: &[u8], at: usize, size: usize) -> Outputs
+    requires { ⌜ (size ≤ maxActions) × (at + size ≤ length (now s)) ⌝ }
+    ensures { λ r. ⌜ OutputsAre r (writesOf (take size (drop at (now (s .entry))))) ⌝ }
+{
+    let mut bytes = [0u8; 32];
+    let mut count: usize = 0;
+    let mut i: usize = 0;
+    while i < size {
+        let action = s[at + i];
+        i += 1;
+        if WRITES <= action {
+            let end = count * IDLE_SIZE;
+            bytes[end] = KIND_OUTPUT;
+            bytes[end + 1] = action - WRITES;
+            count += 1;
+        }
+    }
+    Outputs { bytes, count }
+}

@@ -1,0 +1,3 @@
+pub mod Logs
+pub mod Leaves
+pub mod Nodes

@@ -1,0 +1,156 @@
+// The nodes of a stored transaction (document 01, "The stored hall"): whether the bytes at an offset are a fork or a
+// leaf that a decoded table allows.
+//
+// The bytes may be anything. No expression is walked: the measures of each term stand in the decoded table.
+use buffer::wide;
+use records::EXPRESSION;
+use stored::ACTIONS;
+use stored::KIND_FORK;
+use stored::KIND_LEAF;
+use stored::LEAF_LOG;
+use stored::LEAF_LOG_LENGTH;
+use stored::LEAF_SIZE;
+use stored::LEAF_TERM;
+use stored::LOG_SIZE;
+use stored::NO_TERM;
+use terms::DECODED;
+use terms::larger;
+ghost use mathlib.Core.Path.{_≡_};
+ghost use Prim.Native.Nat.{_+_, _≤_};
+ghost use lib.ListN.{length, take, drop};
+ghost use Rattle.semantics.specs.Definitions.Layout.{maxTerms};
+ghost use Rattle.stored.specs.Layout.{logSize, leafSize};
+ghost use Rattle.storedlaws.specs.Reading.{isLog};
+ghost use Rattle.nodes.specs.Answers.{excessOf, RemainingRead, LeafRead, NodeRead};
+
+// What the bytes of a log are below, from the place on where as many action limits follow as it has actions. Behind
+// the log all is zero.
+const LIMITS: [u8; 2 * LOG_SIZE] = [
+    ACTIONS,
+    ACTIONS,
+    ACTIONS,
+    ACTIONS,
+    ACTIONS,
+    ACTIONS,
+    ACTIONS,
+    ACTIONS,
+    ACTIONS,
+    ACTIONS,
+    ACTIONS,
+    ACTIONS,
+    ACTIONS,
+    ACTIONS,
+    ACTIONS,
+    ACTIONS,
+    1,
+    1,
+    1,
+    1,
+    1,
+    1,
+    1,
+    1,
+    1,
+    1,
+    1,
+    1,
+    1,
+    1,
+    1,
+    1,
+];
+
+// The measures of what remains at a leaf.
+pub enum Remaining {
+    Measured { branches: u8, length: u8 },
+    Unknown,
+}
+
+// A node, with the branches that remain at it itself: a fork has none, a leaf those of its term.
+pub enum NodeTest {
+    Branches(u8),
+    Malformed,
+}
+
+// The measures of the expression that a leaf's byte names, of a table of n terms.
+pub fn remaining_at(decoded: &[u8; DECODED], n: usize, byte: u8) -> Remaining
+    requires { ⌜ n ≤ maxTerms ⌝ }
+    ensures { λ r. ⌜ RemainingRead (now (decoded .entry)) n byte r ⌝ }
+{
+    let i = wide(byte);
+    if i < n {
+        if records::class_of(terms::kind_of(decoded, i)) != EXPRESSION {
+            return Remaining::Unknown;
+        }
+        return Remaining::Measured {
+            branches: terms::breadth_of(decoded, i),
+            length: terms::length_of(decoded, i),
+        };
+    }
+    if byte == NO_TERM {
+        return Remaining::Measured {
+            branches: 1,
+            length: 0,
+        };
+    }
+    Remaining::Unknown
+}
+
+// 0 for a byte that is below its limit, and 1 for another.
+pub fn excess(byte: u8, limit: u8) -> u8
+    ensures { λ r. ⌜ r ≡ excessOf byte limit ⌝ }
+{
+    if byte < limit { 0 } else { 1 }
+}
+
+// Whether the 16 bytes at an offset are a log of `size` actions, with zeros behind them. Each byte is held against
+// its limit with no way out of the loop, so that all are compared at once.
+pub fn log_at(s: &[u8], at: usize, size: usize) -> bool
+    requires { ⌜ (size ≤ logSize) × (at + logSize ≤ length (now s)) ⌝ }
+    ensures { λ r. ⌜ r ≡ isLog size (take logSize (drop at (now (s .entry)))) ⌝ }
+{
+    let limits = LIMITS;
+    let first = LOG_SIZE - size;
+    let mut wrong: u8 = 0;
+    let mut i: usize = 0;
+    while i < LOG_SIZE {
+        wrong = larger(wrong, excess(s[at + i], limits[first + i]));
+        i += 1;
+    }
+    wrong == 0
+}
+
+// The leaf whose 19 bytes begin at an offset.
+pub fn leaf_at(decoded: &[u8; DECODED], n: usize, s: &[u8], at: usize) -> NodeTest
+    requires { ⌜ (n ≤ maxTerms) × (at + leafSize ≤ length (now s)) ⌝ }
+    ensures { λ r. ⌜ LeafRead (now (decoded .entry)) n (now (s .entry)) at r ⌝ }
+{
+    let Remaining::Measured { branches, length } = remaining_at(decoded, n, s[at + LEAF_TERM])
+    else {
+        return NodeTest::Malformed;
+    };
+    let size = wide(s[at + LEAF_LOG_LENGTH]);
+    if LOG_SIZE < size + wide(length) {
+        return NodeTest::Malformed;
+    }
+    if log_at(s, at + LEAF_LOG, size) {
+        return NodeTest::Branches(branches);
+    }
+    NodeTest::Malformed
+}
+
+// The node that begins at an offset. A tree has a leaf, so that none begins where fewer bytes are left than a leaf
+// takes.
+pub fn node_at(decoded: &[u8; DECODED], n: usize, s: &[u8], at: usize) -> NodeTest
+    requires { ⌜ (n ≤ maxTerms) × (at ≤ length (now s)) ⌝ }
+    ensures { λ r. ⌜ NodeRead (now (decoded .entry)) n (now (s .entry)) at r ⌝ }
+{
+    if s.len() < at + LEAF_SIZE {
+        return NodeTest::Malformed;
+    }
+    match s[at] {
+        KIND_FORK => NodeTest::Branches(0),
+        KIND_LEAF => leaf_at(decoded, n, s, at),
+        _ => NodeTest::Malformed,
+    }
+}

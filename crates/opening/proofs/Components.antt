@@ -1,0 +1,191 @@
+-- Writing a process's components into a hall's bytes. A law for each need of the code.
+-- Assumes nothing.
+use Prim.Native.Nat.{ℕ, _+_, _*_, _≤_, _<_}
+use native.Mathlib.Omega.{arith}
+use mathlib.Core.Path.{_≡_, refl, ap, _∙_}
+use mathlib.Core.Option.{some}
+use mathlib.Core.List.{List, [], _∷_, _++_, map, map-append}
+use lib.ListN.{length, getElem?, length-append}
+use mir.Syntax.{w8}
+use mir.Val.{Fits}
+use mathlib.Core.List.{flatten}
+use Rattle.semantics.specs.Definitions.Terms.{Program, nilT, putT, takeT, repeatT, parT, atomT, Term, process, width}
+use Rattle.semantics.specs.Checks.AcceptedTables.{programNumber, termNumber, SubtermsIn}
+use Rattle.semantics.specs.Definitions.Configuration.{idle, opens}
+use Rattle.semantics.specs.Definitions.Stored.{componentBytes}
+use Rattle.semantics.proofs.Lists.{found-below}
+use Rattle.semantics.proofs.RoundTrip.{width-bounds-opening}
+use Rattle.terms.specs.Decoded.{kindAt, firstAt, secondAt, RecordOf, Decoded, maxTerms}
+use Rattle.buffer.specs.Splice.{written}
+use Rattle.buffer.proofs.Written.{written-none, written-length, written-twice}
+use Rattle.stored.specs.Layout.{waitingKind, outputKind, idleSize}
+use Rattle.storedlaws.specs.Positions.{allBytes}
+use Rattle.storedlaws.proofs.Configurations.{all-bytes-append}
+use Rattle.opening.specs.Opening.{openedBytes, ComponentsFit, ComponentsWritten}
+
+-- ---- the bytes of what a process opens into
+
+-- side by side: the left side's, then the right side's
+opened-par : (n : ℕ) (P Q : Program) → openedBytes (parT n P Q) ≡ openedBytes P ++ openedBytes Q
+unfolding openedBytes opens
+opened-par n P Q = rw (map-append idle (opens P) (opens Q)) (all-bytes-append (map idle (opens P)) (map idle (opens Q)))
+
+-- a component is two bytes
+pub opened-length : (P : Program) → length (openedBytes P) ≡ idleSize * length (opens P)
+unfolding openedBytes opens allBytes flatten componentBytes
+opened-length (nilT n) = refl
+opened-length (putT n a) = refl
+opened-length (takeT n a P) = refl
+opened-length (repeatT n a P) = refl
+opened-length (parT n P Q) =
+    let p = opened-length P in
+    let q = opened-length Q in
+    let l = length-append (openedBytes P) (openedBytes Q) in
+    let m = length-append (opens P) (opens Q) in ap length (opened-par n P Q) ∙ omega arith
+opened-length (atomT n M) = refl
+
+pub opened-fits : (P : Program) → length (openedBytes P) ≤ idleSize * width P
+opened-fits P =
+    let l = opened-length P in
+    let w = width-bounds-opening P in omega arith
+
+-- ---- by the kind of a process
+
+module _ (ts : List Term) (i l r : ℕ) where
+  -- the two sides of a process, at the numbers that its fields say
+  record Sides (P : Program) : Type 0 where
+    left : Program
+    right : Program
+    at-left : getElem? ts l ≡ some (process left)
+    at-right : getElem? ts r ≡ some (process right)
+    below-left : l < i
+    below-right : r < i
+    sum : width P ≡ width left + width right
+    bytes : openedBytes P ≡ openedBytes left ++ openedBytes right
+
+  -- what is written for the process whose record has kind k and fields l and r
+  by-kind : (k : ℕ) (P : Program) → RecordOf i k l r (process P) → SubtermsIn ts (process P) → programNumber P ≡ i → (C : Type 0) →
+      (k ≡ 1 → openedBytes P ≡ [] → C) → (k ≡ 2 → openedBytes P ≡ outputKind ∷ l ∷ [] → C) → (k ≡ 5 → Sides P → C) →
+      ((k ≡ 1 → ⊥) → (k ≡ 2 → ⊥) → (k ≡ 5 → ⊥) → openedBytes P ≡ waitingKind ∷ i ∷ [] → C) → C
+  unfolding openedBytes opens width allBytes flatten componentBytes programNumber
+  by-kind k (nilT n) e s p C nothing output beside waiting = nothing e refl
+  by-kind k (putT n a) e s p C nothing output beside waiting = output (e .0) (rw (e .1))
+  by-kind k (takeT n a P) e s p C nothing output beside waiting = let z = e .0 in waiting (λ h. omega arith) (λ h. omega arith) (λ h. omega arith) (rw p)
+  by-kind k (repeatT n a P) e s p C nothing output beside waiting = let z = e .0 in waiting (λ h. omega arith) (λ h. omega arith) (λ h. omega arith) (rw p)
+  by-kind k (parT n P Q) e s p C nothing output beside waiting =
+      beside (e .0) (record {
+        left = P;
+        right = Q;
+        at-left = rw (e .1) (s .0);
+        at-right = rw (e .3) (s .1);
+        below-left = e .2;
+        below-right = e .4;
+        sum = refl;
+        bytes = opened-par n P Q;
+      })
+  by-kind k (atomT n M) e s p C nothing output beside waiting = let z = e .0 in waiting (λ h. omega arith) (λ h. omega arith) (λ h. omega arith) (rw p)
+
+-- ---- the walk from process number i
+
+module _ (d : List ℕ) (i k : ℕ) (kind : k ≡ kindAt d i) where
+  module _ (ts : List Term) (P : Program) (x : Decoded ts d) (e : getElem? ts i ≡ some (process P)) where
+    abbrev SidesAt : Type 0
+    SidesAt = Sides ts i (firstAt d i) (secondAt d i) P
+
+    at-kind : (C : Type 0) → (k ≡ 1 → openedBytes P ≡ [] → C) → (k ≡ 2 → openedBytes P ≡ outputKind ∷ firstAt d i ∷ [] → C) → (k ≡ 5 → SidesAt → C) →
+        ((k ≡ 1 → ⊥) → (k ≡ 2 → ⊥) → (k ≡ 5 → ⊥) → openedBytes P ≡ waitingKind ∷ i ∷ [] → C) → C
+    unfolding termNumber
+    at-kind =
+        by-kind ts i (firstAt d i) (secondAt d i) k P (rw kind (x .records i (process P) e)) (x .good .subterms i (process P) e) (x .good .numbered i (process P) e)
+
+    sides-at : k ≡ 5 → SidesAt
+    sides-at h = at-kind SidesAt (λ f b. absurd (omega arith)) (λ f b. absurd (omega arith)) (λ f s. s) (λ a b c o. absurd (c h))
+
+    nothing-at : k ≡ 1 → openedBytes P ≡ []
+    nothing-at h = at-kind _ (λ f b. b) (λ f b. absurd (omega arith)) (λ f s. absurd (omega arith)) (λ a b c o. absurd (a h))
+
+    output-at : k ≡ 2 → openedBytes P ≡ outputKind ∷ firstAt d i ∷ []
+    output-at h = at-kind _ (λ f b. absurd (omega arith)) (λ f b. b) (λ f s. absurd (omega arith)) (λ a b c o. absurd (b h))
+
+    waiting-at : (k ≡ 5 → ⊥) → (k ≡ 1 → ⊥) → (k ≡ 2 → ⊥) → openedBytes P ≡ waitingKind ∷ i ∷ []
+    waiting-at h f g = at-kind _ (λ z b. absurd (f z)) (λ z b. absurd (g z)) (λ z s. absurd (h z)) (λ a b c o. o)
+
+  module _ (s : List ℕ) (at : ℕ) (x : ComponentsFit d i s at) where
+    -- ---- side by side
+
+    sides-of : k ≡ 5 → SidesAt (x .terms) (x .tree) (x .decoded) (x .at)
+    sides-of h = sides-at (x .terms) (x .tree) (x .decoded) (x .at) h
+
+    module _ (h : k ≡ 5) (f : ℕ) (o : f ≡ firstAt d i) (l : ℕ) (p : l ≡ f) where
+      pub left-fits : ComponentsFit d l s at
+      left-fits =
+          let v = sides-of h in
+          let z = v .sum in
+          let f = x .fits in
+          record { terms = x .terms; tree = v .left; decoded = x .decoded; at = rw (p, o) (v .at-left); fits = omega arith }
+
+      pub left-falls : (t : ℕ) → i ≡ t → l < t
+      left-falls t q = let v = sides-of h .below-left in omega arith
+
+      module _ (s′ : List ℕ) (middle : ℕ) (w : ComponentsWritten d l s at s′ middle) (g : ℕ) (u : g ≡ secondAt d i) (r : ℕ) (q : r ≡ g) where
+        -- behind what was written of the left side the right side fits
+        pub right-fits : ComponentsFit d r s′ middle
+        right-fits =
+            let v = sides-of h in
+            let z = v .sum in
+            let f = x .fits in
+            let g = opened-fits (v .left) in
+            let m = w .found (x .terms) (v .left) (x .decoded) (rw (p, o) (v .at-left)) in
+            let b = openedBytes (v .left) in
+            let n : length s′ ≡ length s = ap length (m .1) ∙ written-length s at b (length b) (omega arith) (omega arith) in
+            record { terms = x .terms; tree = v .right; decoded = x .decoded; at = rw (q, u) (v .at-right); fits = omega arith }
+
+        pub both-written : (s″ : List ℕ) (end : ℕ) → ComponentsWritten d r s′ middle s″ end → ComponentsWritten d i s at s″ end
+        both-written s″ end w′ = record { found = λ ts P y e. go ts P y e (sides-at ts P y e h) }
+          where
+            go : (ts : List Term) (P : Program) (y : Decoded ts d) (e : getElem? ts i ≡ some (process P)) → SidesAt ts P y e →
+                (end ≡ at + length (openedBytes P)) × (s″ ≡ written s at (openedBytes P) (length (openedBytes P)))
+            go ts P y e v =
+                let f = x .fits in
+                let a = w .found ts (v .left) y (rw (p, o) (v .at-left)) in
+                let b = w′ .found ts (v .right) y (rw (q, u) (v .at-right)) in
+                let n = length-append (openedBytes (v .left)) (openedBytes (v .right)) in
+                let twice = written-twice s (openedBytes (v .left)) (openedBytes (v .right)) at (omega arith) in
+                rw (v .bytes) (omega (arith, a .0, b .0), b .1 ∙ rw (a .1, a .0) twice)
+
+    pub right-falls : k ≡ 5 → (g : ℕ) → g ≡ secondAt d i → (r : ℕ) → r ≡ g → (t : ℕ) → i ≡ t → r < t
+    right-falls h g u r q t e = let v = sides-of h .below-right in omega arith
+
+    -- ---- one component
+
+    -- it is no longer than what fits
+    one-fits : (a b : ℕ) → openedBytes (x .tree) ≡ a ∷ b ∷ [] → at + idleSize ≤ length s
+    one-fits a b o =
+        let n = ap length o in
+        let g = opened-fits (x .tree) in
+        let f = x .fits in omega arith
+
+    pub output-fits : k ≡ 2 → at + idleSize ≤ length s
+    output-fits h = one-fits _ _ (output-at (x .terms) (x .tree) (x .decoded) (x .at) h)
+
+    pub waiting-fits : (k ≡ 5 → ⊥) → (k ≡ 1 → ⊥) → (k ≡ 2 → ⊥) → at + idleSize ≤ length s
+    waiting-fits h f g = one-fits _ _ (waiting-at (x .terms) (x .tree) (x .decoded) (x .at) h f g)
+
+  module _ (s : List ℕ) (at : ℕ) where
+    pub nothing-written : k ≡ 1 → ComponentsWritten d i s at s at
+    nothing-written h = record { found = λ ts P x e. rw (nothing-at ts P x e h) (omega arith, written-none s at []) }
+
+    module _ (s′ : List ℕ) (end : ℕ) (p : end ≡ at + idleSize) where
+      pub output-written : k ≡ 2 → (f : ℕ) → f ≡ firstAt d i → s′ ≡ written s at (outputKind ∷ f ∷ []) idleSize → ComponentsWritten d i s at s′ end
+      output-written h f o q = record { found = λ ts P x e. rw (output-at ts P x e h) (p, rw (← o) q) }
+
+      pub waiting-written : (k ≡ 5 → ⊥) → (k ≡ 1 → ⊥) → (k ≡ 2 → ⊥) → s′ ≡ written s at (waitingKind ∷ i ∷ []) idleSize → ComponentsWritten d i s at s′ end
+      waiting-written h f g q = record { found = λ ts P x e. rw (waiting-at ts P x e h f g) (p, q) }
+
+-- a process's number is below 200, and a byte
+module _ (d : List ℕ) (i : ℕ) (s : List ℕ) (at : ℕ) (x : ComponentsFit d i s at) where
+  pub inside : i < maxTerms
+  inside = let h = found-below (x .terms) i (process (x .tree)) (x .at) in let g = x .decoded .good .few in omega arith
+
+  pub number-fits : Fits w8 i
+  number-fits = let h = inside in record { fits = omega arith }

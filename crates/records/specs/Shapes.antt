@@ -1,0 +1,70 @@
+-- The shapes of a table's records by numbers, as the code has them: the byte of a kind, the fields behind it, its
+-- class, a test of one field.
+-- Assumes nothing.
+use Prim.Native.Nat.{ℕ, zero, suc}
+use mathlib.Core.Bool.{Bool, false}
+use mathlib.Core.Option.{Option, none, some}
+use mathlib.Core.List.{List, []}
+use Rattle.semantics.specs.Definitions.Terms.{Term, process, expression}
+pub use Rattle.semantics.specs.Checks.AcceptedTables.{kindByte}
+use Rattle.semantics.specs.Definitions.Table.{Kind, startK, kindOf, Field, channelF, programF, expressionF, amountF, fields, Content, termRecord, tokensRecord, startRecord, recordContent}
+
+-- no byte past it is a kind
+abbrev pub lastKind : ℕ
+lastKind = kindByte startK
+
+abbrev pub kindsEnd : ℕ
+kindsEnd = suc lastKind
+
+-- the fields behind a byte of kind; none where the byte is no kind
+unfoldable pub fieldsOf : Option Kind → List Field
+unfolding fields
+fieldsOf none = []
+fieldsOf (some K) = fields K
+
+unfoldable pub bodyOf : ℕ → List Field
+unfolding kindOf fieldsOf
+bodyOf k = fieldsOf (kindOf k)
+
+-- a field's number
+abbrev pub fieldNumber : Field → ℕ
+fieldNumber channelF = 1
+fieldNumber programF = 2
+fieldNumber expressionF = 3
+fieldNumber amountF = 4
+
+-- a field by its number: 0 none, 1 a channel, 2 a process, 3 an expression, and else a count
+unfoldable pub fieldFrom : ℕ → Option Field
+fieldFrom zero = none
+fieldFrom (suc zero) = some channelF
+fieldFrom (suc (suc zero)) = some programF
+fieldFrom (suc (suc (suc zero))) = some expressionF
+fieldFrom (suc (suc (suc (suc n)))) = some amountF
+
+-- a test of a field and its byte, where there is such a field
+unfoldable pub failsAt : (Field → ℕ → Bool) → Option Field → ℕ → Bool
+failsAt fails none b = false
+failsAt fails (some f) b = fails f b
+
+-- ---- classes
+
+-- a term's class: that of the field that refers to it
+abbrev pub termClass : Term → Field
+termClass (process P) = programF
+termClass (expression M) = expressionF
+
+-- by what a record says: the number of its term's class, 0 where it is no term
+abbrev pub contentClass : Content → ℕ
+contentClass (termRecord t) = fieldNumber (termClass t)
+contentClass (tokensRecord a n) = 0
+contentClass (startRecord P) = 0
+
+-- by the byte of its kind: what its records say is of one class, whatever their bodies
+unfoldable pub classOfKind : Option Kind → ℕ
+unfolding recordContent
+classOfKind none = 0
+classOfKind (some K) = contentClass (recordContent [] [] K)
+
+unfoldable pub classOf : ℕ → ℕ
+unfolding kindOf classOfKind
+classOf k = classOfKind (kindOf k)

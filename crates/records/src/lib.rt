@@ -1,0 +1,203 @@
+// The records of a rule table: their kinds, the body and the class of each kind, parsing one at an offset, and the tests
+// on one field that need no earlier term.
+use buffer::byte_at;
+use buffer::wide;
+ghost use mathlib.Core.Path.{_≡_};
+ghost use mathlib.Core.List.{List};
+ghost use Prim.Native.Nat.{_<_};
+ghost use lib.ListN.{length, getElem?};
+ghost use Rattle.semantics.specs.Definitions.Terms.{Term};
+ghost use Rattle.semantics.specs.Definitions.Table.{channelOutOfRange, forwardReference};
+ghost use Rattle.records.specs.Shapes.{kindsEnd, bodyOf, fieldFrom, failsAt, classOf};
+ghost use Rattle.records.specs.Parsing.{ParsedAs};
+
+// The kinds: processes, expressions, and the two that are no terms.
+pub const NIL: u8 = 1;
+
+pub const PUT: u8 = 2;
+
+pub const TAKE: u8 = 3;
+
+pub const REPEATED_TAKE: u8 = 4;
+
+pub const PAR: u8 = 5;
+
+pub const ATOM: u8 = 6;
+
+pub const END: u8 = 7;
+
+pub const RETRY: u8 = 8;
+
+pub const RD: u8 = 9;
+
+pub const WT: u8 = 10;
+
+pub const OR_ELSE: u8 = 11;
+
+pub const TOKENS: u8 = 12;
+
+pub const START: u8 = 13;
+
+// No byte past it is a kind.
+const LAST_KIND: u8 = START;
+
+const KINDS: usize = LAST_KIND as usize + 1;
+
+// Channels are numbered below it.
+pub const CHANNELS: usize = 16;
+
+// What a byte of a body is. A reference has the number of the class that it refers to.
+pub const NO_FIELD: u8 = 0;
+
+pub const CHANNEL: u8 = 1;
+
+pub const PROCESS: u8 = 2;
+
+pub const EXPRESSION: u8 = 3;
+
+pub const COUNT: u8 = 4;
+
+// The class of a record that is no term.
+pub const NO_CLASS: u8 = 0;
+
+// The shapes of the bodies, by kind (there is no kind 0): what the first and the second byte of each are.
+const FIRST_FIELDS: [u8; KINDS] = [
+    NO_FIELD, // no kind
+    NO_FIELD, // NIL
+    CHANNEL, // PUT
+    CHANNEL, // TAKE
+    CHANNEL, // REPEATED_TAKE
+    PROCESS, // PAR
+    EXPRESSION, // ATOM
+    NO_FIELD, // END
+    NO_FIELD, // RETRY
+    CHANNEL, // RD
+    CHANNEL, // WT
+    EXPRESSION, // OR_ELSE
+    CHANNEL, // TOKENS
+    PROCESS, // START
+];
+
+const SECOND_FIELDS: [u8; KINDS] = [
+    NO_FIELD, // no kind
+    NO_FIELD, // NIL
+    NO_FIELD, // PUT
+    PROCESS, // TAKE
+    PROCESS, // REPEATED_TAKE
+    PROCESS, // PAR
+    NO_FIELD, // ATOM
+    NO_FIELD, // END
+    NO_FIELD, // RETRY
+    EXPRESSION, // RD
+    EXPRESSION, // WT
+    EXPRESSION, // OR_ELSE
+    COUNT, // TOKENS
+    NO_FIELD, // START
+];
+
+// A record: its kind, the two bytes behind the kind (0 past the table's end), which are its body where that has as
+// many, and the offset behind it.
+pub struct Record {
+    pub kind: u8,
+    pub first: u8,
+    pub second: u8,
+    pub next: usize,
+}
+
+// What stands at an offset of a table's bytes.
+pub enum Parsed {
+    // No byte is left.
+    End,
+    UnknownKind,
+    // The kind's body runs past the table's end.
+    CutShort,
+    Whole(Record),
+}
+
+// The class of a kind's records: PROCESS, EXPRESSION or NO_CLASS. Nothing else tells it, least of all the order of the
+// kinds.
+pub fn class_of(kind: u8) -> u8
+    ensures { λ r. ⌜ r ≡ classOf kind ⌝ }
+{
+    match kind {
+        NIL | PUT | TAKE | REPEATED_TAKE | PAR | ATOM => PROCESS,
+        END | RETRY | RD | WT | OR_ELSE => EXPRESSION,
+        _ => NO_CLASS,
+    }
+}
+
+pub fn first_field(kind: u8) -> u8
+    requires { ⌜ kind < kindsEnd ⌝ }
+    ensures { λ r. ⌜ fieldFrom r ≡ getElem? (bodyOf kind) 0 ⌝ }
+{
+    FIRST_FIELDS[wide(kind)]
+}
+
+pub fn second_field(kind: u8) -> u8
+    requires { ⌜ kind < kindsEnd ⌝ }
+    ensures { λ r. ⌜ fieldFrom r ≡ getElem? (bodyOf kind) 1 ⌝ }
+{
+    SECOND_FIELDS[wide(kind)]
+}
+
+// A body has no byte, or a first one, or a second one too.
+fn body_length(kind: u8) -> usize
+    requires { ⌜ kind < kindsEnd ⌝ }
+    ensures { λ r. ⌜ r ≡ length (bodyOf kind) ⌝ }
+{
+    if first_field(kind) == NO_FIELD {
+        return 0;
+    }
+    if second_field(kind) == NO_FIELD {
+        return 1;
+    }
+    2
+}
+
+pub fn parse(table: &[u8], at: usize) -> Parsed
+    ensures { λ r. ⌜ ParsedAs (now (table .entry)) at r ⌝ }
+{
+    if table.len() <= at {
+        return Parsed::End;
+    }
+    let kind = table[at];
+    if kind == 0 {
+        return Parsed::UnknownKind;
+    }
+    if LAST_KIND < kind {
+        return Parsed::UnknownKind;
+    }
+    let next = at + 1 + body_length(kind);
+    if table.len() < next {
+        return Parsed::CutShort;
+    }
+    let first = byte_at(table, at + 1);
+    let second = byte_at(table, at + 2);
+    Parsed::Whole(Record {
+        kind,
+        first,
+        second,
+        next,
+    })
+}
+
+// 4, on one field: a channel that no hall has.
+pub fn channel_out_of_range(field: u8, byte: u8) -> bool
+    ensures { λ r. ⌜ r ≡ failsAt channelOutOfRange (fieldFrom field) byte ⌝ }
+{
+    if field == CHANNEL {
+        CHANNELS <= wide(byte)
+    } else {
+        false
+    }
+}
+
+// 5, on one field: a reference that is not to one of the terms so far.
+pub fn forward_reference(terms: usize, field: u8, byte: u8) -> bool
+    ensures { λ r. ⌜ ((ts : List Term) → length ts ≡ terms → r ≡ failsAt (forwardReference ts) (fieldFrom field) byte) ⌝ }
+{
+    match field {
+        PROCESS | EXPRESSION => terms <= wide(byte),
+        _ => false,
+    }
+}

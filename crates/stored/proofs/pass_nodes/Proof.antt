@@ -1,0 +1,67 @@
+-- `pass_nodes` meets its contract: the walk from here ends where the walk from the tree's start does. Assumes nothing.
+use Prim.Native.Nat.{_+_, _*_, _-_, _≤_}
+use mathlib.Core.Path.{_≡_}
+use native.Mathlib.Omega.{arith}
+use Rattle.stored.specs.Nodes.{passed}
+use Rattle.stored.proofs.Nodes.{size-bounds, pending-bound, walk-over, walk-done, walk-on}
+use borrow.Author.Needs.{needs}
+use Rattle.stored.proofs.pass_nodes.Statement.{statement}
+use Rattle.stored.proofs.pass_nodes.Tie as tie
+use Rattle.stored.specs.Layout.{leafSize}
+
+abbrev Inv-loop : tie.InvT-loop
+Inv-loop s tree nodes at₀ pending₀ left₀ at pending left = (passed s left pending at ≡ passed s nodes 1 tree) × (left ≤ nodes) × (pending ≤ 1 + (nodes - left)) × (at ≤ tree + leafSize * (nodes - left))
+
+abbrev μ-loop : tie.MeasureT-loop
+μ-loop s tree nodes at₀ pending₀ left₀ at pending left = left
+
+wide-requires : tie.Need-wide-requires Inv-loop μ-loop
+wide-requires c κs = search needs
+
+loop-holds : tie.Need-loop-holds Inv-loop μ-loop
+loop-holds c = (rw (c .wide .ensures), omega arith, omega arith, omega arith)
+
+returns : tie.Need-returns Inv-loop μ-loop
+returns c = search walk-over
+
+sub-left : tie.Need-sub-left Inv-loop μ-loop
+sub-left c = search needs
+
+byte-at-requires : tie.Need-byte-at-requires Inv-loop μ-loop
+byte-at-requires c κs = search needs
+
+pending-behind-requires : tie.Need-pending-behind-requires Inv-loop μ-loop
+pending-behind-requires c κs = search needs
+
+node-size-requires : tie.Need-node-size-requires Inv-loop μ-loop
+node-size-requires c κs = search needs
+
+add-at : tie.Need-add-at Inv-loop μ-loop
+add-at c = omega (arith, size-bounds _ _ (c .node-size .ensures))
+
+loop-less : tie.Need-loop-less Inv-loop μ-loop
+loop-less c = search needs
+
+loop-again : tie.Need-loop-again Inv-loop μ-loop
+loop-again c = (search walk-on, omega arith, omega (arith, pending-bound _ _ _ (c .before .pending-behind .ensures)), omega (arith, size-bounds _ _ (c .node-size .ensures)))
+
+returns-2 : tie.Need-returns-2 Inv-loop μ-loop
+returns-2 c = search walk-done
+
+pub pass-nodes-spec : {M : Type 1} → statement M
+pass-nodes-spec =
+    tie.close
+    (tie.spec
+    Inv-loop
+    μ-loop
+    wide-requires
+    loop-holds
+    returns
+    sub-left
+    byte-at-requires
+    pending-behind-requires
+    node-size-requires
+    add-at
+    loop-less
+    loop-again
+    returns-2)

@@ -1,0 +1,289 @@
+-- The nodes of a transaction in its bytes: the walk over a tree's bytes ends behind them and finds each node where
+-- its bytes begin; a subtree in its place; a move at a node.
+-- Assumes nothing.
+use Prim.Native.Nat.{ℕ, zero, suc, _+_, _*_, _-_, _≤_}
+use native.Mathlib.Omega.{arith}
+use mathlib.Core.Path.{_≡_, refl, sym, ap, fun-ext, _∙_}
+use mathlib.Core.Bool.{Bool, true, false, cond}
+use mathlib.Core.List.{List, [], _∷_, _++_, map, append-assoc, append-nil}
+use lib.ListN.{length, getD, drop, length-append, length-map}
+use borrow.Author.Tests.{ne-eqb}
+use Rattle.calculus.specs.Syntax.{rd, Log, State}
+use Rattle.calculus.specs.Reduction.{Rule}
+use Rattle.semantics.specs.Definitions.Terms.{Expression, endT, retryT, rdT, wtT, orElseT, Term}
+use Rattle.semantics.specs.Definitions.Logs.{readable}
+use Rattle.semantics.specs.Definitions.Configuration.{Tree, leaf, fork, branchesOf, nodes}
+use Rattle.semantics.specs.Definitions.Stored.{actionByte, treeBytes, TreeOk}
+use Rattle.semantics.specs.Definitions.Moves.{Inner, evolves, noRule, outOfRange, inner, inLeft, inRight, reads, atLeaf, atFork}
+use Rattle.semantics.proofs.Measures.{branches-positive}
+use Rattle.semantics.proofs.Trees.{length-padded}
+use Rattle.stored.specs.declared.Place.the-variants.{At, Nowhere}
+use Rattle.stored.specs.declared.Walk.{Walk}
+use Rattle.stored.specs.Layout.{forkKind, leafKind, leafSize, maxActions, maxBranches, maxNodes, forkSize}
+use Rattle.stored.specs.Nodes.{nodeSize, pendingBehind, passed, nodeStart, treeEnd}
+use Rattle.stored.proofs.Nodes.{passed-over}
+use Rattle.storedlaws.specs.Positions.{Context, top, leftOf, rightOf, plug, before, behind, Node, node, beyond, inRightOf, inLeftOf, nodeOf, filled, withNode, around, innerAt}
+use Rattle.storedlaws.proofs.Cursors.{first-byte, over}
+
+-- ---- how many
+
+pub leaf-bytes : (M : Expression) (δ : Log) → length δ ≤ maxActions → length (treeBytes (leaf M δ)) ≡ leafSize
+unfolding treeBytes
+leaf-bytes M δ h =
+    let n : length (map actionByte δ) ≤ maxActions = rw (length-map δ actionByte) h in
+    let p = length-padded maxActions (map actionByte δ) n in omega arith
+
+-- a fork for each leaf but one
+pub few-nodes : (t : Tree) → nodes t + 1 ≤ 2 * branchesOf t
+unfolding nodes branchesOf
+few-nodes (leaf M δ) = let b = branches-positive M in omega arith
+few-nodes (fork l r) = let h = few-nodes l in let g = few-nodes r in omega arith
+
+-- ---- the walk
+
+-- past the last node of a tree
+pub beyond-nodes : (t : Tree) (k : ℕ) → nodeOf t (nodes t + k) ≡ beyond k
+unfolding nodes nodeOf inLeftOf inRightOf
+beyond-nodes (leaf M δ) k = let z : 1 + k ≡ suc k = omega arith in rw z
+beyond-nodes (fork l r) k =
+    let z : 1 + (nodes l + nodes r) + k ≡ suc (nodes l + (nodes r + k)) = omega arith in
+    rw (z, beyond-nodes l (nodes r + k), beyond-nodes r k)
+
+-- what a walk past k nodes comes to in a tree of n bytes at an offset, with p subtrees to come behind it
+Finds : List ℕ → (p at k n : ℕ) → Node → Type 0
+Finds s p at k n (node c t) = (q : ℕ) × (passed s k (suc p) at ≡ record { at = at + length (before c); pending = suc q; left = 0 })
+Finds s p at k n (beyond j) = passed s k (suc p) at ≡ passed s j p (at + n)
+
+-- of a fork it comes to what it comes to in the left side, or else in the right side
+finds-right : (s : List ℕ) (p at k : ℕ) (l r : Tree) (j : ℕ) (R : Node) → passed s k (suc p) at ≡ passed s j (suc p) (at + forkSize + length (treeBytes l)) →
+    Finds s p (at + forkSize + length (treeBytes l)) j (length (treeBytes r)) R → Finds s p at k (length (treeBytes (fork l r))) (inRightOf l R)
+unfolding Finds inRightOf before treeBytes
+finds-right s p at k l r j (node c t) e h =
+    let n = length-append (treeBytes l) (before c) in
+    let z : at + forkSize + length (treeBytes l) + length (before c) ≡ at + length (forkKind ∷ (treeBytes l ++ before c)) = omega arith in
+    (h .0, e ∙ h .1 ∙ rw z)
+finds-right s p at k l r j (beyond i) e h =
+    let n = length-append (treeBytes l) (treeBytes r) in
+    let z : at + forkSize + length (treeBytes l) + length (treeBytes r) ≡ at + length (forkKind ∷ (treeBytes l ++ treeBytes r)) = omega arith in
+    e ∙ h ∙ ap (passed s i p) z
+
+finds-left : (s : List ℕ) (p at k i : ℕ) (l r : Tree) (L : Node) → passed s k (suc p) at ≡ passed s i (suc (suc p)) (at + forkSize) →
+    Finds s (suc p) (at + forkSize) i (length (treeBytes l)) L →
+    ((j : ℕ) → Finds s p (at + forkSize + length (treeBytes l)) j (length (treeBytes r)) (nodeOf r j)) →
+    Finds s p at k (length (treeBytes (fork l r))) (inLeftOf r L (λ j. inRightOf l (nodeOf r j)))
+unfolding Finds inLeftOf before
+finds-left s p at k i l r (node c t) e h right =
+    let z : at + forkSize + length (before c) ≡ at + length (forkKind ∷ before c) = omega arith in (h .0, e ∙ h .1 ∙ rw z)
+finds-left s p at k i l r (beyond j) e h right = finds-right s p at k l r j (nodeOf r j) (e ∙ h) (right j)
+
+-- past the first node of a tree
+past-leaf : (s : List ℕ) (k p at : ℕ) → getD s at 0 ≡ leafKind → passed s (suc k) (suc p) at ≡ passed s k p (at + leafSize)
+unfolding passed nodeSize pendingBehind
+past-leaf s k p at e = let z : suc p - 1 ≡ p = omega arith in rw (e, z)
+
+past-fork : (s : List ℕ) (k p at : ℕ) → getD s at 0 ≡ forkKind → passed s (suc k) (suc p) at ≡ passed s k (suc (suc p)) (at + forkSize)
+unfolding passed nodeSize pendingBehind
+past-fork s k p at e = let z : suc p + 1 ≡ suc (suc p) = omega arith in rw (e, z)
+
+finds-node : (ts : List Term) (t : Tree) (s : List ℕ) (at p k : ℕ) (rest : List ℕ) → TreeOk ts t → drop at s ≡ treeBytes t ++ rest →
+    Finds s p at k (length (treeBytes t)) (nodeOf t k)
+unfolding TreeOk treeBytes nodeOf Finds before passed
+finds-node ts (leaf M δ) s at p zero rest ok e = let z : at + 0 ≡ at = omega arith in (p, rw z)
+finds-node ts (leaf M δ) s at p (suc k) rest ok e = let h = ok .1 in rw (leaf-bytes M δ (omega arith)) (past-leaf s k p at (first-byte s at leafKind _ e))
+finds-node ts (fork l r) s at p zero rest ok e = let z : at + 0 ≡ at = omega arith in (p, rw z)
+finds-node ts (fork l r) s at p (suc k) rest ok e =
+    let e′ : drop (at + forkSize) s ≡ treeBytes l ++ (treeBytes r ++ rest) = over s at (forkKind ∷ []) _ e ∙ append-assoc (treeBytes l) (treeBytes r) rest in
+    let e″ = over s (at + forkSize) (treeBytes l) (treeBytes r ++ rest) e′ in
+    finds-left s p at (suc k) k l r (nodeOf l k) (past-fork s k p at (first-byte s at forkKind _ e))
+    (finds-node ts l s (at + forkSize) (suc p) k (treeBytes r ++ rest) (ok .0) e′)
+    (λ j. finds-node ts r s (at + forkSize + length (treeBytes l)) p j rest (ok .1) e″)
+
+module _ (ts : List Term) (t : Tree) (s : List ℕ) (at : ℕ) (rest : List ℕ) (ok : TreeOk ts t) (e : drop at s ≡ treeBytes t ++ rest) where
+  -- past k nodes, and past all of them
+  passed-to : (k : ℕ) (c : Context) (u : Tree) → nodeOf t k ≡ node c u →
+      (q : ℕ) × (passed s k 1 at ≡ record { at = at + length (before c); pending = suc q; left = 0 })
+  unfolding Finds
+  passed-to k c u n = rw n at (finds-node ts t s at 0 k rest ok e)
+
+  passed-all : (k j : ℕ) → nodeOf t k ≡ beyond j → passed s k 1 at ≡ record { at = at + length (treeBytes t); pending = 0; left = j }
+  unfolding Finds
+  passed-all k j n = (rw n at (finds-node ts t s at 0 k rest ok e)) ∙ passed-over s j (at + length (treeBytes t))
+
+  -- node number k begins behind the bytes before it, and there is none past the last
+  pub node-starts : (k : ℕ) (c : Context) (u : Tree) → nodeOf t k ≡ node c u → nodeStart s at k ≡ At (at + length (before c))
+  unfolding nodeStart
+  node-starts k c u n = let w = passed-to k c u n in rw (w .1, ne-eqb (suc (w .0)) 0 (λ z. omega arith))
+
+  pub node-missing : (k j : ℕ) → nodeOf t k ≡ beyond j → nodeStart s at k ≡ Nowhere
+  unfolding nodeStart
+  node-missing k j n = rw (passed-all k j n)
+
+  -- a tree of at most 8 branches ends where its bytes do
+  pub tree-ends : branchesOf t ≤ maxBranches → treeEnd s at ≡ at + length (treeBytes t)
+  unfolding treeEnd
+  tree-ends few =
+      let m = few-nodes t in
+      let z : nodes t + (maxNodes - nodes t) ≡ maxNodes = omega arith in
+      let b = rw z at (beyond-nodes t (maxNodes - nodes t)) in ap (λ (w : Walk). w .at) (passed-all maxNodes (maxNodes - nodes t) b)
+
+-- ---- contexts
+
+-- the bytes of a tree in its place
+pub plug-bytes : (c : Context) (t : Tree) → treeBytes (plug c t) ≡ before c ++ (treeBytes t ++ behind c)
+unfolding plug before behind treeBytes
+plug-bytes top t = sym (append-nil (treeBytes t))
+plug-bytes (leftOf c r) t = ap (_∷_ forkKind) (rw (plug-bytes c t) (simp append-assoc))
+plug-bytes (rightOf l c) t = ap (_∷_ forkKind) (rw (plug-bytes c t) (simp append-assoc))
+
+-- a tree is what stands at a node, in its place
+Rebuilt : Tree → Node → Type 0
+Rebuilt t (node c u) = t ≡ plug c u
+Rebuilt t (beyond k) = Unit {0}
+
+rebuilt-right : (l r : Tree) (R : Node) → Rebuilt r R → Rebuilt (fork l r) (inRightOf l R)
+unfolding Rebuilt inRightOf plug
+rebuilt-right l r (node c u) h = ap (fork l) h
+rebuilt-right l r (beyond k) h = tt
+
+rebuilt-left : (l r : Tree) (L : Node) → Rebuilt l L → ((j : ℕ) → Rebuilt r (nodeOf r j)) → Rebuilt (fork l r) (inLeftOf r L (λ j. inRightOf l (nodeOf r j)))
+unfolding Rebuilt inLeftOf plug
+rebuilt-left l r (node c u) h right = ap (λ x. fork x r) h
+rebuilt-left l r (beyond k) h right = rebuilt-right l r (nodeOf r k) (right k)
+
+rebuilt : (t : Tree) (k : ℕ) → Rebuilt t (nodeOf t k)
+unfolding Rebuilt nodeOf plug
+rebuilt (leaf M δ) zero = refl
+rebuilt (leaf M δ) (suc k) = tt
+rebuilt (fork l r) zero = refl
+rebuilt (fork l r) (suc k) = rebuilt-left l r (nodeOf l k) (rebuilt l k) (λ j. rebuilt r j)
+
+pub node-of : (t : Tree) (k : ℕ) (c : Context) (u : Tree) → nodeOf t k ≡ node c u → t ≡ plug c u
+unfolding Rebuilt
+node-of t k c u e = rw e at (rebuilt t k)
+
+pub with-node : (t : Tree) (k : ℕ) (c : Context) (u v : Tree) → nodeOf t k ≡ node c u → withNode t k v ≡ plug c v
+unfolding withNode filled
+with-node t k c u v e = rw e refl
+
+-- the subtree at a node is in order where the tree is, and has no more branches
+pub plug-ok : (ts : List Term) (c : Context) (t : Tree) → TreeOk ts (plug c t) → TreeOk ts t
+unfolding plug TreeOk
+plug-ok ts top t ok = ok
+plug-ok ts (leftOf c r) t ok = plug-ok ts c t (ok .0)
+plug-ok ts (rightOf l c) t ok = plug-ok ts c t (ok .1)
+
+pub plug-branches : (c : Context) (t : Tree) → branchesOf t ≤ branchesOf (plug c t)
+unfolding plug branchesOf
+plug-branches top t = omega arith
+plug-branches (leftOf c r) t = let h = plug-branches c t in omega arith
+plug-branches (rightOf l c) t = let h = plug-branches c t in omega arith
+
+-- ---- moves inside
+
+-- a tree always has a node number 0
+Here : Inner → Type 0
+Here (evolves r t) = Unit {0}
+Here noRule = Unit {0}
+Here (outOfRange k) = _≡_ {A = ℕ} 0 1
+
+reads-here : (b : Bool) (x y : Inner) → Here x → Here y → Here (cond b x y)
+reads-here true x y h g = h
+reads-here false x y h g = g
+
+leaf-here : (s : State) (M : Expression) (δ : Log) → Here (atLeaf s M δ)
+unfolding Here atLeaf reads
+leaf-here s (endT n) δ = tt
+leaf-here s (retryT n) δ = tt
+leaf-here s (rdT n a M) δ = reads-here (readable s (δ ++ (rd a ∷ []))) _ _ tt tt
+leaf-here s (wtT n a M) δ = tt
+leaf-here s (orElseT n M N) δ = tt
+
+fork-here : (l r : Tree) → Here (atFork l r)
+unfolding Here atFork
+fork-here (leaf (endT n) δ) r = tt
+fork-here (leaf (retryT n) δ) r = tt
+fork-here (leaf (rdT n a M) δ) r = tt
+fork-here (leaf (wtT n a M) δ) r = tt
+fork-here (leaf (orElseT n M N) δ) r = tt
+fork-here (fork l m) r = tt
+
+inner-here : (s : State) (t : Tree) → Here (inner s t 0)
+unfolding inner
+inner-here s (leaf M δ) = leaf-here s M δ
+inner-here s (fork l r) = fork-here l r
+
+around-here : (s : State) (t : Tree) → inner s t 0 ≡ around top (inner s t 0)
+unfolding around plug
+around-here s t = go (inner s t 0)
+  where
+    go : (I : Inner) → I ≡ around top I
+    go (evolves r u) = refl
+    go noRule = refl
+    go (outOfRange k) = refl
+
+around-right : (l : Tree) (c : Context) (I : Inner) → inRight l (around c I) ≡ around (rightOf l c) I
+unfolding inRight around plug
+around-right l c (evolves r t) = refl
+around-right l c noRule = refl
+around-right l c (outOfRange k) = refl
+
+around-left : (r : Tree) (c : Context) (I : Inner) (right : ℕ → Inner) → Here I → inLeft r (around c I) right ≡ around (leftOf c r) I
+unfolding inLeft around plug Here
+around-left r c (evolves e t) right h = refl
+around-left r c noRule right h = refl
+around-left r c (outOfRange k) right h = absurd (omega arith)
+
+inner-right : (s : State) (l : Tree) (R : Node) → inRight l (innerAt s R) ≡ innerAt s (inRightOf l R)
+unfolding innerAt inRightOf inRight
+inner-right s l (node c u) = around-right l c (inner s u 0)
+inner-right s l (beyond k) = refl
+
+inner-left : (s : State) (l r : Tree) (L : Node) →
+    inLeft r (innerAt s L) (λ j. innerAt s (inRightOf l (nodeOf r j))) ≡ innerAt s (inLeftOf r L (λ j. inRightOf l (nodeOf r j)))
+unfolding innerAt inLeftOf inLeft
+inner-left s l r (node c u) = around-left r c (inner s u 0) _ (inner-here s u)
+inner-left s l r (beyond k) = refl
+
+-- a move at node number k is the move of the subtree there, in its place; past the last node there is none
+pub inner-at : (s : State) (t : Tree) (k : ℕ) → inner s t k ≡ innerAt s (nodeOf t k)
+unfolding inner nodeOf innerAt
+inner-at s (leaf M δ) zero = around-here s (leaf M δ)
+inner-at s (leaf M δ) (suc k) = refl
+inner-at s (fork l r) zero = around-here s (fork l r)
+inner-at s (fork l r) (suc k) =
+    let right : _≡_ {A = ℕ → Inner} (λ j. inRight l (inner s r j)) (λ j. innerAt s (inRightOf l (nodeOf r j))) =
+    fun-ext (λ j. ap (inRight l) (inner-at s r j) ∙ inner-right s l (nodeOf r j)) in
+    rw (inner-at s l k, right) (inner-left s l r (nodeOf l k))
+
+pub inner-node : (s : State) (t : Tree) (k : ℕ) (c : Context) (u : Tree) → nodeOf t k ≡ node c u → inner s t k ≡ around c (inner s u 0)
+unfolding innerAt
+inner-node s t k c u e = inner-at s t k ∙ ap (innerAt s) e
+
+pub inner-past : (s : State) (t : Tree) (k j : ℕ) → nodeOf t k ≡ beyond j → inner s t k ≡ outOfRange j
+unfolding innerAt
+inner-past s t k j e = inner-at s t k ∙ ap (innerAt s) e
+
+-- what a move makes of a tree: the tree with what the move makes of the subtree at the node
+pub record Evolved (s : State) (t : Tree) (k : ℕ) (r : Rule) (u : Tree) : Type 0 where
+  pub context : Context
+  pub subtree : Tree
+  pub makes : Tree
+  pub there : nodeOf t k ≡ node context subtree
+  pub move : inner s subtree 0 ≡ evolves r makes
+  pub whole : u ≡ withNode t k makes
+
+pub inner-evolves : (s : State) (t : Tree) (k : ℕ) (r : Rule) (u : Tree) → inner s t k ≡ evolves r u → Evolved s t k r u
+unfolding around
+inner-evolves s t k r u e = go (nodeOf t k) refl
+  where
+    atNode : (c : Context) (w : Tree) → nodeOf t k ≡ node c w → (I : Inner) → inner s w 0 ≡ I → around c I ≡ evolves r u → Evolved s t k r u
+    atNode c w p (evolves q v) m h =
+        let z : plug c v ≡ u = cc in
+        let y : q ≡ r = cc in
+        record { context = c; subtree = w; makes = v; there = p; move = m ∙ ap (λ x. evolves x v) y; whole = sym z ∙ sym (with-node t k c w v p) }
+    atNode c w p noRule m h = let z : _≡_ {A = ℕ} 0 1 = cc in absurd (omega arith)
+    atNode c w p (outOfRange j) m h = let z : _≡_ {A = ℕ} 0 1 = cc in absurd (omega arith)
+
+    go : (N : Node) → nodeOf t k ≡ N → Evolved s t k r u
+    go (node c w) p = atNode c w p (inner s w 0) refl (sym (inner-node s t k c w p) ∙ e)
+    go (beyond j) p = let q = sym (inner-past s t k j p) ∙ e in let z : _≡_ {A = ℕ} 0 1 = cc in absurd (omega arith)

@@ -1,0 +1,4 @@
+pub mod RecordTests
+pub mod RecordRead
+pub mod TableRead
+pub mod Verdicts

@@ -1,0 +1,43 @@
+-- `table::apply_record` meets its contract: at each need the law of its case.
+-- Assumes nothing.
+use Rattle.table.proofs.RecordRead.{fields-refusal, start-read, tokens-read, channel-inside, term-ready, term-read}
+use borrow.Author.Needs.{needs}
+use Rattle.table.proofs.apply_record.Statement.{statement}
+use Rattle.table.proofs.apply_record.Tie as tie
+
+field-refusal-requires : tie.Need-field-refusal-requires
+field-refusal-requires c κs = search needs
+
+returns : tie.Need-returns
+returns c = search fields-refusal
+
+apply-start-requires : tie.Need-apply-start-requires
+apply-start-requires c κs = search needs
+
+returns-2 : tie.Need-returns-2
+returns-2 c = search start-read
+
+apply-tokens-requires : tie.Need-apply-tokens-requires
+apply-tokens-requires c κs = (search channel-inside, search needs)
+
+returns-3 : tie.Need-returns-3
+returns-3 c = search tokens-read
+
+apply-term-requires : tie.Need-apply-term-requires
+apply-term-requires c κs = search term-ready
+
+returns-4 : tie.Need-returns-4
+returns-4 c = search term-read
+
+pub apply-record-spec : {M : Type 1} → statement M
+apply-record-spec =
+    tie.close
+    (tie.spec
+    field-refusal-requires
+    returns
+    apply-start-requires
+    returns-2
+    apply-tokens-requires
+    returns-3
+    apply-term-requires
+    returns-4)

@@ -1,0 +1,38 @@
+-- What the answers on a table say, in the terms of the definitions.
+-- Assumes nothing.
+use Prim.Native.Nat.{ℕ}
+use mathlib.Core.Path.{_≡_}
+use mathlib.Core.Option.{some}
+use mathlib.Core.List.{List}
+use lib.ListN.{length, getElem?}
+use Rattle.semantics.specs.Definitions.Terms.{process}
+use Rattle.semantics.specs.Checks.AcceptedTables.{programNumber}
+use Rattle.semantics.specs.Definitions.Table.{Table, TableAnswer, accepted, refusedAt}
+use Rattle.semantics.specs.Definitions.Calls.{Verdict, ok, rejected}
+use Rattle.terms.specs.Decoded.{tokensIn, Decoded}
+use Rattle.table.specs.declared.Read.{Read}
+use Rattle.table.specs.declared.Read.the-variants as read
+use Rattle.table.specs.declared.TableVerdict.{TableVerdict}
+use Rattle.table.specs.declared.TableVerdict.the-variants as verdict
+
+-- ---- reading, with the decoded table as it is left
+
+-- an accepted table of n terms that starts with number p: its terms and its tokens, decoded
+pub record IsTable (t : Table) (n p : ℕ) (d : List ℕ) : Type 0 where
+  pub decoded : Decoded (t .terms) d
+  pub counted : length (t .terms) ≡ n
+  pub tokens : t .tokens ≡ tokensIn d
+  pub start : programNumber (t .start) ≡ p
+  pub at : getElem? (t .terms) p ≡ some (process (t .start))
+
+abbrev pub Answers : Read → TableAnswer → List ℕ → Type 0
+Answers (read.Accepted n p) (accepted t) d = IsTable t n p d
+Answers (read.Accepted n p) (refusedAt m q) d = ⊥
+Answers (read.Refused n p) (accepted t) d = ⊥
+Answers (read.Refused n p) (refusedAt m q) d = (n ≡ m) × (p ≡ q)
+
+-- ---- the verdict that each case is
+
+unfoldable pub verdictOf : TableVerdict → Verdict
+verdictOf verdict.Accepted = ok
+verdictOf (verdict.Refused n p) = rejected n p

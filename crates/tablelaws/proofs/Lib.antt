@@ -1,0 +1,3 @@
+pub mod KindBytes
+pub mod Turns
+pub mod Contents

@@ -1,0 +1,1 @@
+// No code: the laws that link the tests on bytes to the definition of a table's answer.

@@ -1,0 +1,4 @@
+pub mod TermKinds
+pub mod TermMeasures
+pub mod Stores
+pub mod Limits

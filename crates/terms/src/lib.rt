@@ -1,0 +1,178 @@
+// The decoded table: the tokens and the terms of a rule table in one array of bytes, and the measures of its terms.
+//
+// The tokens of each channel stand first. Behind them each term has five bytes: its kind, its first and its second
+// field, and its measures, breadth and length. A process's breadth is its width and its length is 0; an expression's
+// breadth is its branches. The array belongs to the caller, who lends it; whoever reads a table fills it, a term at a
+// time.
+use buffer::wide;
+use records::CHANNELS;
+use records::OR_ELSE;
+use records::PAR;
+use records::PROCESS;
+use records::RD;
+use records::Record;
+use records::WT;
+ghost use mathlib.Core.Path.{_≡_};
+ghost use Prim.Native.Nat.{_<_, max};
+ghost use lib.ListN.{length, getD, set};
+ghost use Rattle.terms.specs.Decoded.{channels, maxTerms, decodedBytes, kindAt, firstAt, secondAt, breadthAt, lengthAt, withRecord, withMeasures};
+ghost use Rattle.terms.specs.TermMeasures.{Measurable, MeasuresOf, LimitTested};
+
+// A table has at most so many terms.
+pub const TERMS: usize = 200;
+
+// The decoded table's length.
+pub const DECODED: usize = CHANNELS + TERM * TERMS;
+
+// The limits of the measures.
+pub const MAX_WIDTH: u8 = 64;
+
+pub const MAX_BRANCHES: u8 = 8;
+
+pub const MAX_LENGTH: u8 = 16;
+
+// A term's bytes, and the place of each.
+const TERM: usize = 5;
+
+const KIND: usize = 0;
+
+const FIRST: usize = 1;
+
+const SECOND: usize = 2;
+
+const BREADTH: usize = 3;
+
+const LENGTH: usize = 4;
+
+// A term's measures.
+pub struct Measures {
+    pub breadth: u8,
+    pub length: u8,
+}
+
+// ---- reading
+
+pub fn kind_of(decoded: &[u8; DECODED], i: usize) -> u8
+    requires { ⌜ i < maxTerms ⌝ }
+    ensures { λ r. ⌜ r ≡ kindAt (now (decoded .entry)) i ⌝ }
+{
+    decoded[CHANNELS + TERM * i + KIND]
+}
+
+pub fn first_of(decoded: &[u8; DECODED], i: usize) -> u8
+    requires { ⌜ i < maxTerms ⌝ }
+    ensures { λ r. ⌜ r ≡ firstAt (now (decoded .entry)) i ⌝ }
+{
+    decoded[CHANNELS + TERM * i + FIRST]
+}
+
+pub fn second_of(decoded: &[u8; DECODED], i: usize) -> u8
+    requires { ⌜ i < maxTerms ⌝ }
+    ensures { λ r. ⌜ r ≡ secondAt (now (decoded .entry)) i ⌝ }
+{
+    decoded[CHANNELS + TERM * i + SECOND]
+}
+
+pub fn breadth_of(decoded: &[u8; DECODED], i: usize) -> u8
+    requires { ⌜ i < maxTerms ⌝ }
+    ensures { λ r. ⌜ r ≡ breadthAt (now (decoded .entry)) i ⌝ }
+{
+    decoded[CHANNELS + TERM * i + BREADTH]
+}
+
+pub fn length_of(decoded: &[u8; DECODED], i: usize) -> u8
+    requires { ⌜ i < maxTerms ⌝ }
+    ensures { λ r. ⌜ r ≡ lengthAt (now (decoded .entry)) i ⌝ }
+{
+    decoded[CHANNELS + TERM * i + LENGTH]
+}
+
+pub fn tokens_of(decoded: &[u8; DECODED], channel: usize) -> u8
+    requires { ⌜ channel < channels ⌝ }
+    ensures { λ r. ⌜ r ≡ getD (now (decoded .entry)) channel 0 ⌝ }
+{
+    decoded[channel]
+}
+
+// ---- writing
+
+pub fn put_record(decoded: &mut [u8; DECODED], i: usize, parsed: Record)
+    requires { ⌜ (i < maxTerms) × (length (now decoded) ≡ decodedBytes) ⌝ }
+    ensures { λ _. ⌜ now (decoded .exit)
+        ≡ withRecord (now (decoded .entry)) i (parsed .kind) (parsed .first) (parsed .second) ⌝ }
+{
+    decoded[CHANNELS + TERM * i + KIND] = parsed.kind;
+    decoded[CHANNELS + TERM * i + FIRST] = parsed.first;
+    decoded[CHANNELS + TERM * i + SECOND] = parsed.second;
+}
+
+pub fn put_measures(decoded: &mut [u8; DECODED], i: usize, m: Measures)
+    requires { ⌜ (i < maxTerms) × (length (now decoded) ≡ decodedBytes) ⌝ }
+    ensures { λ _. ⌜ now (decoded .exit) ≡ withMeasures (now (decoded .entry)) i (m .breadth) (m .length) ⌝ }
+{
+    decoded[CHANNELS + TERM * i + BREADTH] = m.breadth;
+    decoded[CHANNELS + TERM * i + LENGTH] = m.length;
+}
+
+pub fn put_tokens(decoded: &mut [u8; DECODED], channel: usize, count: u8)
+    requires { ⌜ (channel < channels) × (length (now decoded) ≡ decodedBytes) ⌝ }
+    ensures { λ _. ⌜ now (decoded .exit) ≡ set (now (decoded .entry)) channel count ⌝ }
+{
+    decoded[channel] = count;
+}
+
+// ---- measures
+
+pub fn larger(a: u8, b: u8) -> u8
+    ensures { λ r. ⌜ r ≡ max a b ⌝ }
+{
+    if a < b { b } else { a }
+}
+
+// The measures of the term at a number, over the unfolded term. References go to smaller numbers. The measures of the
+// first `kept` terms stand in the decoded table and are looked up; with none kept, the whole term is walked.
+pub fn measures_of(decoded: &[u8; DECODED], kept: usize, at: usize) -> Measures
+    requires { ⌜ Measurable (now decoded) kept at ⌝ }
+    ensures { λ m. ⌜ MeasuresOf (now (decoded .entry)) kept at (m .breadth) (m .length) ⌝ }
+{
+    if at < kept {
+        return Measures {
+            breadth: breadth_of(decoded, at),
+            length: length_of(decoded, at),
+        };
+    }
+    match kind_of(decoded, at) {
+        PAR | OR_ELSE => {
+            let left = measures_of(decoded, kept, wide(first_of(decoded, at)));
+            let right = measures_of(decoded, kept, wide(second_of(decoded, at)));
+            let breadth = left.breadth + right.breadth;
+            let length = larger(left.length, right.length);
+            Measures { breadth, length }
+        }
+        RD | WT => {
+            let rest = measures_of(decoded, kept, wide(second_of(decoded, at)));
+            let length = 1 + rest.length;
+            Measures {
+                breadth: rest.breadth,
+                length,
+            }
+        }
+        _ => Measures {
+            breadth: 1,
+            length: 0,
+        },
+    }
+}
+
+// 7: a process's width, or an expression's branches or length, is over its limit.
+pub fn over_limit(kind: u8, m: Measures) -> bool
+    ensures { λ r. ⌜ LimitTested kind (m .breadth) (m .length) r ⌝ }
+{
+    if records::class_of(kind) == PROCESS {
+        return MAX_WIDTH < m.breadth;
+    }
+    if MAX_BRANCHES < m.breadth {
+        return true;
+    }
+    MAX_LENGTH < m.length
+}

@@ -1,0 +1,4 @@
+pub mod Zeros
+pub mod Trees
+pub mod Components
+pub mod Forms

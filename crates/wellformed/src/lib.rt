@@ -1,0 +1,190 @@
+// Checking that lent bytes are a well-formed hall (document 01, "The stored hall") for a decoded table, and telling
+// where each component begins.
+//
+// The bytes are read once, in place, and may be anything: each scan says how far it came, or that the bytes are
+// malformed. A full hall has no byte behind its last component.
+use buffer::wide;
+use nodes::NodeTest;
+use nodes::node_at;
+use records::ATOM;
+use records::REPEATED_TAKE;
+use records::TAKE;
+use stored::CHANNELS;
+use stored::COMPONENT_BODY;
+use stored::IDLE_SIZE;
+use stored::INDEX_SIZE;
+use stored::KIND_OUTPUT;
+use stored::KIND_TRANSACTION;
+use stored::KIND_WAITING;
+use stored::MAX_BRANCHES;
+use stored::MAX_COMPONENTS;
+use stored::TRANSACTION_HEAD;
+use stored::node_size;
+use stored::pending_behind;
+use terms::DECODED;
+use terms::larger;
+ghost use mathlib.Core.Path.{_≡_};
+ghost use Prim.Native.Nat.{_≤_, _<_};
+ghost use lib.ListN.{length, drop};
+ghost use Rattle.semantics.specs.Definitions.Layout.{maxTerms};
+ghost use Rattle.semantics.specs.Definitions.Basics.{zeros};
+ghost use Rattle.stored.specs.Layout.{indexSize};
+ghost use Rattle.storedlaws.specs.Reading.{waits};
+ghost use Rattle.wellformed.specs.Answers.{KindRead, TreeRead, ComponentRead, FormRead};
+
+// The offset behind what was scanned, where it is in order.
+pub enum Scan {
+    Next(usize),
+    Malformed,
+}
+
+// How many bytes a well-formed hall uses, and how many components it has.
+pub enum Form {
+    WellFormed { used: usize, components: usize },
+    Malformed,
+}
+
+// Whether nothing but zeros stands from an offset on. The largest byte is found first, with no way out of the loop,
+// so that many bytes are compared at once.
+pub fn zeros_from(s: &[u8], from: usize) -> bool
+    requires { ⌜ from ≤ length (now s) ⌝ }
+    ensures { λ r. ⌜ r ≡ zeros (drop from (now (s .entry))) ⌝ }
+{
+    let mut top: u8 = 0;
+    let mut i = from;
+    while i < s.len() {
+        top = larger(top, s[i]);
+        i += 1;
+    }
+    top == 0
+}
+
+// The kind of the term that a byte names, of a table of n terms: 0 where it has none.
+pub fn term_kind(decoded: &[u8; DECODED], n: usize, byte: u8) -> u8
+    requires { ⌜ n ≤ maxTerms ⌝ }
+    ensures { λ r. ⌜ KindRead (now (decoded .entry)) n byte r ⌝ }
+{
+    let i = wide(byte);
+    if i < n {
+        return terms::kind_of(decoded, i);
+    }
+    0
+}
+
+// Whether a component may wait on a term of this kind: takes, repeated or not, and blocks.
+pub fn waits_on(kind: u8) -> bool
+    ensures { λ r. ⌜ r ≡ waits kind ⌝ }
+{
+    if kind == TAKE {
+        return true;
+    }
+    if kind == REPEATED_TAKE {
+        return true;
+    }
+    kind == ATOM
+}
+
+// The tree that begins at an offset. `pending` subtrees are still to come, and each has a branch at least, so that a
+// tree of too many branches is given up as soon as it shows: many forks in a row cost no more than few.
+pub fn tree_scan(decoded: &[u8; DECODED], n: usize, s: &[u8], tree: usize) -> Scan
+    requires { ⌜ (n ≤ maxTerms) × (tree ≤ length (now s)) ⌝ }
+    ensures { λ r. ⌜ TreeRead (now (decoded .entry)) n (now (s .entry)) tree r ⌝ }
+{
+    let mut pending: usize = 1;
+    let mut sum: usize = 0;
+    let mut at = tree;
+    while sum + pending <= MAX_BRANCHES {
+        if pending == 0 {
+            return Scan::Next(at);
+        }
+        let NodeTest::Branches(branches) = node_at(decoded, n, s, at) else {
+            return Scan::Malformed;
+        };
+        let kind = s[at];
+        pending = pending_behind(kind, pending);
+        sum += wide(branches);
+        at += node_size(kind);
+    }
+    Scan::Malformed
+}
+
+// The component that begins at an offset.
+pub fn component_scan(decoded: &[u8; DECODED], n: usize, s: &[u8], at: usize) -> Scan
+    requires { ⌜ (n ≤ maxTerms) × (at < length (now s)) ⌝ }
+    ensures { λ r. ⌜ ComponentRead (now (decoded .entry)) n (now (s .entry)) at r ⌝ }
+{
+    let next = at + IDLE_SIZE;
+    if s.len() < next {
+        return Scan::Malformed;
+    }
+    let body = s[at + COMPONENT_BODY];
+    match s[at] {
+        KIND_WAITING => {
+            if waits_on(term_kind(decoded, n, body)) {
+                return Scan::Next(next);
+            }
+            Scan::Malformed
+        }
+        KIND_OUTPUT => {
+            if wide(body) < CHANNELS {
+                return Scan::Next(next);
+            }
+            Scan::Malformed
+        }
+        KIND_TRANSACTION => {
+            if term_kind(decoded, n, body) != ATOM {
+                return Scan::Malformed;
+            }
+            let tree = at + TRANSACTION_HEAD;
+            if s.len() < tree {
+                return Scan::Malformed;
+            }
+            tree_scan(decoded, n, s, tree)
+        }
+        _ => Scan::Malformed,
+    }
+}
+
+// Whether the bytes are a well-formed hall for a decoded table of n terms: counts, at most 64 components up to the
+// first zero byte or the end, and zeros behind them. Of a well-formed one, `starts` says where each component begins
+// and where the last one ends.
+pub fn well_formed(
+    decoded: &[u8; DECODED],
+    n: usize,
+    s: &[u8],
+    starts: &mut [usize; INDEX_SIZE],
+) -> Form
+    requires { ⌜ (n ≤ maxTerms) × (length (now starts) ≡ indexSize) ⌝ }
+    ensures { λ r. ⌜ FormRead (now (decoded .entry)) n (now (s .entry)) (now (starts .exit)) r ⌝ }
+{
+    if s.len() < CHANNELS {
+        return Form::Malformed;
+    }
+    let mut components: usize = 0;
+    let mut at = CHANNELS;
+    starts[0] = CHANNELS;
+    while at < s.len() {
+        if s[at] == 0 {
+            if zeros_from(s, at) {
+                return Form::WellFormed {
+                    used: at,
+                    components,
+                };
+            }
+            return Form::Malformed;
+        }
+        if components == MAX_COMPONENTS {
+            return Form::Malformed;
+        }
+        let Scan::Next(next) = component_scan(decoded, n, s, at) else {
+            return Form::Malformed;
+        };
+        at = next;
+        components += 1;
+        starts[components] = at;
+    }
+    Form::WellFormed {
+        used: at,
+        components,
+    }
+}
