@@ -1,0 +1,175 @@
+-- ATST, from bytes to the move: a block becomes a transaction. It is never refused.
+-- Assumes nothing.
+use Prim.Native.Nat.{ℕ, _+_, _≤_, _<_}
+use native.Mathlib.Omega.{arith}
+use mathlib.Core.Path.{_≡_, refl, sym, ap, _∙_}
+use mathlib.Core.Option.{some}
+use mathlib.Core.List.{List, [], _∷_, _++_, append-nil}
+use lib.ListN.{length, getD, take, set, replicate, getElem?, length-append, length-take}
+use lib.Seq.{take-length, length-take-le}
+use Rattle.semantics.specs.Definitions.Basics.{padded}
+use Rattle.semantics.specs.Definitions.Terms.{Expression, Term, process, atomT, number}
+use Rattle.semantics.specs.Definitions.Table.{atomK}
+use Rattle.semantics.specs.Definitions.Logs.{emptyLog}
+use Rattle.semantics.specs.Definitions.Configuration.{block, leaf, Component, idle, transaction, Configuration}
+use Rattle.semantics.specs.Definitions.Stored.{treeBytes, componentBytes, ComponentOk}
+use Rattle.semantics.specs.Definitions.Moves.{act, acts, answerTo, ruleNumber, movedBy, replyOf}
+use Rattle.semantics.proofs.Lists.{found-below, length-replaceAt}
+use Rattle.semantics.proofs.Moves.{positionOf, localMove, accepted-made}
+use Rattle.records.specs.Shapes.{kindByte}
+use Rattle.terms.specs.Decoded.{Decoded, maxTerms, kindAt, firstAt}
+use Rattle.buffer.specs.Splice.{written}
+use Rattle.buffer.proofs.Written.{written-twice}
+use Rattle.stored.specs.Layout.{channels, indexSize, waitingKind, transactionKind, leafKind, leafTerm, leafLogLength, leafLog, leafSize, idleSize, componentBody, transactionHead}
+use Rattle.storedlaws.proofs.Configurations.{one-bytes}
+use Rattle.storedlaws.proofs.Starts.{idle-size}
+use Rattle.logs.specs.declared.Log.{Log}
+use Rattle.logs.specs.Values.{LogIs}
+use Rattle.index.specs.Holds.{Holds, Replaced, CanReplace}
+use Rattle.index.specs.Choices.{Accepts, Applied, afterwards}
+use Rattle.index.proofs.Holding.{takes, repeats, blocks, hall-length, counts-here, start-below-used, used-inside, component-at, position-below, component-ok, component-ends, body-here, waiting-here}
+use Rattle.index.proofs.Replacing.{one-spaced}
+use Rattle.blocks.specs.Begins.{begunSize, firstLeaf, begunBytes}
+use Rattle.blocks.proofs.Numbers.{begins, retries, fails, commits}
+use Rattle.blocks.proofs.Links.{Replacement, replacement-can, replaced-by-one, held-position, Made, act-made, made-replacement}
+
+-- ---- the bytes that are laid down
+
+-- a leaf with the empty log
+pub log-room : (log : Log) → LogIs log emptyLog → leafLog + length (log .actions) ≤ leafSize
+unfolding emptyLog padded
+log-room log l = let b = ap length (l .bytes) in omega arith
+
+pub leaf-laid : (e : ℕ) (log : Log) (r : List ℕ) → LogIs log emptyLog →
+    r ≡ written (set (set (set (replicate leafSize 0) 0 leafKind) leafTerm e) leafLogLength (log .length)) leafLog
+    (log .actions) (length (log .actions)) →
+    r ≡ firstLeaf e
+unfolding written emptyLog padded
+leaf-laid e log r l q = q ∙ rw (l .counted, l .bytes)
+
+-- the transaction with that leaf
+pub snapshot-room : (s : List ℕ) → idleSize + length (take channels s) ≤ begunSize
+snapshot-room s = let l = length-take channels s in omega arith
+
+behind-head : (n : ℕ) (v : List ℕ) → length v ≡ channels + leafSize →
+    written (transactionKind ∷ n ∷ replicate (channels + leafSize) 0) idleSize v (length v) ≡ transactionKind ∷ n ∷ v
+unfolding written
+behind-head n v l = rw (take-length v, l) (ap (λ w. transactionKind ∷ n ∷ w) (append-nil v))
+
+laid-over : (n : ℕ) (v w : List ℕ) → length v ≡ channels → length w ≡ leafSize →
+    written (written (transactionKind ∷ n ∷ replicate (channels + leafSize) 0) idleSize v (length v)) transactionHead
+    w (length w) ≡
+    transactionKind ∷ n ∷ (v ++ w)
+laid-over n v w l m =
+    let z : idleSize + length v ≡ transactionHead = omega arith in
+    (rw z at (written-twice (transactionKind ∷ n ∷ replicate (channels + leafSize) 0) v w idleSize (omega arith)))
+    ∙ behind-head n (v ++ w) (length-append v w ∙ omega arith)
+
+first-length : (e : ℕ) → length (firstLeaf e) ≡ leafSize
+unfolding emptyLog padded
+first-length e = refl
+
+pub transaction-laid : (s : List ℕ) (n e : ℕ) (first head r : List ℕ) → channels ≤ length s → first ≡ firstLeaf e →
+    head ≡ written (set (set (replicate begunSize 0) 0 transactionKind) componentBody n) idleSize (take channels s)
+    (length (take channels s)) →
+    r ≡ written head transactionHead first (length first) → r ≡ begunBytes s n e
+transaction-laid s n e first head r l f g q =
+    q ∙ rw (g, f) (laid-over n (take channels s) (firstLeaf e) (length-take-le channels s l) (first-length e))
+
+-- ---- the move
+
+module _ (ts : List Term) (h : Configuration) (d s starts : List ℕ) (n p : ℕ) (decoded : Decoded ts d)
+    (x : Holds ts h s starts n) (q : replyOf (answerTo h (act p)) ≡ movedBy 4) where
+  pub atst-link : (b e : ℕ) (new : List ℕ) → b ≡ getD s (getD starts p 0 + componentBody) 0 → e ≡ firstAt d b →
+      new ≡ begunBytes s (getD s (getD starts p 0 + componentBody) 0) e →
+      Replacement ts (afterwards (answerTo h (act p)) h) s starts n p new 1
+  unfolding componentBytes treeBytes ComponentOk
+  atst-link b e new f g laid = go (act-made h p 4 (omega arith) q)
+    where
+      go : Made h p 4 → Replacement ts (afterwards (answerTo h (act p)) h) s starts n p new 1
+      go m = elim (m .move) [
+        | begins k M c i τ cs ↦
+            (let found : getElem? (h .components) p ≡ some (idle (block k M)) = m .found ∙ ap some c in
+            let body : getD s (getD starts p 0 + componentBody) 0 ≡ k = body-here x p (idle (block k M)) found in
+            let there = decoded .records k (process (atomT k M)) (component-ok x p (idle (block k M)) found) in
+            let same : e ≡ number M = g ∙ ap (λ j. firstAt d j) (f ∙ body) ∙ there .1 in
+            let begun : Component = transaction k M (h .counts) (leaf M emptyLog) in
+            let bytes : new ≡ componentBytes begun = laid ∙ rw (body, same, counts-here x) in
+            made-replacement m x (rw τ x) new 1 (rw cs (bytes ∙ sym (one-bytes begun))) (rw cs refl)
+            (rw cs (one-spaced begun)))
+        | retries k M σ j δ c i τ cs ↦ absurd (omega arith)
+        | fails k M σ j δ c i τ cs ↦ absurd (omega arith)
+        | commits k M σ j δ c y i τ cs ↦ absurd (omega arith)
+      ]
+
+-- ---- what the code may do, and what it has done
+
+module _ (d s starts : List ℕ) (n p : ℕ) (x : Accepts d s starts n (act p) 4) where
+  -- the block at the position
+  waits : (k : ℕ) × (M : Expression) × (getElem? (x .configuration .components) p ≡ some (idle (block k M)))
+  waits = let m = act-made (x .configuration) p 4 (omega arith) (x .reply) in elim (m .move) [
+    | begins k M c i τ cs ↦ (k, M, m .found ∙ ap some c)
+    | retries k M σ j δ c i τ cs ↦ absurd (omega arith)
+    | fails k M σ j δ c i τ cs ↦ absurd (omega arith)
+    | commits k M σ j δ c y i τ cs ↦ absurd (omega arith)
+  ]
+
+  pub begin-position : p < indexSize
+  begin-position = held-position (x .holds) p (position-below (x .holds) p _ (waits .2))
+
+  pub begin-inside : getD starts p 0 + componentBody < length s
+  begin-inside =
+      let c = idle (block (waits .0) (waits .1)) in
+      let l = position-below (x .holds) p c (waits .2) in
+      let e = component-ends (x .holds) p c (waits .2) in
+      let k = idle-size (block (waits .0) (waits .1)) in
+      let b = start-below-used (x .holds) (p + 1) (omega arith) in
+      let u = used-inside (x .holds) in
+      let h = hall-length (x .holds) in omega arith
+
+  pub begin-counts : channels ≤ length s
+  begin-counts = let h = hall-length (x .holds) in omega arith
+
+  pub begin-term : (b : ℕ) → b ≡ getD s (getD starts p 0 + componentBody) 0 → b < maxTerms
+  unfolding ComponentOk componentBytes
+  begin-term b f =
+      let c = idle (block (waits .0) (waits .1)) in
+      let k = found-below (x .terms) (waits .0) _ (component-ok (x .holds) p c (waits .2)) in
+      let body : getD s (getD starts p 0 + componentBody) 0 ≡ waits .0 = body-here (x .holds) p c (waits .2) in
+      let few = x .holds .good .few in omega arith
+
+module _ (d s starts : List ℕ) (n p b e : ℕ) (new : List ℕ) (f : b ≡ getD s (getD starts p 0 + componentBody) 0)
+    (g : e ≡ firstAt d b) (laid : new ≡ begunBytes s (getD s (getD starts p 0 + componentBody) 0) e) where
+  pub begin-can : Accepts d s starts n (act p) 4 → CanReplace s starts n p new 1
+  begin-can x =
+      replacement-can (atst-link (x .terms) (x .configuration) d s starts n p (x .decoded) (x .holds) (x .reply) b e
+      new f g laid)
+
+  pub begin-applied : (s′ starts′ : List ℕ) (n′ : ℕ) → Replaced s starts n p new 1 s′ starts′ n′ →
+      Applied d s starts n (act p) 4 s′ starts′ n
+  begin-applied s′ starts′ n′ r = record {
+    found = λ ts h x y q. replaced-by-one (atst-link ts h d s starts n p x y q b e new f g laid) refl r;
+  }
+
+-- ---- a block that waits
+
+-- ATST is never refused: the number of components stays
+pub block-begins : (ts : List Term) (h : Configuration) (d s starts : List ℕ) (n p : ℕ) → Decoded ts d →
+    Holds ts h s starts n →
+    p < n → getD s (getD starts p 0) 0 ≡ waitingKind →
+    kindAt d (getD s (getD starts p 0 + componentBody) 0) ≡ kindByte atomK →
+    replyOf (answerTo h (act p)) ≡ movedBy 4
+unfolding positionOf localMove acts replyOf ruleNumber
+block-begins ts h d s starts n p x y l w k =
+    let (c, e) = component-at y p l in
+    elim (waiting-here y p c e w) [
+      | takes a P z t ↦ (let r = x .records _ _ t in absurd (let o = r .0 in omega arith))
+      | repeats a P z t ↦ (let r = x .records _ _ t in absurd (let o = r .0 in omega arith))
+      | blocks M z t ↦
+          (let i = getD s (getD starts p 0 + componentBody) 0 in
+          let there : getElem? (h .components) p ≡ some (idle (block i M)) = e ∙ ap some z in
+          let few = y .form .few in
+          let m = length-replaceAt (h .components) (transaction i M (h .counts) (leaf M emptyLog) ∷ []) p
+          (found-below (h .components) p _ there) in
+          rw (accepted-made h (act p) _ (h .counts) (idle (block i M)) _ there refl (omega arith)))
+    ]

@@ -1,0 +1,125 @@
+-- The log of an end leaf: where it stands, what it needs of the counts of now, and the reply to a commit.
+-- Assumes nothing.
+use Prim.Native.Nat.{ℕ, _+_, _*_, _-_, _≤_, _<_}
+use native.Mathlib.Omega.{arith}
+use mathlib.Core.Path.{_≡_, sym, ap, _∙_}
+use mathlib.Core.Bool.{Bool, true, false}
+use mathlib.Core.Option.{some}
+use mathlib.Core.List.{List, [], _∷_}
+use lib.ListN.{length, getD, take, drop, replicate, getElem?, length-append}
+use borrow.Author.Tests.{le-leb, lt-leb}
+use Rattle.calculus.specs.Syntax.{rd, wt, Log, State}
+use Rattle.calculus.specs.Log.{WT}
+use Rattle.semantics.specs.Definitions.Basics.{padded}
+use Rattle.semantics.specs.Definitions.Terms.{Expression, Term}
+use Rattle.semantics.specs.Definitions.Configuration.{leaf, transaction, Configuration}
+use Rattle.semantics.specs.Definitions.Logs.{readable}
+use Rattle.terms.specs.Decoded.{Decoded}
+use Rattle.stored.specs.Layout.{channels, maxActions, maxComponents, idleSize, transactionHead, leafLogLength, leafLog}
+use Rattle.rules.specs.declared.Reply.the-variants.{Moved, Refused}
+use Rattle.rules.specs.Replies.{replyIs}
+use Rattle.index.specs.Holds.{Holds}
+use Rattle.index.proofs.Holding.{sixteen}
+use Rattle.logs.specs.declared.Outputs.{Outputs}
+use Rattle.logs.specs.Needs.{needsOf, withinAt}
+use Rattle.logs.specs.Writes.{writesOf, outputBytes}
+use Rattle.logs.specs.Values.{OutputsAre}
+use Rattle.logs.proofs.Writing.{output-length}
+use Rattle.logs.proofs.Links.{stored-readable, stored-outputs-count}
+use Rattle.logs.proofs.Places.{log-held, counts-held, leaf-length, leaf-stored, hall-counts}
+use Rattle.leaves.proofs.Leaves.{whole-at}
+use Rattle.blocks.specs.Ends.{LogHere, CanLookCommit, commitReply, CommitLooked}
+
+-- ---- at the only leaf of a transaction
+
+pub log-here : {ts : List Term} {h : Configuration} {d s starts : List ℕ} {n : ℕ} → Decoded ts d →
+    Holds ts h s starts n →
+    (p m : ℕ) (M : Expression) (σ : State) (N : Expression) (δ : Log) →
+    getElem? (h .components) p ≡ some (transaction m M σ (leaf N δ)) →
+    LogHere s (getD starts p 0 + transactionHead) (h .counts) δ
+log-here {ts} {h} {d} {s} {starts} {n} x y p m M σ N δ e =
+    let w = whole-at x y p m M σ (leaf N δ) e in
+    record {
+      size = leaf-length s (getD starts p 0 + transactionHead) N δ (w .rest) (w .bytes);
+      log = leaf-stored s (getD starts p 0 + transactionHead) N δ (w .rest) (w .bytes) ts (w .ok);
+      counts = hall-counts h s (y .bytes) (sixteen y);
+    }
+
+-- ---- what the code reads
+
+-- no more writes than actions
+writes-few : (δ : Log) → length (WT δ) ≤ length δ
+unfolding WT
+writes-few [] = omega arith
+writes-few (rd a ∷ δ) = let l = writes-few δ in omega arith
+writes-few (wt a ∷ δ) = let l = writes-few δ in omega arith
+
+-- the bytes of outputs are all there
+pub outputs-inside : (o : Outputs) (written : List ℕ) → OutputsAre o written → o .count * idleSize ≤ length (o .bytes)
+unfolding padded
+outputs-inside o written w =
+    let c = w .counted in
+    let l = output-length written in
+    let zeros : List ℕ = replicate (32 - length (outputBytes written)) 0 in
+    let b : length (o .bytes) ≡ length (outputBytes written) + length zeros =
+    ap length (w .bytes) ∙ length-append (outputBytes written) zeros in omega arith
+
+module _ (s : List ℕ) (leaf n : ℕ) (x : CanLookCommit s leaf n) where
+  pub leaf-inside : leaf + leafLog + maxActions ≤ length s
+  leaf-inside = log-held s (leaf + leafLog) maxActions (x .log) (x .here .log) (omega arith)
+
+  pub length-inside : leaf + leafLogLength < length s
+  length-inside = let l = leaf-inside in omega arith
+
+  pub counts-inside : channels ≤ length s
+  counts-inside = counts-held s 0 (x .counts) (x .here .counts)
+
+  module _ (size : ℕ) (e : size ≡ getD s (leaf + leafLogLength) 0) where
+    pub log-few : size ≤ maxActions
+    log-few = let f = x .here .log .few in let g = x .here .size in omega arith
+
+    pub log-inside : leaf + leafLog + size ≤ length s
+    log-inside = log-held s (leaf + leafLog) size (x .log) (x .here .log) log-few
+
+    pub outputs-few : (o : Outputs) → OutputsAre o (writesOf (take size (drop (leaf + leafLog) s))) →
+        o .count ≤ maxActions
+    outputs-few o w =
+        let c = stored-outputs-count s (leaf + leafLog) size (x .log) (x .here .log) (e ∙ x .here .size) o w in
+        let l = writes-few (x .log) in
+        let f = x .here .log .few in omega arith
+
+-- ---- the reply to a commit
+
+module _ (s : List ℕ) (leaf n size : ℕ) (need : List ℕ) (r : Bool) (e : size ≡ getD s (leaf + leafLogLength) 0)
+    (f : need ≡ needsOf (take size (drop (leaf + leafLog) s))) (g : r ≡ withinAt need s 0) where
+  test-here : {σ : State} {δ : Log} → LogHere s leaf σ δ → r ≡ readable σ δ
+  test-here {σ} {δ} y = stored-readable s (leaf + leafLog) size δ (y .log) (e ∙ y .size) 0 σ need r (y .counts) f g
+
+  -- ATFAIL
+  pub commit-fails : r ≡ false → CommitLooked s leaf n (Moved 6)
+  unfolding replyIs commitReply
+  commit-fails q = record { found = λ σ δ y. rw (sym (test-here y) ∙ q) }
+
+  module _ (o : Outputs) (w : OutputsAre o (writesOf (take size (drop (leaf + leafLog) s)))) (q : r ≡ true) where
+    many-here : {σ : State} {δ : Log} → LogHere s leaf σ δ → o .count ≡ length (WT δ)
+    many-here {σ} {δ} y = stored-outputs-count s (leaf + leafLog) size δ (y .log) (e ∙ y .size) o w
+
+    -- refused by the number of components
+    pub commit-crowded : maxComponents < n - 1 + o .count → CommitLooked s leaf n (Refused 19)
+    unfolding replyIs commitReply
+    commit-crowded l = record {
+      found = λ σ δ y.
+          let c = many-here y in
+          let k : maxComponents < n - 1 + length (WT δ) = rw (← c) l in
+          rw (sym (test-here y) ∙ q, lt-leb _ _ k);
+    }
+
+    -- ATOK
+    pub commit-done : n - 1 + o .count ≤ maxComponents → CommitLooked s leaf n (Moved 7)
+    unfolding replyIs commitReply
+    commit-done l = record {
+      found = λ σ δ y.
+          let c = many-here y in
+          let k : n - 1 + length (WT δ) ≤ maxComponents = rw (← c) l in
+          rw (sym (test-here y) ∙ q, le-leb _ _ k);
+    }

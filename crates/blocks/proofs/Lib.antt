@@ -1,0 +1,6 @@
+pub mod Numbers
+pub mod Links
+pub mod Beginning
+pub mod EndLeaves
+pub mod Looking
+pub mod Ending

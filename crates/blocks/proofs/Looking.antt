@@ -1,0 +1,220 @@
+-- What an act is answered at a transaction, from its bytes: ATRE at a retry leaf, the reply to a commit at an end leaf,
+-- and refused by 15 while it has more to do.
+-- Assumes nothing.
+use Prim.Native.Nat.{ℕ, _+_, _-_, _≤_, _<_}
+use native.Mathlib.Omega.{arith}
+use mathlib.Core.Path.{_≡_, refl, sym, ap, _∙_}
+use mathlib.Core.Bool.{Bool, true, false, cond}
+use mathlib.Core.Option.{some}
+use mathlib.Core.List.{List, [], _∷_, map}
+use lib.ListN.{length, getElem?, length-map}
+use lib.Dec.{leb}
+use borrow.Author.Tests.{le-leb}
+use Rattle.calculus.specs.Syntax.{Log, State}
+use Rattle.calculus.specs.State.{without}
+use Rattle.calculus.specs.Log.{RD, WT}
+use Rattle.calculus.specs.Reduction.{Rule, ATFAIL, ATOK}
+use Rattle.semantics.specs.Definitions.Basics.{replaceAt}
+use Rattle.semantics.specs.Definitions.Table.{endK, retryK}
+use Rattle.semantics.specs.Definitions.Terms.{Expression, endT, retryT, rdT, wtT, orElseT, Term}
+use Rattle.semantics.specs.Definitions.Logs.{readable}
+use Rattle.semantics.specs.Definitions.Configuration.{block, output, Tree, leaf, fork, Component, idle, transaction, Configuration}
+use Rattle.semantics.specs.Definitions.Moves.{act, moves, blocked, commits, ends, acts, Answer, applyAt, answerTo, ruleNumber, Reply, movedBy, refusedBy, replyOf}
+use Rattle.semantics.proofs.Lists.{found-below, length-replaceAt}
+use Rattle.semantics.proofs.Moves.{positionOf, localMove, chosen-at}
+use Rattle.records.specs.Shapes.{kindByte}
+use Rattle.terms.specs.Decoded.{Decoded}
+use Rattle.stored.specs.Layout.{hallBytes, maxComponents, transactionHead}
+use Rattle.storedlaws.specs.Reading.{termKind}
+use Rattle.rules.specs.declared.Reply as code
+use Rattle.rules.specs.declared.Reply.the-variants.{Moved, Refused}
+use Rattle.rules.specs.Replies.{replyIs}
+use Rattle.index.specs.Holds.{Holds}
+use Rattle.index.proofs.Holding.{hall-length, few-components, component-at, transaction-here}
+use Rattle.leaves.specs.Leaves.{TreeAt, StandsAt, NodeRead, kindOfNode}
+use Rattle.leaves.proofs.Leaves.{whole-at, node-inside}
+use Rattle.blocks.specs.Ends.{TransactionAt, LogHere, CanLookEnd, EndLooked, CanLookCommit, commitReply, CommitLooked}
+use Rattle.blocks.proofs.EndLeaves.{log-here}
+
+-- ---- the reply to an act
+
+reply-cond : (b : Bool) (x y : Answer) → replyOf (cond b x y) ≡ cond b (replyOf x) (replyOf y)
+reply-cond true x y = refl
+reply-cond false x y = refl
+
+module _ {ts : List Term} {h : Configuration} {s starts : List ℕ} {n : ℕ} (y : Holds ts h s starts n) (p : ℕ)
+    (c : Component)
+    (e : getElem? (h .components) p ≡ some c) where
+  -- a component that has nothing to do
+  reply-blocked : (k : ℕ) → acts (h .counts) c ≡ blocked k → replyOf (answerTo h (act p)) ≡ refusedBy k
+  unfolding positionOf localMove applyAt replyOf
+  reply-blocked k q = ap replyOf (chosen-at h (act p) c e) ∙ rw q
+
+  -- one that gives way to others: refused where too many are left
+  reply-moves : (r : Rule) (τ : State) (cs : List Component) → acts (h .counts) c ≡ moves r τ cs →
+      replyOf (answerTo h (act p)) ≡ cond (leb (n - 1 + length cs) maxComponents) (movedBy (ruleNumber r))
+      (refusedBy 19)
+  unfolding positionOf localMove applyAt replyOf
+  reply-moves r τ cs q =
+      let below = found-below (h .components) p c e in
+      let counted = y .counted in
+      let l = length-replaceAt (h .components) cs p below in
+      let many : length (replaceAt p cs (h .components)) ≡ n - 1 + length cs = omega arith in
+      ap replyOf (chosen-at h (act p) c e)
+      ∙ rw q (reply-cond (leb (length (replaceAt p cs (h .components))) maxComponents) _ _ ∙ rw many)
+
+  -- one that gives way to one
+  reply-moves-one : (r : Rule) (τ : State) (d : Component) → acts (h .counts) c ≡ moves r τ (d ∷ []) →
+      replyOf (answerTo h (act p)) ≡ movedBy (ruleNumber r)
+  reply-moves-one r τ d q =
+      let few = few-components y in
+      let below = found-below (h .components) p c e in
+      let counted = y .counted in
+      let k : n - 1 + length (d ∷ []) ≤ maxComponents = omega arith in
+      reply-moves r τ (d ∷ []) q ∙ rw (le-leb _ _ k)
+
+-- ---- at a transaction
+
+module _ {ts : List Term} {h : Configuration} {s starts : List ℕ} {n : ℕ} (y : Holds ts h s starts n) (p m : ℕ)
+    (M : Expression) (σ : State) where
+  -- at a retry leaf
+  retry-reply : (e : ℕ) (δ : Log) → getElem? (h .components) p ≡ some (transaction m M σ (leaf (retryT e) δ)) →
+      replyOf (answerTo h (act p)) ≡ movedBy 5
+  unfolding acts ends ruleNumber
+  retry-reply e δ f = reply-moves-one y p _ f _ (h .counts) (idle (block m M)) refl
+
+  -- at an end leaf
+  end-reply : (e : ℕ) (δ : Log) → getElem? (h .components) p ≡ some (transaction m M σ (leaf (endT e) δ)) →
+      replyOf (answerTo h (act p)) ≡ commitReply (h .counts) δ n
+  unfolding acts ends commits ruleNumber commitReply
+  end-reply e δ f = go (readable (h .counts) δ) refl
+    where
+      go : (b : Bool) → readable (h .counts) δ ≡ b → replyOf (answerTo h (act p)) ≡ commitReply (h .counts) δ n
+      go true q =
+          rw q (reply-moves y p _ f (ATOK δ) (without (h .counts) (RD δ)) (map (λ a. idle (output a)) (WT δ)) (rw q)
+          ∙ rw (length-map (WT δ) (λ a. idle (output a))))
+      go false q = rw q (reply-moves-one y p _ f ATFAIL (h .counts) (idle (block m M)) (rw q))
+
+  -- while there is more to do
+  more-reply : (t : Tree) → getElem? (h .components) p ≡ some (transaction m M σ t) →
+      ends (h .counts) m M t ≡ blocked 15 →
+      replyOf (answerTo h (act p)) ≡ refusedBy 15
+  unfolding acts
+  more-reply t f q = reply-blocked y p _ f 15 q
+
+-- the nodes of a transaction by the kind of the first
+data Ending (t : Tree) (k : ℕ) : Type 0 where
+  ended : (e : ℕ) (δ : Log) → t ≡ leaf (endT e) δ → k ≡ kindByte endK → Ending t k
+  retried : (e : ℕ) (δ : Log) → t ≡ leaf (retryT e) δ → k ≡ kindByte retryK → Ending t k
+  more : ((σ : State) (m : ℕ) (M : Expression) → ends σ m M t ≡ blocked 15) → (k ≡ kindByte endK → ⊥) →
+      (k ≡ kindByte retryK → ⊥) → Ending t k
+
+ending : (t : Tree) → Ending t (kindOfNode t)
+unfolding ends kindOfNode termKind
+ending (leaf (endT e) δ) = ended e δ refl refl
+ending (leaf (retryT e) δ) = retried e δ refl refl
+ending (leaf (rdT e a N) δ) = more (λ σ m M. refl) (λ z. omega arith) (λ z. omega arith)
+ending (leaf (wtT e a N) δ) = more (λ σ m M. refl) (λ z. omega arith) (λ z. omega arith)
+ending (leaf (orElseT e N N′) δ) = more (λ σ m M. refl) (λ z. omega arith) (λ z. omega arith)
+ending (fork l r) = more (λ σ m M. refl) (λ z. omega arith) (λ z. omega arith)
+
+-- ---- the code
+
+-- the transaction there, and where its nodes stand
+record Found (ts : List Term) (h : Configuration) (d s : List ℕ) (p at : ℕ) : Type 0 where
+  number : ℕ
+  block : Expression
+  snapshot : State
+  nodes : Tree
+  there : getElem? (h .components) p ≡ some (transaction number block snapshot nodes)
+  stands : TreeAt ts nodes d s (at + transactionHead)
+
+module _ {ts : List Term} {h : Configuration} {d s starts : List ℕ} {n p at : ℕ} (x : Decoded ts d)
+    (w : TransactionAt ts h s starts n p at) where
+  found-there : Found ts h d s p at
+  found-there =
+      let (c, e) = component-at (w .holds) p (w .there) in
+      let (M, σ, t, same) = transaction-here (w .holds) p c e (rw (w .begins) at (w .kind)) in
+      let there : getElem? (h .components) p ≡ some (transaction _ M σ t) = e ∙ ap some same in
+      let tree = whole-at x (w .holds) p _ M σ t there in
+      record { number = _; block = M; snapshot = σ; nodes = t; there = there; stands = rw (← w .begins) at tree }
+
+  -- at an end leaf
+  log-there : (m : ℕ) (M : Expression) (σ : State) (N : Expression) (δ : Log) →
+      getElem? (h .components) p ≡ some (transaction m M σ (leaf N δ)) →
+      LogHere s (at + transactionHead) (h .counts) δ
+  log-there m M σ N δ e = rw (w .begins) (log-here x (w .holds) p m M σ N δ e)
+
+  by-end : (C : Type 0) (k : ℕ) → NodeRead d s (at + transactionHead) k → k ≡ kindByte endK →
+      ((m : ℕ) (M : Expression) (σ : State) (e : ℕ) (δ : Log) →
+      getElem? (h .components) p ≡ some (transaction m M σ (leaf (endT e) δ)) → C) → C
+  by-end C k q same next =
+      let f = found-there in
+      let z = q .found ts (f .nodes) (f .stands) in
+      elim (ending (f .nodes)) [
+        | ended e δ t i ↦ next (f .number) (f .block) (f .snapshot) e δ (rw t at (f .there))
+        | retried e δ t i ↦ absurd (omega arith)
+        | more a b c ↦ absurd (b (sym z ∙ same))
+      ]
+
+module _ (d s : List ℕ) (n at : ℕ) (x : CanLookEnd d s n at) where
+  pub end-stands : StandsAt d s (at + transactionHead)
+  end-stands =
+      let f = found-there (x .decoded) (x .transaction) in
+      record { terms = x .terms; tree = f .nodes; there = f .stands }
+
+  -- the offset of its nodes is one of the hall
+  pub end-fits : at + transactionHead < hallBytes
+  end-fits = rw (hall-length (x .transaction .holds)) at (node-inside d s (at + transactionHead) end-stands)
+
+  pub end-can : (k : ℕ) → NodeRead d s (at + transactionHead) k → k ≡ kindByte endK →
+      CanLookCommit s (at + transactionHead) n
+  end-can k q same =
+      let w = x .transaction in
+      let l = w .there in
+      by-end (x .decoded) w _ k q same (λ m M σ e δ f. record {
+        counts = x .configuration .counts;
+        log = δ;
+        here = log-there (x .decoded) w m M σ (endT e) δ f;
+        some = omega arith;
+        few = few-components (w .holds);
+      })
+
+module _ (d s : List ℕ) (n at : ℕ) where
+  pub look-retry : (k : ℕ) → NodeRead d s (at + transactionHead) k → k ≡ kindByte retryK → EndLooked d s n at (Moved 5)
+  unfolding replyIs
+  look-retry k q same = record {
+    found = λ ts h starts p x w.
+        let f = found-there x w in
+        let z = q .found ts (f .nodes) (f .stands) in
+        elim (ending (f .nodes)) [
+          | ended e δ t i ↦ absurd (omega arith)
+          | retried e δ t i ↦ sym
+              (retry-reply (w .holds) p (f .number) (f .block) (f .snapshot) e δ (rw t at (f .there)))
+          | more a b c ↦ absurd (c (sym z ∙ same))
+        ];
+  }
+
+  pub look-end : (k : ℕ) (r : code.Reply) → NodeRead d s (at + transactionHead) k → k ≡ kindByte endK →
+      CommitLooked s (at + transactionHead) n r → EndLooked d s n at r
+  look-end k r q same looked = record {
+    found = λ ts h starts p x w. by-end x w _ k q same (λ m M σ e δ f.
+        looked .found (h .counts) δ (log-there x w m M σ (endT e) δ f) ∙ sym (end-reply (w .holds) p m M σ e δ f));
+  }
+
+  pub look-more : (k : ℕ) → NodeRead d s (at + transactionHead) k → (k ≡ kindByte endK → ⊥) →
+      (k ≡ kindByte retryK → ⊥) →
+      EndLooked d s n at (Refused 15)
+  unfolding replyIs
+  look-more k q no-end no-retry = record {
+    found = λ ts h starts p x w.
+        let f = found-there x w in
+        let z = q .found ts (f .nodes) (f .stands) in
+        elim (ending (f .nodes)) [
+          | ended e δ t i ↦ absurd (no-end (z ∙ i))
+          | retried e δ t i ↦ absurd (no-retry (z ∙ i))
+          | more a b c ↦
+              sym (more-reply (w .holds) p (f .number) (f .block) (f .snapshot) (f .nodes) (f .there)
+              (a (h .counts) (f .number) (f .block)))
+        ];
+  }

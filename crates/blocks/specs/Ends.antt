@@ -1,0 +1,99 @@
+-- How a transaction (attempt) ends: what a look finds, and what the moves make of what is held.
+--
+-- d is a decoded table; s has the bytes, starts the index, n the number of components (stations), p a position. Where a
+-- function is lent no decoded table, its contract speaks of some table or of every one.
+-- Assumes nothing.
+use Prim.Native.Nat.{ℕ, _+_, _-_, _≤_, _<_}
+use mathlib.Core.Path.{_≡_}
+use mathlib.Core.Logic.{_⊎_}
+use mathlib.Core.Bool.{cond}
+use mathlib.Core.List.{List}
+use lib.ListN.{length, getD}
+use lib.Dec.{leb}
+use Rattle.calculus.specs.Syntax.{Log, State}
+use Rattle.calculus.specs.Log.{WT}
+use Rattle.semantics.specs.Definitions.Terms.{Term}
+use Rattle.semantics.specs.Definitions.Configuration.{Configuration}
+use Rattle.semantics.specs.Definitions.Logs.{readable}
+use Rattle.semantics.specs.Definitions.Moves as moves
+use Rattle.semantics.specs.Definitions.Moves.{act, answerTo, replyOf}
+use Rattle.terms.specs.Decoded.{Decoded}
+use Rattle.stored.specs.Layout.{maxComponents, transactionKind, leafLogLength, leafLog}
+use Rattle.logs.specs.Places.{LogAt, CountsAt}
+use Rattle.rules.specs.declared.Reply.{Reply}
+use Rattle.rules.specs.Replies.{replyIs}
+use Rattle.index.specs.Holds.{Holds}
+use Rattle.index.specs.Choices.{Accepts, Applied}
+
+-- ---- the look
+
+-- a transaction stands at position p of a configuration that is held, and begins at this offset
+pub record TransactionAt (ts : List Term) (h : Configuration) (s starts : List ℕ) (n p at : ℕ) : Type 0 where
+  pub holds : Holds ts h s starts n
+  pub there : p < n
+  pub begins : at ≡ getD starts p 0
+  pub kind : getD s at 0 ≡ transactionKind
+
+-- some transaction, of some table that d decodes, begins at this offset
+pub record CanLookEnd (d s : List ℕ) (n at : ℕ) : Type 0 where
+  pub terms : List Term
+  pub configuration : Configuration
+  pub starts : List ℕ
+  pub position : ℕ
+  pub decoded : Decoded terms d
+  pub transaction : TransactionAt terms configuration s starts n position at
+
+-- r is what an act is answered there, whichever transaction it is
+pub record EndLooked (d s : List ℕ) (n at : ℕ) (r : Reply) : Type 0 where
+  pub found : (ts : List Term) (h : Configuration) (starts : List ℕ) (p : ℕ) → Decoded ts d →
+      TransactionAt ts h s starts n p at → replyIs r ≡ replyOf (answerTo h (act p))
+
+-- ---- the look at an end leaf
+
+-- the leaf at an offset has the log δ, and the hall has the counts σ
+pub record LogHere (s : List ℕ) (leaf : ℕ) (σ : State) (δ : Log) : Type 0 where
+  pub size : getD s (leaf + leafLogLength) 0 ≡ length δ
+  pub log : LogAt s (leaf + leafLog) δ
+  pub counts : CountsAt s 0 σ
+
+pub record CanLookCommit (s : List ℕ) (leaf n : ℕ) : Type 0 where
+  pub counts : State
+  pub log : Log
+  pub here : LogHere s leaf counts log
+  pub some : 0 < n
+  pub few : n ≤ maxComponents
+
+-- ATOK where the log is readable at the counts of now and its outputs leave no more than 64 of n components, else
+-- refused by 19; ATFAIL where it is not readable, whatever the number of components
+unfoldable pub commitReply : State → Log → (n : ℕ) → moves.Reply
+unfolding readable WT
+commitReply σ δ n =
+    cond (readable σ δ) (cond (leb (n - 1 + length (WT δ)) maxComponents) (moves.movedBy 7) (moves.refusedBy 19))
+    (moves.movedBy 6)
+
+-- r is the reply to a commit, whichever log and counts stand there
+pub record CommitLooked (s : List ℕ) (leaf n : ℕ) (r : Reply) : Type 0 where
+  pub found : (σ : State) (δ : Log) → LogHere s leaf σ δ → replyIs r ≡ commitReply σ δ n
+
+-- ---- the block comes back: ATRE (5) and ATFAIL (6)
+
+abbrev pub Restarts : ℕ → Type 0
+Restarts rule = (rule ≡ 5) ⊎ (rule ≡ 6)
+
+pub record CanRestart (s starts : List ℕ) (n p : ℕ) : Type 0 where
+  pub decoded : List ℕ
+  pub rule : ℕ
+  pub either : Restarts rule
+  pub accepts : Accepts decoded s starts n (act p) rule
+
+pub record Restarted (s starts : List ℕ) (n p : ℕ) (s′ starts′ : List ℕ) : Type 0 where
+  pub found : (d : List ℕ) (rule : ℕ) → Restarts rule → Applied d s starts n (act p) rule s′ starts′ n
+
+-- ---- the commit: ATOK (7)
+
+pub record CanCommit (s starts : List ℕ) (n p : ℕ) : Type 0 where
+  pub decoded : List ℕ
+  pub accepts : Accepts decoded s starts n (act p) 7
+
+pub record Committed (s starts : List ℕ) (n p : ℕ) (s′ starts′ : List ℕ) (n′ : ℕ) : Type 0 where
+  pub found : (d : List ℕ) → Applied d s starts n (act p) 7 s′ starts′ n′

@@ -1,0 +1,99 @@
+// A transaction (attempt) ends: ATRE, ATFAIL and ATOK.
+use buffer::wide;
+use index::replace_component;
+use records::END;
+use records::RETRY;
+use rules::ATFAIL;
+use rules::ATOK;
+use rules::ATRE;
+use rules::Reply;
+use rules::TOO_MANY_COMPONENTS;
+use rules::WRONG_COMPONENT;
+use stored::COMPONENT_BODY;
+use stored::IDLE_SIZE;
+use stored::INDEX_SIZE;
+use stored::KIND_WAITING;
+use stored::LEAF_LOG;
+use stored::LEAF_LOG_LENGTH;
+use stored::MAX_COMPONENTS;
+use stored::TRANSACTION_HEAD;
+use terms::DECODED;
+ghost use Rattle.blocks.specs.Ends.{CanLookCommit, CommitLooked, CanLookEnd, EndLooked};
+ghost use Rattle.blocks.specs.Ends.{CanRestart, Restarted, CanCommit, Committed};
+
+// What ends the transaction whose only leaf is the end leaf at an offset: ATOK where the log is readable at the counts
+// of now, else ATFAIL. Only a commit that succeeds is refused for its components.
+fn look_commit(hall: &[u8], leaf: usize, components: usize) -> Reply
+    requires { ⌜ CanLookCommit (now hall) leaf components ⌝ }
+    ensures { λ r. ⌜ CommitLooked (now (hall .entry)) leaf components r ⌝ }
+{
+    let size = wide(hall[leaf + LEAF_LOG_LENGTH]);
+    let need = logs::needs_of(hall, leaf + LEAF_LOG, size);
+    if logs::within(need, hall, 0) {
+        let outputs = logs::outputs_of(hall, leaf + LEAF_LOG, size);
+        let others = components - 1;
+        if MAX_COMPONENTS < others + outputs.count {
+            return Reply::Refused(TOO_MANY_COMPONENTS);
+        }
+        return Reply::Moved(ATOK);
+    }
+    Reply::Moved(ATFAIL)
+}
+
+// What ends the transaction that begins at an offset: ATRE, ATFAIL or ATOK; refused while it has more to do, and where
+// a commit would leave too many components.
+pub fn look_end(
+    decoded: &[u8; DECODED],
+    hall: &[u8],
+    transaction: usize,
+    components: usize,
+) -> Reply
+    requires { ⌜ CanLookEnd (now decoded) (now hall) components transaction ⌝ }
+    ensures { λ r. ⌜ EndLooked (now (decoded .entry)) (now (hall .entry)) components transaction r ⌝ }
+{
+    let leaf = transaction + TRANSACTION_HEAD;
+    match leaves::leaf_kind(decoded, hall, leaf) {
+        RETRY => Reply::Moved(ATRE),
+        END => look_commit(hall, leaf, components),
+        _ => Reply::Refused(WRONG_COMPONENT),
+    }
+}
+
+// ATRE and ATFAIL: the transaction at a position gives way to its block.
+pub fn restart(
+    hall: &mut [u8],
+    starts: &mut [usize; INDEX_SIZE],
+    components: usize,
+    position: usize,
+)
+    requires { ⌜ CanRestart (now hall) (now starts) components position ⌝ }
+    ensures { λ _. ⌜ Restarted (now (hall .entry)) (now (starts .entry)) components position
+        (now (hall .exit)) (now (starts .exit)) ⌝ }
+{
+    let at = starts[position];
+    let new = [KIND_WAITING, hall[at + COMPONENT_BODY]];
+    replace_component(hall, starts, components, position, &new, 1);
+}
+
+// ATOK: the reads are taken from the counts, and each write becomes an output. The answer is how many components there
+// are now.
+pub fn commit(
+    hall: &mut [u8],
+    starts: &mut [usize; INDEX_SIZE],
+    components: usize,
+    position: usize,
+) -> usize
+    requires { ⌜ CanCommit (now hall) (now starts) components position ⌝ }
+    ensures { λ r. ⌜ Committed (now (hall .entry)) (now (starts .entry)) components position
+        (now (hall .exit)) (now (starts .exit)) r ⌝ }
+{
+    let leaf = starts[position] + TRANSACTION_HEAD;
+    let size = wide(hall[leaf + LEAF_LOG_LENGTH]);
+    let need = logs::needs_of(hall, leaf + LEAF_LOG, size);
+    let outputs = logs::outputs_of(hall, leaf + LEAF_LOG, size);
+    logs::take_needs(hall, need);
+    let bytes = outputs.bytes;
+    let count = outputs.count;
+    let end = count * IDLE_SIZE;
+    replace_component(hall, starts, components, position, &bytes[..end], count)
+}

@@ -1,0 +1,2 @@
+-- What the bytes at a node tell.
+pub mod Leaves

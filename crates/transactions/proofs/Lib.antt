@@ -1,0 +1,7 @@
+-- The laws of finding and of making a move inside a transaction.
+pub mod Bytes
+pub mod Finding
+pub mod Searching
+pub mod Moving
+pub mod Links
+pub mod Applying

@@ -1,0 +1,168 @@
+-- The entry for a node of an open transaction: what is answered follows from the node that stands there.
+-- Assumes nothing.
+use Prim.Native.Nat.{ℕ, zero, suc, _+_, _≤_}
+use native.Mathlib.Omega.{arith}
+use mathlib.Core.Path.{_≡_, refl, sym, ap, _∙_}
+use mathlib.Core.Option.{some}
+use mathlib.Core.List.{List, [], _∷_}
+use lib.ListN.{length, getD, getElem?}
+use Rattle.calculus.specs.Syntax.{State}
+use Rattle.semantics.specs.Definitions.Terms.{Expression, Term}
+use Rattle.semantics.specs.Definitions.Configuration.{Tree, transaction, Configuration}
+use Rattle.semantics.specs.Definitions.Moves.{Inner, evolves, noRule, outOfRange, inner, innerLocal, actsInside, inside, applyAt, answerTo, replyOf}
+use Rattle.semantics.proofs.Lists.{found-below, length-replaceAt}
+use Rattle.semantics.proofs.Moves.{positionOf, localMove, chosen-at, accepted-made}
+use Rattle.rules.specs.Replies.{replyIs}
+use Rattle.stored.specs.declared.Place.{Place}
+use Rattle.stored.specs.declared.Place.the-variants.{At, Nowhere}
+use Rattle.stored.specs.Layout.{idleSize, transactionHead}
+use Rattle.stored.specs.Nodes.{nodeStart}
+use Rattle.storedlaws.specs.Positions.{Context, node, beyond, nodeOf, around}
+use Rattle.storedlaws.proofs.Nodes.{inner-node, inner-past}
+use Rattle.index.specs.Holds.{Holds}
+use Rattle.index.proofs.Holding.{NodeAt, component-at, component-here, transaction-here, snapshot-sixteen, node-found, node-nowhere}
+use Rattle.logs.specs.Places.{CountsAt}
+use Rattle.logs.proofs.Places.{counts-held, snapshot-counts}
+use Rattle.leaves.proofs.Leaves.{node-at, node-inside}
+use Rattle.transactions.specs.declared.InnerMove.the-variants.{Found, Refused}
+use Rattle.transactions.specs.Finding.{innerReply, ruleReply, replied, StandAt, Standing, RuleRead, OpenAt, Findable, Searched}
+use Rattle.transactions.specs.Moving.{MoveAt}
+
+-- ---- the reply
+
+module _ {ts : List Term} {h : Configuration} {s starts : List ℕ} {n : ℕ} (x : Holds ts h s starts n) (p m : ℕ)
+    (M : Expression)
+    (σ : State) (t : Tree) (e : getElem? (h .components) p ≡ some (transaction m M σ t)) where
+  -- what the tree is answered is what the entry is: a move inside leaves as many components
+  pub reply-inside : (k : ℕ) → replyOf (answerTo h (inside p k)) ≡ innerReply (inner σ t k)
+  unfolding positionOf localMove actsInside innerLocal applyAt replyOf innerReply
+  reply-inside k = go (inner σ t k) refl
+    where
+      go : (I : Inner) → inner σ t k ≡ I → replyOf (answerTo h (inside p k)) ≡ innerReply I
+      go (evolves r u) q =
+          let l =
+          length-replaceAt (h .components) (transaction m M σ u ∷ []) p
+          (found-below (h .components) p (transaction m M σ t) e) in
+          let f = x .form .few in
+          rw
+          (accepted-made h (inside p k) r (h .counts) (transaction m M σ t) (transaction m M σ u ∷ []) e (rw q)
+          (omega arith))
+      go noRule q = rw (chosen-at h (inside p k) (transaction m M σ t) e, q)
+      go (outOfRange j) q = rw (chosen-at h (inside p k) (transaction m M σ t) e, q)
+
+  -- at a node
+  pub reply-node : (k : ℕ) (y : Context) (u : Tree) → nodeOf t k ≡ node y u →
+      replyOf (answerTo h (inside p k)) ≡ innerReply (inner σ u 0)
+  unfolding around innerReply
+  reply-node k y u f = reply-inside k ∙ ap innerReply (inner-node σ t k y u f) ∙ go (inner σ u 0)
+    where
+      go : (I : Inner) → innerReply (around y I) ≡ innerReply I
+      go (evolves r v) = refl
+      go noRule = refl
+      go (outOfRange j) = refl
+
+  -- past the last one
+  pub reply-past : (k j : ℕ) → nodeOf t k ≡ beyond j → replyOf (answerTo h (inside p k)) ≡ innerReply (outOfRange j)
+  reply-past k j f = reply-inside k ∙ ap innerReply (inner-past σ t k j f)
+
+-- ---- an open transaction
+
+module _ {ts : List Term} {h : Configuration} {d s starts : List ℕ} {n p at : ℕ}
+    (x : OpenAt ts h d s starts n p at) where
+  pub open-here : (m : ℕ) × (M : Expression) × (σ : State) × (t : Tree) ×
+      (getElem? (h .components) p ≡ some (transaction m M σ t))
+  open-here =
+      let (c, e) = component-at (x .holds) p (x .there) in
+      let (M, σ, t, q) = transaction-here (x .holds) p c e (rw (x .begins) at (x .kind)) in (_, M, σ, t, e ∙ ap some q)
+
+  module _ (m : ℕ) (M : Expression) (σ : State) (t : Tree)
+      (e : getElem? (h .components) p ≡ some (transaction m M σ t)) where
+    -- its snapshot
+    snapshot-at : CountsAt s (at + idleSize) σ
+    snapshot-at =
+        rw (x .begins)
+        (snapshot-counts s (getD starts p 0) m M σ t _ (component-here (x .holds) p (transaction m M σ t) e)
+        (snapshot-sixteen (x .holds) p m M σ t e))
+
+    -- a node that code has found
+    found-node : (k place : ℕ) → nodeStart s (at + transactionHead) k ≡ At place →
+        (y : Context) × (u : Tree) × NodeAt s starts p t k place y u × StandAt ts u σ d s (at + idleSize) place
+    found-node k place f =
+        let (y, u, w) = node-found (x .holds) p m M σ t e k place (rw (x .begins) at f) in
+        (y, u, w, record { tree = node-at (x .decoded) (x .holds) p m M σ t e w; counts = snapshot-at })
+
+    missing-node : (k : ℕ) → nodeStart s (at + transactionHead) k ≡ Nowhere → (j : ℕ) × (nodeOf t k ≡ beyond j)
+    missing-node k f = node-nowhere (x .holds) p m M σ t e k (rw (x .begins) at f)
+
+-- ---- what the code asks
+
+module _ (d s : List ℕ) (transaction : ℕ) (x : Findable d s transaction) where
+  pub findable-inside : transaction + transactionHead ≤ length s
+  findable-inside =
+      let (m, M, σ, t, e) = open-here (x .there) in
+      let l = counts-held s _ σ (snapshot-at (x .there) m M σ t e) in omega arith
+
+  pub node-standing : (k at : ℕ) (r : Place) → r ≡ nodeStart s (transaction + transactionHead) k → r ≡ At at →
+      Standing d s (transaction + idleSize) at
+  node-standing k at r f g =
+      let (m, M, σ, t, e) = open-here (x .there) in
+      let (y, u, w, z) = found-node (x .there) m M σ t e k at (sym f ∙ g) in
+      record {
+        terms = x .terms;
+        tree = u;
+        counts = σ;
+        there = z;
+        inside = node-inside d s at (record { terms = x .terms; tree = u; there = z .tree });
+      }
+
+-- ---- what it answers
+
+module _ (d s : List ℕ) (transaction k : ℕ) (r : Place)
+    (found : r ≡ nodeStart s (transaction + transactionHead) k) where
+  pub search-missing : r ≡ Nowhere → Searched d s transaction k (Refused 16)
+  unfolding replyIs replied innerReply
+  search-missing g = record {
+    found = λ ts h starts n p x.
+        let (m, M, σ, t, e) = open-here x in
+        let (j, f) = missing-node x m M σ t e k (sym found ∙ g) in sym (reply-past (x .holds) p m M σ t e k j f);
+    place = λ rule at f. let z : _≡_ {A = ℕ} 0 1 = cc in absurd (omega arith);
+  }
+
+  -- the rule that was read
+  by-rule : (at rule : ℕ) → r ≡ At at → RuleRead d s (transaction + idleSize) at rule →
+      (ts : List Term) (h : Configuration) (starts : List ℕ)
+      (n p : ℕ) → OpenAt ts h d s starts n p transaction → ruleReply rule ≡ replyOf (answerTo h (inside p k))
+  by-rule at rule g read ts h starts n p x =
+      let (m, M, σ, t, e) = open-here x in
+      let (y, u, w, z) = found-node x m M σ t e k at (sym found ∙ g) in
+      read .found ts u σ z ∙ sym (reply-node (x .holds) p m M σ t e k y u (w .there))
+
+  pub search-none : (at rule : ℕ) → r ≡ At at → RuleRead d s (transaction + idleSize) at rule → rule ≡ 0 →
+      Searched d s transaction k (Refused 17)
+  unfolding replyIs replied ruleReply
+  search-none at rule g read z = record {
+    found = λ ts h starts n p x. rw z at (by-rule at rule g read ts h starts n p x);
+    place = λ rule at f. let z : _≡_ {A = ℕ} 0 1 = cc in absurd (omega arith);
+  }
+
+  pub search-found : (at rule : ℕ) → r ≡ At at → RuleRead d s (transaction + idleSize) at rule → (rule ≡ 0 → ⊥) →
+      Searched d s transaction k (Found rule at)
+  unfolding replyIs replied ruleReply
+  search-found at zero g read real = absurd (real refl)
+  search-found at (suc rule) g read real = record {
+    found = λ ts h starts n p x. by-rule at (suc rule) g read ts h starts n p x;
+    place = λ rule′ at′ f. sym found ∙ g ∙ ap At (cc);
+  }
+
+-- ---- what was found can be made
+
+pub found-moves : {ts : List Term} {h : Configuration} {d s starts : List ℕ} {n p transaction : ℕ} (k rule at : ℕ) →
+    OpenAt ts h d s starts n p transaction → Searched d s transaction k (Found rule at) →
+    MoveAt ts h d s starts n p k rule at
+unfolding replyIs replied
+found-moves {ts} {h} {starts = starts} {n = n} {p = p} k rule at x found = record {
+  decoded = x .decoded;
+  holds = x .holds;
+  place = rw (x .begins) at (found .place rule at refl);
+  reply = sym (found .found ts h starts n p x);
+}

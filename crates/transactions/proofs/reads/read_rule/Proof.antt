@@ -1,0 +1,42 @@
+-- `read_rule` meets its contract. Assumes nothing.
+use Rattle.transactions.proofs.Finding.{read-allowed, read-failed}
+use borrow.Author.Needs.{needs}
+use Rattle.transactions.proofs.reads.read_rule.Statement.{statement}
+use Rattle.transactions.proofs.reads.read_rule.Tie as tie
+
+add-wide : tie.Need-add-wide
+add-wide c = search needs
+
+shared-slice-read-wide : tie.Need-shared-slice-read-wide
+shared-slice-read-wide c = search needs
+
+wide-requires : tie.Need-wide-requires
+wide-requires c κs = search needs
+
+add-needs-with : tie.Need-add-needs-with
+add-needs-with c = search needs
+
+needs-with-requires : tie.Need-needs-with-requires
+needs-with-requires c κs = search needs
+
+within-requires : tie.Need-within-requires
+within-requires c κs = search needs
+
+returns : tie.Need-returns
+returns c = search read-allowed
+
+returns-2 : tie.Need-returns-2
+returns-2 c = search read-failed
+
+pub read-rule-spec : {M : Type 1} → statement M
+read-rule-spec =
+    tie.close
+    (tie.spec
+    add-wide
+    shared-slice-read-wide
+    wide-requires
+    add-needs-with
+    needs-with-requires
+    within-requires
+    returns
+    returns-2)

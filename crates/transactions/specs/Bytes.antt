@@ -1,0 +1,68 @@
+-- What the rules make of a leaf's bytes: d is a decoded table, s has the bytes, the leaf begins at an offset.
+-- Assumes nothing.
+use Prim.Native.Nat.{ℕ, _+_, _≤_, _<_}
+use mathlib.Core.List.{List, _∷_, _++_}
+use lib.ListN.{length, getD, take, drop, set}
+pub use Rattle.terms.specs.Decoded.{maxTerms}
+use Rattle.terms.specs.Decoded.{firstAt, secondAt}
+use Rattle.stored.specs.Layout.{channels, forkKind, forkSize, leafSize, leafTerm, leafLogLength, leafLog, logSize, writeOffset}
+
+-- a leaf's term, and how many actions its log has
+abbrev pub termAt : List ℕ → ℕ → ℕ
+termAt s at = getD s (at + leafTerm) 0
+
+abbrev pub sizeAt : List ℕ → ℕ → ℕ
+sizeAt s at = getD s (at + leafLogLength) 0
+
+-- ---- ARDOK and AWR
+
+-- another term, and one more action behind the log
+unfoldable pub logged : List ℕ → (at next action : ℕ) → List ℕ
+logged s at next action =
+    set (set (set s (at + leafTerm) next) (at + leafLogLength) (sizeAt s at + 1)) (at + (leafLog + sizeAt s at)) action
+
+-- what follows the action, and the action: the term's second field and its first
+unfoldable pub readLogged : (d s : List ℕ) → ℕ → List ℕ
+unfolding logged
+readLogged d s at = logged s at (secondAt d (termAt s at)) (firstAt d (termAt s at))
+
+unfoldable pub writeLogged : (d s : List ℕ) → ℕ → List ℕ
+unfolding logged
+writeLogged d s at = logged s at (secondAt d (termAt s at)) (writeOffset + firstAt d (termAt s at))
+
+-- the log has room
+pub record Loggable (s : List ℕ) (at : ℕ) : Type 0 where
+  pub inside : at + leafSize ≤ length s
+  pub room : sizeAt s at < logSize
+
+-- and the term's record has a channel
+pub record Actionable (d s : List ℕ) (at : ℕ) : Type 0 where
+  pub loggable : Loggable s at
+  pub term : termAt s at < maxTerms
+  pub channel : firstAt d (termAt s at) < channels
+
+-- ---- AOI
+
+-- a leaf's bytes with another term
+abbrev pub renamed : ℕ → List ℕ → List ℕ
+renamed b bytes = set bytes leafTerm b
+
+-- a fork of two leaves that differ from the one there in their terms, which are the fields of its own
+unfoldable pub splitBytes : (d s : List ℕ) → ℕ → List ℕ
+splitBytes d s at =
+    let bytes = take leafSize (drop at s) in
+    forkKind ∷ (renamed (firstAt d (termAt s at)) bytes ++ renamed (secondAt d (termAt s at)) bytes)
+
+pub record Splittable (s : List ℕ) (at : ℕ) : Type 0 where
+  pub inside : at + leafSize ≤ length s
+  pub term : termAt s at < maxTerms
+
+-- ---- AOF and AOE
+
+-- a fork and the leaf that is its left side
+abbrev pub leftSize : ℕ
+leftSize = forkSize + leafSize
+
+-- the left side of the fork at an offset, a leaf
+abbrev pub leftBytes : List ℕ → ℕ → List ℕ
+leftBytes s at = take leafSize (drop (at + forkSize) s)

@@ -1,0 +1,35 @@
+-- A move inside a transaction that is made: what the code asks and answers.
+--
+-- d is a decoded table; s has the bytes, starts the index, n the number of components (stations).
+-- Assumes nothing.
+use Prim.Native.Nat.{ℕ, _+_}
+use mathlib.Core.Path.{_≡_}
+use mathlib.Core.List.{List}
+use lib.ListN.{getD}
+use Rattle.semantics.specs.Definitions.Terms.{Term}
+use Rattle.semantics.specs.Definitions.Configuration.{Configuration}
+use Rattle.semantics.specs.Definitions.Moves.{inside, answerTo, movedBy, replyOf}
+use Rattle.terms.specs.Decoded.{Decoded}
+use Rattle.stored.specs.declared.Place.the-variants.{At}
+use Rattle.stored.specs.Layout.{transactionHead}
+use Rattle.stored.specs.Nodes.{nodeStart}
+use Rattle.index.specs.Holds.{Holds}
+use Rattle.index.specs.Choices.{afterwards}
+
+-- node number k of the transaction at position p begins at this offset, and moves by the rule of this number
+pub record MoveAt (ts : List Term) (h : Configuration) (d s starts : List ℕ) (n p k rule at : ℕ) : Type 0 where
+  pub decoded : Decoded ts d
+  pub holds : Holds ts h s starts n
+  pub place : nodeStart s (getD starts p 0 + transactionHead) k ≡ At at
+  pub reply : replyOf (answerTo h (inside p k)) ≡ movedBy rule
+
+pub record CanMove (d s starts : List ℕ) (n p rule at : ℕ) : Type 0 where
+  pub terms : List Term
+  pub configuration : Configuration
+  pub node : ℕ
+  pub move : MoveAt terms configuration d s starts n p node rule at
+
+-- whichever configuration was held, what the move makes of it is held now, and there are as many components
+pub record HasMoved (d s starts : List ℕ) (n p rule at : ℕ) (s′ starts′ : List ℕ) : Type 0 where
+  pub found : (ts : List Term) (h : Configuration) (k : ℕ) → MoveAt ts h d s starts n p k rule at →
+      Holds ts (afterwards (answerTo h (inside p k)) h) s′ starts′ n
