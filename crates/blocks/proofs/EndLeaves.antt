@@ -2,7 +2,7 @@
 -- Assumes nothing.
 use Prim.Native.Nat.{ℕ, _+_, _*_, _-_, _≤_, _<_}
 use native.Mathlib.Omega.{arith}
-use mathlib.Core.Path.{_≡_, sym, ap, _∙_}
+use mathlib.Core.Path.{_≡_, refl, sym, ap, _∙_}
 use mathlib.Core.Bool.{Bool, true, false}
 use mathlib.Core.Option.{some}
 use mathlib.Core.List.{List, [], _∷_}
@@ -90,10 +90,10 @@ module _ (s : List ℕ) (leaf n : ℕ) (x : CanLookCommit s leaf n) where
 
 -- ---- the reply to a commit
 
-module _ (s : List ℕ) (leaf n size : ℕ) (need : List ℕ) (r : Bool) (e : size ≡ getD s (leaf + leafLogLength) 0)
-    (f : need ≡ needsOf (take size (drop (leaf + leafLog) s))) (g : r ≡ withinAt need s 0) where
+module _ (s : List ℕ) (leaf n size : ℕ) (r : Bool) (e : size ≡ getD s (leaf + leafLogLength) 0)
+    (g : r ≡ withinAt (needsOf (take size (drop (leaf + leafLog) s))) s 0) where
   test-here : {σ : State} {δ : Log} → LogHere s leaf σ δ → r ≡ readable σ δ
-  test-here {σ} {δ} y = stored-readable s (leaf + leafLog) size δ (y .log) (e ∙ y .size) 0 σ need r (y .counts) f g
+  test-here {σ} {δ} y = stored-readable s (leaf + leafLog) size δ (y .log) (e ∙ y .size) 0 σ _ r (y .counts) refl g
 
   -- ATFAIL
   pub commit-fails : r ≡ false → CommitLooked s leaf n (Moved 6)

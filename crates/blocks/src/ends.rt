@@ -28,8 +28,7 @@ fn look_commit(hall: &[u8], leaf: usize, components: usize) -> Reply
     ensures { λ r. ⌜ CommitLooked (now (hall .entry)) leaf components r ⌝ }
 {
     let size = wide(hall[leaf + LEAF_LOG_LENGTH]);
-    let need = logs::needs_of(hall, leaf + LEAF_LOG, size);
-    if logs::within(need, hall, 0) {
+    if logs::readable(hall, leaf + LEAF_LOG, size, 0) {
         let outputs = logs::outputs_of(hall, leaf + LEAF_LOG, size);
         let others = components - 1;
         if MAX_COMPONENTS < others + outputs.count {

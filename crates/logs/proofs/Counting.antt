@@ -1,55 +1,23 @@
--- Laws of needs held against counts and of counts lowered by needs: for each turn of the code, and channel by channel.
+-- Laws of needs held against counts, channel by channel, and of counts lowered by needs, for each turn of the code.
 -- Assumes nothing.
 use Prim.Native.Nat.{ℕ, zero, suc, _+_, _-_, _≤_, _<_}
 use native.Mathlib.Omega.{arith}
 use native.Mathlib.Numerals.{add-one}
 use native.Mathlib.Decide.{decLt}
 use mathlib.Core.Path.{_≡_, refl, sym, ap, _∙_}
-use mathlib.Core.Bool.{Bool, true, false, _&&_}
+use mathlib.Core.Bool.{true}
 use mathlib.Core.List.{List, [], _∷_, _++_}
 use lib.Dec.{leb}
 use lib.ListN.{length, getD, take, set}
 use lib.Seq.{take-all, take-nil, set-getD}
-use borrow.Author.Tests.{leb-true, le-leb, lt-leb}
+use borrow.Author.Tests.{leb-true, le-leb}
 use Rattle.semantics.specs.Definitions.Layout.{channels}
 use Rattle.semantics.proofs.Reading.{and-true}
 use Rattle.logs.specs.Needs.{withinFirst, withinAt, lowered}
 
--- ---- the test, turn by turn
-
-and-both : (a : Bool) → (a && true) ≡ a
-and-both true = refl
-and-both false = refl
-
-and-neither : (a : Bool) → (a && false) ≡ false
-and-neither true = refl
-and-neither false = refl
+-- ---- the test, channel by channel
 
 module _ (need s : List ℕ) (at : ℕ) where
-  pub within-start : withinFirst need s at 0 ≡ true
-  unfolding withinFirst
-  within-start = refl
-
-  within-next : (i : ℕ) →
-      withinFirst need s at (i + 1) ≡ (withinFirst need s at i && leb (getD need i 0) (getD s (at + i) 0))
-  unfolding withinFirst
-  within-next i = rw (add-one i)
-
-  module _ (i : ℕ) (enough : Bool) (sofar : withinFirst need s at i ≡ enough) (n c : ℕ) (needed : n ≡ getD need i 0)
-      (counted : c ≡ getD s (at + i) 0) where
-    pub within-short : c < n → withinFirst need s at (i + 1) ≡ false
-    within-short h = rw (within-next i, ← needed, ← counted, lt-leb n c h) (and-neither (withinFirst need s at i))
-
-    pub within-enough : n ≤ c → withinFirst need s at (i + 1) ≡ enough
-    within-enough h = rw (within-next i, ← needed, ← counted, le-leb n c h, and-both (withinFirst need s at i)) sofar
-
-  pub within-end : (i : ℕ) (enough : Bool) → withinFirst need s at i ≡ enough → i ≤ channels → channels ≤ i →
-      enough ≡ withinAt need s at
-  unfolding withinAt
-  within-end i enough e h k = let z : i ≡ channels = omega arith in sym (rw z at e)
-
-  -- ---- the test, channel by channel
-
   first-covered : (n a : ℕ) → withinFirst need s at n ≡ true → a < n → getD need a 0 ≤ getD s (at + a) 0
   unfolding withinFirst
   first-covered zero a e h = absurd (omega arith)

@@ -2,6 +2,7 @@
 pub mod Padding
 pub mod Needing
 pub mod Counting
+pub mod Leaving
 pub mod Writing
 pub mod Keeping
 pub mod Links

@@ -37,21 +37,8 @@ also-needed : (bs : List ℕ) (a : ℕ) → a < channels → alsoNeeded (needsOf
 unfolding needsOf needing
 also-needed bs a h = rw (needs-snoc (replicate channels 0) bs a, lt-ltb a channels h)
 
--- a channel's number as an index
-module _ (need : List ℕ) (a k : ℕ) (index : k ≡ a) where
-  pub also-room : getD need a 0 < 255 → getD need k 0 < 255
-  also-room h = rw index h
-
-  pub also-is : (x : ℕ) → x ≡ getD need k 0 + 1 → set need k x ≡ alsoNeeded need a
-  unfolding alsoNeeded
-  also-is x e = rw (e, index)
-
-pub needs-also : (bs need more : List ℕ) (a : ℕ) → need ≡ needsOf bs → more ≡ alsoNeeded need a → a < channels →
-    more ≡ needsOf (bs ++ (a ∷ []))
-needs-also bs need more a e f h = f ∙ rw e (also-needed bs a h)
-
 -- a write
-none-needed : (bs : List ℕ) (b : ℕ) → channels ≤ b → needsOf bs ≡ needsOf (bs ++ (b ∷ []))
+pub none-needed : (bs : List ℕ) (b : ℕ) → channels ≤ b → needsOf bs ≡ needsOf (bs ++ (b ∷ []))
 unfolding needsOf needing
 none-needed bs b h = rw (needs-snoc (replicate channels 0) bs b, le-ltb b channels h)
 
@@ -108,6 +95,11 @@ pub needs-sixteen : (bs : List ℕ) → length (needsOf bs) ≡ channels
 unfolding needsOf
 needs-sixteen bs = needs-length (replicate channels 0) bs
 
+pub snoc-count : (bs : List ℕ) (b a : ℕ) → a < channels →
+    getD (needsOf (bs ++ (b ∷ []))) a 0 ≡ getD (needsOf bs) a 0 + same a b
+unfolding needsOf
+snoc-count bs b a h = rw (needs-snoc (replicate channels 0) bs b) (needing-count (needsOf bs) b a (needs-sixteen bs) h)
+
 same-one : (a b : ℕ) → same a b ≤ 1
 unfolding same
 same-one a b = go (eqb a b)
@@ -130,15 +122,11 @@ pub needs-start : replicate channels 0 ≡ needsOf []
 unfolding needsOf needsFrom
 needs-start = refl
 
-pub needs-room : (bs : List ℕ) (size : ℕ) (need : List ℕ) (a : ℕ) → need ≡ needsOf (take size bs) → size ≤ 16 →
-    a < channels → getD need a 0 < 255
-needs-room bs size need a e k l =
-    let p = needs-few (take size bs) a l in
-    let q = length-take size bs in rw e (omega arith)
-
 pub needs-fit : (bs : List ℕ) (size i : ℕ) (need : List ℕ) (a : ℕ) → need ≡ needsOf (take i bs) → i < size →
     size ≤ 16 → a < channels → getD need a 0 < 255
-needs-fit bs size i need a e h k l = needs-room bs i need a e (omega arith) l
+needs-fit bs size i need a e h k l =
+    let p = needs-few (take i bs) a l in
+    let q = length-take i bs in rw e (omega arith)
 
 module _ (s : List ℕ) (at size i : ℕ) (need : List ℕ) (b : ℕ) (sofar : need ≡ needsOf (take i (drop at s)))
     (byte : b ≡ getD s (at + i) 0) (further : i < size)

@@ -28,6 +28,10 @@ unfoldable pub needsOf : List ℕ → List ℕ
 unfolding needsFrom
 needsOf bs = needsFrom (replicate channels 0) bs
 
+-- how many tokens one action takes
+unfoldable pub takenBy : ℕ → ℕ
+takenBy b = cond (ltb b writeOffset) 1 0
+
 -- ---- needs and counts
 
 -- the first so many channels are needed no more often than the counts say that stand from an offset on

@@ -1,7 +1,7 @@
 // Logs (document 01, "The stored hall" and "Choices and moves"): as values, and what a stored log needs and writes.
 //
-// What the reads of a log come to is an array of needs, one for each channel (tray). It is held against counts by one
-// test, `within`, whatever the counts are: the hall's own or a snapshot. A stored log is read where it stands, at an
+// What the reads of a log come to is an array of needs, one for each channel (tray). They are held against counts by one
+// test, `left_of`, whatever the counts are: the hall's own or a snapshot. A stored log is read where it stands, at an
 // offset of a hall's bytes.
 use buffer::wide;
 use stored::CHANNELS;
@@ -12,12 +12,12 @@ ghost use mathlib.Core.Path.{_≡_};
 ghost use mathlib.Core.Bool.{true};
 ghost use mathlib.Core.List.{[], _∷_, _++_};
 ghost use Prim.Native.Nat.{_+_, _≤_, _<_};
-ghost use lib.ListN.{length, getD, take, drop};
+ghost use lib.ListN.{length, take, drop};
 ghost use Rattle.semantics.specs.Definitions.Layout.{maxByte, channels, maxActions};
 ghost use Rattle.semantics.specs.Definitions.Logs.{emptyLog};
-ghost use Rattle.logs.specs.Needs.{alsoNeeded, needsOf, withinAt, lowered};
+ghost use Rattle.logs.specs.Needs.{needsOf, takenBy, withinAt, lowered};
 ghost use Rattle.logs.specs.Writes.{writesOf};
-ghost use Rattle.logs.specs.Values.{LogIs, LogWith, OutputsAre};
+ghost use Rattle.logs.specs.Values.{LogIs, LogWith, OutputsAre, LeftOf};
 
 // A write's byte is its channel and this; a read's is its channel.
 pub const WRITES: u8 = stored::WRITE_OFFSET;
@@ -32,6 +32,12 @@ pub struct Log {
 pub struct Outputs {
     pub bytes: [u8; 32],
     pub count: usize,
+}
+
+// What is left of counts when reads are taken from them, and whether they sufficed.
+pub struct Left {
+    pub enough: bool,
+    pub counts: [u8; 16],
 }
 
 impl Log {
@@ -50,15 +56,9 @@ impl Log {
         requires { ⌜ at + maxActions ≤ length (now s) ⌝ }
         ensures { λ r. ⌜ (r .length ≡ size) × (r .actions ≡ take maxActions (drop at (now (s .entry)))) ⌝ }
     {
-        let mut actions = [0u8; 16];
-        let mut i: usize = 0;
-        while i < LOG_SIZE {
-            actions[i] = s[at + i];
-            i += 1;
-        }
         Log {
             length: size,
-            actions,
+            actions: sixteen_at(s, at),
         }
     }
 
@@ -76,6 +76,20 @@ impl Log {
             actions,
         }
     }
+}
+
+// The 16 bytes that begin at an offset: the actions of a log, or counts.
+fn sixteen_at(s: &[u8], at: usize) -> [u8; 16]
+    requires { ⌜ at + maxActions ≤ length (now s) ⌝ }
+    ensures { λ r. ⌜ r ≡ take maxActions (drop at (now (s .entry))) ⌝ }
+{
+    let mut bytes = [0u8; 16];
+    let mut i: usize = 0;
+    while i < LOG_SIZE {
+        bytes[i] = s[at + i];
+        i += 1;
+    }
+    bytes
 }
 
 // A channel is needed once more.
@@ -103,42 +117,64 @@ pub fn needs_of(s: &[u8], at: usize, size: usize) -> [u8; 16]
     need
 }
 
-// The needs with one more read, of a channel.
-pub fn need_also(need: [u8; 16], channel: u8) -> [u8; 16]
-    requires { ⌜ (channel < channels) × (getD need channel 0 < maxByte) ⌝ }
-    ensures { λ r. ⌜ r ≡ alsoNeeded need channel ⌝ }
+// How many tokens an action takes: a read takes one, a write none.
+fn taken_by(action: u8) -> u8
+    ensures { λ r. ⌜ r ≡ takenBy action ⌝ }
 {
-    let mut more = need;
-    let at = wide(channel);
-    more[at] = one_more(more[at]);
-    more
+    if action < WRITES { 1 } else { 0 }
 }
 
-// What a stored log needs with a read of a channel at its end.
-pub fn needs_with(s: &[u8], at: usize, size: usize, channel: u8) -> [u8; 16]
-    requires { ⌜ (size ≤ maxActions) × (at + size ≤ length (now s)) × (channel < channels) ⌝ }
-    ensures { λ r. ⌜ r ≡ needsOf (take size (drop at (now (s .entry))) ++ (channel ∷ [])) ⌝ }
+// The one test of reads against counts: the reads of the stored log of so many actions at an offset, taken one by one
+// from a copy of the counts that stand at another, up to the first that finds none. Reads and writes go the same way, so
+// that no branch has to be foreseen.
+fn left_of(s: &[u8], at: usize, size: usize, counts: usize) -> Left
+    requires { ⌜ (size ≤ maxActions) × (at + size ≤ length (now s)) × (counts + channels ≤ length (now s)) ⌝ }
+    ensures { λ r. ⌜ LeftOf r (now (s .entry)) counts (take size (drop at (now (s .entry)))) ⌝ }
 {
-    need_also(needs_of(s, at, size), channel)
-}
-
-// The one test of reads against counts: each need is at most the count of its channel, of the counts that stand at an
-// offset. There is no way out of the loop, so that all are compared at once.
-pub fn within(need: [u8; 16], s: &[u8], at: usize) -> bool
-    requires { ⌜ at + channels ≤ length (now s) ⌝ }
-    ensures { λ r. ⌜ r ≡ withinAt need (now (s .entry)) at ⌝ }
-{
-    let mut enough = true;
+    let mut left = sixteen_at(s, counts);
     let mut i: usize = 0;
-    while i < CHANNELS {
-        let needed = need[i];
-        let count = s[at + i];
+    while i < size {
+        let byte = s[at + i];
         i += 1;
-        if count < needed {
-            enough = false;
+        let taken = taken_by(byte);
+        let channel = wide(byte) % CHANNELS;
+        let count = left[channel];
+        if count < taken {
+            return Left {
+                enough: false,
+                counts: left,
+            };
         }
+        left[channel] = count - taken;
     }
-    enough
+    Left {
+        enough: true,
+        counts: left,
+    }
+}
+
+// Whether the counts that stand at an offset suffice for the reads of a stored log.
+pub fn readable(s: &[u8], at: usize, size: usize, counts: usize) -> bool
+    requires { ⌜ (size ≤ maxActions) × (at + size ≤ length (now s)) × (counts + channels ≤ length (now s)) ⌝ }
+    ensures { λ r. ⌜ r ≡ withinAt (needsOf (take size (drop at (now (s .entry))))) (now (s .entry)) counts ⌝ }
+{
+    let left = left_of(s, at, size, counts);
+    left.enough
+}
+
+// The same with a read of a channel at the log's end.
+pub fn readable_with(s: &[u8], at: usize, size: usize, channel: u8, counts: usize) -> bool
+    requires { ⌜ (size ≤ maxActions) × (at + size ≤ length (now s)) × (channel < channels)
+        × (counts + channels ≤ length (now s)) ⌝ }
+    ensures { λ r. ⌜ r ≡ withinAt (needsOf (take size (drop at (now (s .entry))) ++ (channel ∷ [])))
+        (now (s .entry)) counts ⌝ }
+{
+    let left = left_of(s, at, size, counts);
+    if left.enough {
+        let counts_left = left.counts;
+        return 0 < counts_left[wide(channel)];
+    }
+    false
 }
 
 // The counts of a hall, lowered by needs that they cover.

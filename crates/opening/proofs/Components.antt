@@ -2,7 +2,7 @@
 -- Assumes nothing.
 use Prim.Native.Nat.{ℕ, _+_, _*_, _≤_, _<_}
 use native.Mathlib.Omega.{arith}
-use mathlib.Core.Path.{_≡_, refl, ap, _∙_}
+use mathlib.Core.Path.{_≡_, refl, sym, ap, _∙_}
 use mathlib.Core.Option.{some}
 use mathlib.Core.List.{List, [], _∷_, _++_, map, map-append}
 use lib.ListN.{length, getElem?, length-append}
@@ -128,6 +128,15 @@ module _ (d : List ℕ) (i k : ℕ) (kind : k ≡ kindAt d i) where
       left-falls t q = let v = sides-of h .below-left in omega arith
 
       module _ (s′ : List ℕ) (middle : ℕ) (w : ComponentsWritten d l s at s′ middle) (g : ℕ) (u : g ≡ secondAt d i) (r : ℕ) (q : r ≡ g) where
+        left-length : length s′ ≡ length s
+        left-length =
+            let v = sides-of h in
+            let z = v .sum in
+            let f = x .fits in
+            let g = opened-fits (v .left) in
+            let m = w .found (x .terms) (v .left) (x .decoded) (rw (p, o) (v .at-left)) in
+            let b = openedBytes (v .left) in ap length (m .1) ∙ written-length s at b (length b) (omega arith) (omega arith)
+
         -- behind what was written of the left side the right side fits
         pub right-fits : ComponentsFit d r s′ middle
         right-fits =
@@ -136,8 +145,7 @@ module _ (d : List ℕ) (i k : ℕ) (kind : k ≡ kindAt d i) where
             let f = x .fits in
             let g = opened-fits (v .left) in
             let m = w .found (x .terms) (v .left) (x .decoded) (rw (p, o) (v .at-left)) in
-            let b = openedBytes (v .left) in
-            let n : length s′ ≡ length s = ap length (m .1) ∙ written-length s at b (length b) (omega arith) (omega arith) in
+            let n = left-length in
             record { terms = x .terms; tree = v .right; decoded = x .decoded; at = rw (q, u) (v .at-right); fits = omega arith }
 
         pub both-written : (s″ : List ℕ) (end : ℕ) → ComponentsWritten d r s′ middle s″ end → ComponentsWritten d i s at s″ end
@@ -182,6 +190,16 @@ module _ (d : List ℕ) (i k : ℕ) (kind : k ≡ kindAt d i) where
       pub waiting-written : (k ≡ 5 → ⊥) → (k ≡ 1 → ⊥) → (k ≡ 2 → ⊥) → s′ ≡ written s at (waitingKind ∷ i ∷ []) idleSize → ComponentsWritten d i s at s′ end
       waiting-written h f g q = record { found = λ ts P x e. rw (waiting-at ts P x e h f g) (p, q) }
 
+  -- ---- a component of a process that is not two side by side
+
+  module _ (single : kindAt d i ≡ 5 → ⊥) where
+    pub single-fits : (s : List ℕ) (at : ℕ) → ComponentsFit d i s at → (k ≡ 1 → ⊥) → (k ≡ 2 → ⊥) → at + idleSize ≤ length s
+    single-fits s at x f g = waiting-fits s at x (λ e. single (sym kind ∙ e)) f g
+
+    pub single-written : (s : List ℕ) (at : ℕ) (s′ : List ℕ) (end : ℕ) → end ≡ at + idleSize → (k ≡ 1 → ⊥) → (k ≡ 2 → ⊥) →
+        s′ ≡ written s at (waitingKind ∷ i ∷ []) idleSize → ComponentsWritten d i s at s′ end
+    single-written s at s′ end p f g q = waiting-written s at s′ end p (λ e. single (sym kind ∙ e)) f g q
+
 -- a process's number is below 200, and a byte
 module _ (d : List ℕ) (i : ℕ) (s : List ℕ) (at : ℕ) (x : ComponentsFit d i s at) where
   pub inside : i < maxTerms
@@ -189,3 +207,51 @@ module _ (d : List ℕ) (i : ℕ) (s : List ℕ) (at : ℕ) (x : ComponentsFit d
 
   pub number-fits : Fits w8 i
   number-fits = let h = inside in record { fits = omega arith }
+
+-- ---- the loop over right sides
+
+pub is-single : (d : List ℕ) (i k : ℕ) → k ≡ kindAt d i → (k ≡ 5 → ⊥) → kindAt d i ≡ 5 → ⊥
+is-single d i k kind h e = h (kind ∙ e)
+
+-- the components that are written from here on are the rest of those of process number i, from `at` on in s₀
+pub record Walked (d : List ℕ) (i : ℕ) (s₀ : List ℕ) (at : ℕ) (rest : ℕ) (s : List ℕ) (end : ℕ) : Type 0 where
+  pub fits : ComponentsFit d rest s end
+  pub last : rest ≤ i
+  pub sized : length s ≡ length s₀
+  pub whole : (s′ : List ℕ) (e : ℕ) → ComponentsWritten d rest s end s′ e → ComponentsWritten d i s₀ at s′ e
+
+pub none-walked : (d : List ℕ) (i : ℕ) (s : List ℕ) (at : ℕ) → ComponentsFit d i s at → Walked d i s at i s at
+none-walked d i s at x = record { fits = x; last = omega arith; sized = refl; whole = λ s′ e w. w }
+
+module _ (d : List ℕ) (i : ℕ) (s₀ : List ℕ) (at : ℕ) (rest : ℕ) (s : List ℕ) (end : ℕ) (x : Walked d i s₀ at rest s end) where
+  pub rest-inside : rest < maxTerms
+  rest-inside = inside d rest s end (x .fits)
+
+  pub rest-fits : ComponentsFit d rest s end
+  rest-fits = x .fits
+
+  pub rest-written : (s′ : List ℕ) (e : ℕ) → ComponentsWritten d rest s end s′ e → ComponentsWritten d i s₀ at s′ e
+  rest-written = x .whole
+
+  module _ (k : ℕ) (kind : k ≡ kindAt d rest) where
+    module _ (h : k ≡ 5) (f : ℕ) (o : f ≡ firstAt d rest) (l : ℕ) (p : l ≡ f) where
+      pub rest-left-fits : ComponentsFit d l s end
+      rest-left-fits = left-fits d rest k kind s end (x .fits) h f o l p
+
+      pub rest-left-inside : l < maxTerms
+      rest-left-inside = inside d l s end rest-left-fits
+
+      pub rest-left-falls : (t : ℕ) → i ≡ t → l < t
+      rest-left-falls t q = let a = left-falls d rest k kind s end (x .fits) h f o l p rest refl in let b = x .last in omega arith
+
+      module _ (g : ℕ) (u : g ≡ secondAt d rest) (r : ℕ) (q : r ≡ g) where
+        pub right-less : r < rest
+        right-less = right-falls d rest k kind s end (x .fits) h g u r q rest refl
+
+        pub right-walked : (s′ : List ℕ) (middle : ℕ) → ComponentsWritten d l s end s′ middle → Walked d i s₀ at r s′ middle
+        right-walked s′ middle w = record {
+          fits = right-fits d rest k kind s end (x .fits) h f o l p s′ middle w g u r q;
+          last = let a = right-less in let b = x .last in omega arith;
+          sized = left-length d rest k kind s end (x .fits) h f o l p s′ middle w g u r q ∙ x .sized;
+          whole = λ s″ e v. x .whole s″ e (both-written d rest k kind s end (x .fits) h f o l p s′ middle w g u r q s″ e v);
+        }

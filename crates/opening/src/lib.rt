@@ -17,7 +17,9 @@ ghost use Prim.Native.Nat.{_+_, _≤_};
 ghost use lib.ListN.{length};
 ghost use Rattle.buffer.specs.Splice.{written};
 ghost use Rattle.stored.specs.Layout.{hallBytes, idleSize};
-ghost use Rattle.terms.specs.Decoded.{AProcess};
+ghost use Rattle.records.specs.Shapes.{kindByte};
+ghost use Rattle.semantics.specs.Definitions.Table.{parK};
+ghost use Rattle.terms.specs.Decoded.{kindAt, AProcess};
 ghost use Rattle.opening.specs.Opening.{ComponentsFit, ComponentsWritten, OpenedCounted, OpeningWritten};
 
 // A component of two bytes, at an offset: the answer is the offset behind it.
@@ -31,23 +33,39 @@ pub fn write_idle(hall: &mut [u8], at: usize, kind: u8, body: u8) -> usize
     at + IDLE_SIZE
 }
 
-// The components of the process at a term number, from an offset on, the left side's first: the answer is the offset
-// behind them. A side's number is smaller, and a process is at most 64 wide, so the calls are few and not deep.
-pub fn write_components(decoded: &[u8; DECODED], term: usize, hall: &mut [u8], at: usize) -> usize
+// The component of a process that is not two side by side, if it opens into one, at an offset: the answer is the offset
+// behind it.
+fn write_single(decoded: &[u8; DECODED], term: usize, hall: &mut [u8], at: usize) -> usize
     requires { ⌜ ComponentsFit (now decoded) term (now hall) at ⌝ }
+    requires { ⌜ (kindAt (now decoded) term ≡ kindByte parK → ⊥) ⌝ }
     ensures { λ r. ⌜ ComponentsWritten (now (decoded .entry)) term (now (hall .entry)) at (now (hall .exit)) r ⌝ }
 {
     match terms::kind_of(decoded, term) {
-        PAR => {
-            let left = wide(terms::first_of(decoded, term));
-            let right = wide(terms::second_of(decoded, term));
-            let middle = write_components(decoded, left, hall, at);
-            write_components(decoded, right, hall, middle)
-        }
         NIL => at,
         PUT => write_idle(hall, at, KIND_OUTPUT, terms::first_of(decoded, term)),
         _ => write_idle(hall, at, KIND_WAITING, term as u8),
     }
+}
+
+// The components of the process at a term number, from an offset on, the left side's first: the answer is the offset
+// behind them. A side's number is smaller, and a process is at most 64 wide, so the calls are few and not deep; only a
+// left side of two sides takes one.
+pub fn write_components(decoded: &[u8; DECODED], term: usize, hall: &mut [u8], at: usize) -> usize
+    requires { ⌜ ComponentsFit (now decoded) term (now hall) at ⌝ }
+    ensures { λ r. ⌜ ComponentsWritten (now (decoded .entry)) term (now (hall .entry)) at (now (hall .exit)) r ⌝ }
+{
+    let mut rest = term;
+    let mut end = at;
+    while terms::kind_of(decoded, rest) == PAR {
+        let left = wide(terms::first_of(decoded, rest));
+        rest = wide(terms::second_of(decoded, rest));
+        if terms::kind_of(decoded, left) == PAR {
+            end = write_components(decoded, left, hall, end);
+        } else {
+            end = write_single(decoded, left, hall, end);
+        }
+    }
+    write_single(decoded, rest, hall, end)
 }
 
 // How many components the process at a term number opens into: written into a buffer, and counted there. A process is at

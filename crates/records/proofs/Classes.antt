@@ -1,16 +1,15 @@
 -- A kind's class: that of whatever its records say, and the one that the code answers.
 -- Assumes nothing.
-use Prim.Native.Nat.{ℕ, _+_, _-_, _≤_, _<_}
+use Prim.Native.Nat.{ℕ, _+_, _≤_, _<_}
 use native.Mathlib.Omega.{arith}
 use native.Mathlib.Nat.{eq-or-lt-of-le}
-use mathlib.Core.Path.{_≡_, refl, sym, ap, _∙_}
+use mathlib.Core.Path.{_≡_, refl}
 use mathlib.Core.Logic.{⊎-elim}
-use mathlib.Core.List.{List, map}
-use lib.ListN.{length, replicate, length-replicate, getD-replicate}
+use mathlib.Core.List.{List}
 use Rattle.semantics.specs.Definitions.Terms.{Term}
 use Rattle.semantics.specs.Definitions.Table.{Kind, nilK, putK, takeK, repeatK, parK, atomK, endK, retryK, rdK, wtK, orElseK, tokensK, startK, programF, expressionF, recordContent}
 use Rattle.records.specs.Shapes.{kindByte, fieldNumber, contentClass, classOf}
-use Rattle.records.proofs.Shapes.{upTo, entry-at, no-kind}
+use Rattle.records.proofs.Shapes.{upTo, same-at, no-kind}
 
 -- ---- what the records of a kind say
 
@@ -33,11 +32,8 @@ class-of-content ts bs startK = refl
 -- ---- the code's answers
 
 -- m kinds from the byte n on have the class c
-class-run : (c n m : ℕ) → map (λ x. x) (replicate m c) ≡ upTo classOf n (length (replicate m c)) →
-    (k : ℕ) → n ≤ k → k < n + m → c ≡ classOf k
-class-run c n m e k h g =
-    let i : n + (k - n) ≡ k = omega arith in
-    sym (getD-replicate m (k - n) c 0 (omega arith)) ∙ entry-at (λ x. x) classOf 0 (replicate m c) n e (k - n) (simp length-replicate (omega arith)) ∙ ap classOf i
+class-run : (c n m : ℕ) → upTo (λ i. c) n m ≡ upTo classOf n m → (k : ℕ) → n ≤ k → k < n + m → c ≡ classOf k
+class-run c n m e k h g = same-at (λ i. c) classOf n m e k h g
 
 module _ (k : ℕ) where
   pub class-process : kindByte nilK ≤ k → k < kindByte endK → fieldNumber programF ≡ classOf k

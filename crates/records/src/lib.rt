@@ -5,7 +5,7 @@ use buffer::wide;
 ghost use mathlib.Core.Path.{_≡_};
 ghost use mathlib.Core.List.{List};
 ghost use Prim.Native.Nat.{_<_};
-ghost use lib.ListN.{length, getElem?};
+ghost use lib.ListN.{length};
 ghost use Rattle.semantics.specs.Definitions.Terms.{Term};
 ghost use Rattle.semantics.specs.Definitions.Table.{channelOutOfRange, forwardReference};
 ghost use Rattle.records.specs.Shapes.{kindsEnd, bodyOf, fieldFrom, failsAt, classOf};
@@ -41,8 +41,6 @@ pub const START: u8 = 13;
 // No byte past it is a kind.
 const LAST_KIND: u8 = START;
 
-const KINDS: usize = LAST_KIND as usize + 1;
-
 // Channels are numbered below it.
 pub const CHANNELS: usize = 16;
 
@@ -60,40 +58,9 @@ pub const COUNT: u8 = 4;
 // The class of a record that is no term.
 pub const NO_CLASS: u8 = 0;
 
-// The shapes of the bodies, by kind (there is no kind 0): what the first and the second byte of each are.
-const FIRST_FIELDS: [u8; KINDS] = [
-    NO_FIELD, // no kind
-    NO_FIELD, // NIL
-    CHANNEL, // PUT
-    CHANNEL, // TAKE
-    CHANNEL, // REPEATED_TAKE
-    PROCESS, // PAR
-    EXPRESSION, // ATOM
-    NO_FIELD, // END
-    NO_FIELD, // RETRY
-    CHANNEL, // RD
-    CHANNEL, // WT
-    EXPRESSION, // OR_ELSE
-    CHANNEL, // TOKENS
-    PROCESS, // START
-];
-
-const SECOND_FIELDS: [u8; KINDS] = [
-    NO_FIELD, // no kind
-    NO_FIELD, // NIL
-    NO_FIELD, // PUT
-    PROCESS, // TAKE
-    PROCESS, // REPEATED_TAKE
-    PROCESS, // PAR
-    NO_FIELD, // ATOM
-    NO_FIELD, // END
-    NO_FIELD, // RETRY
-    EXPRESSION, // RD
-    EXPRESSION, // WT
-    EXPRESSION, // OR_ELSE
-    COUNT, // TOKENS
-    NO_FIELD, // START
-];
+// How long the bodies are, two bits for each kind, from START down to kind 0, which there is not. A number, and not an
+// array: reading it takes no memory.
+const BODY_LENGTHS: usize = 0b01_10_10_10_10_00_00_01_10_10_10_01_00_00;
 
 // A record: its kind, the two bytes behind the kind (0 past the table's end), which are its body where that has as
 // many, and the offset behind it.
@@ -126,32 +93,12 @@ pub fn class_of(kind: u8) -> u8
     }
 }
 
-pub fn first_field(kind: u8) -> u8
-    requires { ⌜ kind < kindsEnd ⌝ }
-    ensures { λ r. ⌜ fieldFrom r ≡ getElem? (bodyOf kind) 0 ⌝ }
-{
-    FIRST_FIELDS[wide(kind)]
-}
-
-pub fn second_field(kind: u8) -> u8
-    requires { ⌜ kind < kindsEnd ⌝ }
-    ensures { λ r. ⌜ fieldFrom r ≡ getElem? (bodyOf kind) 1 ⌝ }
-{
-    SECOND_FIELDS[wide(kind)]
-}
-
-// A body has no byte, or a first one, or a second one too.
+// How many bytes the body of a kind's records has.
 fn body_length(kind: u8) -> usize
     requires { ⌜ kind < kindsEnd ⌝ }
     ensures { λ r. ⌜ r ≡ length (bodyOf kind) ⌝ }
 {
-    if first_field(kind) == NO_FIELD {
-        return 0;
-    }
-    if second_field(kind) == NO_FIELD {
-        return 1;
-    }
-    2
+    (BODY_LENGTHS >> (2 * wide(kind))) & 3
 }
 
 pub fn parse(table: &[u8], at: usize) -> Parsed

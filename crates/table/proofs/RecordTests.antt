@@ -1,5 +1,6 @@
 -- The tests on a record: a law for each way that each ends, and what each call on the way asks.
 -- Assumes nothing.
+use Prim.{Unit}
 use Prim.Native.Nat.{ℕ, zero, suc, _≤_, _<_}
 use native.Mathlib.Omega.{arith}
 use mathlib.Core.Path.{_≡_, refl, sym, _∙_}
@@ -12,16 +13,17 @@ use lib.Dec.{leb, eqb}
 use borrow.Author.Tests.{leb-false, ne-eqb}
 use Rattle.semantics.specs.Definitions.Layout.{channels, maxTerms}
 use Rattle.semantics.specs.Definitions.Terms.{Term, process, expression}
-use Rattle.semantics.specs.Definitions.Table.{Field, programF, amountF, fields, Content, termRecord, tokensRecord, startRecord, isProgram, isExpression, anyField, tooManyTerms, channelOutOfRange, forwardReference, classMismatch, badTokens}
+use Rattle.semantics.specs.Definitions.Table.{putK, takeK, repeatK, parK, atomK, rdK, wtK, orElseK, tokensK, startK, Field, programF, amountF, fields, Content, termRecord, tokensRecord, startRecord, isProgram, isExpression, anyField, tooManyTerms, channelOutOfRange, forwardReference, classMismatch, badTokens}
 use Rattle.semantics.proofs.Lists.{found-at}
 use Rattle.records.specs.declared.Record.{Record}
-use Rattle.records.specs.Shapes.{bodyOf, fieldNumber, fieldFrom, failsAt, termClass, contentClass, classOf}
+use Rattle.records.specs.Shapes.{kindByte, bodyOf, fieldNumber, fieldFrom, failsAt, termClass, contentClass, classOf}
+use Rattle.records.specs.Parsing.{IsKind}
 use Rattle.records.proofs.Classes.{class-of-content}
 use Rattle.records.proofs.FieldTests.{both-fields}
 use Rattle.terms.specs.Decoded.{tokensIn, kindAt, Decoded}
 use Rattle.terms.proofs.TermKinds.{record-class}
 use Rattle.tablelaws.specs.Refusals.{KindAt, fieldRefusal}
-use Rattle.table.specs.RecordTests.{DecodedSoFar, RoomTested, EarlierReference, ClassTested, FieldsTested}
+use Rattle.table.specs.RecordTests.{DecodedSoFar, RoomTested, EarlierReference, ClassTested, HasFields, FieldsTested}
 
 -- ---- 3
 
@@ -108,6 +110,29 @@ module _ (d : List ℕ) (a n : ℕ) where
   pub given-before : (n ≡ 0 → ⊥) → a < channels → (x : ℕ) → x ≡ a → (t : ℕ) → t ≡ getD d x 0 → not (eqb t 0) ≡ badTokens (tokensIn d) (tokensRecord a n)
   unfolding badTokens
   given-before h l x p t q = rw (ne-eqb n 0 h, getD-take channels d a 0 l, q, p)
+
+-- ---- the kinds that have no field
+
+abbrev Others : ℕ → Type 0
+Others k = (((((((((Unit {0} × (k ≡ kindByte putK → ⊥)) × (k ≡ kindByte takeK → ⊥)) × (k ≡ kindByte repeatK → ⊥)) × (k ≡ kindByte parK → ⊥)) × (k ≡ kindByte atomK → ⊥)) × (k ≡ kindByte rdK → ⊥)) × (k ≡ kindByte wtK → ⊥)) × (k ≡ kindByte orElseK → ⊥)) × (k ≡ kindByte tokensK → ⊥)) × (k ≡ kindByte startK → ⊥)
+
+pub no-fields : (k : ℕ) → IsKind k → Others k → HasFields k 0 0
+unfolding bodyOf fieldFrom
+no-fields zero h r = record { first = refl; second = refl }
+no-fields (suc zero) h r = record { first = refl; second = refl }
+no-fields (suc (suc zero)) h r = absurd (r .0 .0 .0 .0 .0 .0 .0 .0 .0 .1 refl)
+no-fields (suc (suc (suc zero))) h r = absurd (r .0 .0 .0 .0 .0 .0 .0 .0 .1 refl)
+no-fields (suc (suc (suc (suc zero)))) h r = absurd (r .0 .0 .0 .0 .0 .0 .0 .1 refl)
+no-fields (suc (suc (suc (suc (suc zero))))) h r = absurd (r .0 .0 .0 .0 .0 .0 .1 refl)
+no-fields (suc (suc (suc (suc (suc (suc zero)))))) h r = absurd (r .0 .0 .0 .0 .0 .1 refl)
+no-fields (suc (suc (suc (suc (suc (suc (suc zero))))))) h r = record { first = refl; second = refl }
+no-fields (suc (suc (suc (suc (suc (suc (suc (suc zero)))))))) h r = record { first = refl; second = refl }
+no-fields (suc (suc (suc (suc (suc (suc (suc (suc (suc zero))))))))) h r = absurd (r .0 .0 .0 .0 .1 refl)
+no-fields (suc (suc (suc (suc (suc (suc (suc (suc (suc (suc zero)))))))))) h r = absurd (r .0 .0 .0 .1 refl)
+no-fields (suc (suc (suc (suc (suc (suc (suc (suc (suc (suc (suc zero))))))))))) h r = absurd (r .0 .0 .1 refl)
+no-fields (suc (suc (suc (suc (suc (suc (suc (suc (suc (suc (suc (suc zero)))))))))))) h r = absurd (r .0 .1 refl)
+no-fields (suc (suc (suc (suc (suc (suc (suc (suc (suc (suc (suc (suc (suc zero))))))))))))) h r = absurd (r .1 refl)
+no-fields (suc (suc (suc (suc (suc (suc (suc (suc (suc (suc (suc (suc (suc (suc k)))))))))))))) h r = absurd (omega arith)
 
 -- ---- 3 to 6 in number order
 

@@ -4,11 +4,11 @@ use Prim.Native.Nat.{ℕ}
 use mathlib.Core.Path.{_≡_}
 use mathlib.Core.Bool.{Bool, false}
 use mathlib.Core.List.{List}
-use lib.ListN.{length}
+use lib.ListN.{length, getElem?}
 use Rattle.semantics.specs.Definitions.Terms.{Term}
 use Rattle.semantics.specs.Definitions.Table.{tooManyTerms, forwardReference, classMismatch}
 use Rattle.records.specs.declared.Record.{Record}
-use Rattle.records.specs.Shapes.{fieldFrom, failsAt}
+use Rattle.records.specs.Shapes.{bodyOf, fieldFrom, failsAt}
 use Rattle.terms.specs.Decoded.{Decoded}
 use Rattle.tablelaws.specs.Refusals.{KindAt, content, fieldRefusal}
 
@@ -32,6 +32,11 @@ pub record EarlierReference (d : List ℕ) (f byte : ℕ) : Type 0 where
 pub record ClassTested (d : List ℕ) (f byte : ℕ) (b : Bool) : Type 0 where
   pub found : (ts : List Term) → Decoded ts d → failsAt (forwardReference ts) (fieldFrom f) byte ≡ false →
       b ≡ failsAt (classMismatch ts) (fieldFrom f) byte
+
+-- f and g are the numbers of the fields of kind k
+pub record HasFields (k f g : ℕ) : Type 0 where
+  pub first : fieldFrom f ≡ getElem? (bodyOf k) 0
+  pub second : fieldFrom g ≡ getElem? (bodyOf k) 1
 
 -- q is the number of the first of the tests 3 to 6 that fails on a record after n terms, 0 for none
 pub record FieldsTested (d : List ℕ) (n : ℕ) (x : Record) (q : ℕ) : Type 0 where

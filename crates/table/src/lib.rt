@@ -1,12 +1,23 @@
 // Reading a rule table: record by record, the tests in number order, the terms decoded on the way.
 use buffer::wide;
+use records::ATOM;
+use records::CHANNEL;
+use records::COUNT;
 use records::EXPRESSION;
 use records::NO_CLASS;
+use records::NO_FIELD;
+use records::OR_ELSE;
+use records::PAR;
 use records::PROCESS;
+use records::PUT;
 use records::Parsed;
+use records::RD;
+use records::REPEATED_TAKE;
 use records::Record;
 use records::START;
+use records::TAKE;
 use records::TOKENS;
+use records::WT;
 use terms::DECODED;
 use terms::TERMS;
 ghost use mathlib.Core.Path.{_≡_};
@@ -17,7 +28,7 @@ ghost use Rattle.semantics.specs.Definitions.Table.{tokensRecord, badTokens, re
 ghost use Rattle.semantics.specs.Definitions.Calls.{checkTable};
 ghost use Rattle.records.specs.Parsing.{IsKind, WholeRecord};
 ghost use Rattle.terms.specs.Decoded.{decodedBytes, tokensIn};
-ghost use Rattle.table.specs.RecordTests.{DecodedSoFar, RoomTested, EarlierReference, ClassTested, FieldsTested};
+ghost use Rattle.table.specs.RecordTests.{DecodedSoFar, RoomTested, EarlierReference, ClassTested, HasFields, FieldsTested};
 ghost use Rattle.table.specs.RecordRead.{startRead, TokensRead, TermReady, TermRead, ReadsRecord};
 ghost use Rattle.table.specs.Answers.{Answers, verdictOf};
 
@@ -92,15 +103,19 @@ fn bad_tokens(decoded: &[u8; DECODED], channel: u8, count: u8) -> bool
     terms::tokens_of(decoded, wide(channel)) != 0
 }
 
-// The tests 3 to 6 in number order, each on both fields before the next: the number of the first that fails, 0 for
-// none.
-fn field_refusal(decoded: &[u8; DECODED], terms: usize, parsed: Record) -> u8
+// The tests 3 to 6 on a record that has these fields, in number order, each on both fields before the next: the number
+// of the first that fails, 0 for none.
+fn fields_refusal(
+    decoded: &[u8; DECODED],
+    terms: usize,
+    parsed: Record,
+    first: u8,
+    second: u8,
+) -> u8
     requires { ⌜ DecodedSoFar (now decoded) terms ⌝ }
-    requires { ⌜ IsKind (parsed .kind) ⌝ }
+    requires { ⌜ HasFields (parsed .kind) first second ⌝ }
     ensures { λ q. ⌜ FieldsTested (now (decoded .entry)) terms parsed q ⌝ }
 {
-    let first = records::first_field(parsed.kind);
-    let second = records::second_field(parsed.kind);
     if too_many_terms(parsed.kind, terms) {
         return TOO_MANY_TERMS;
     }
@@ -123,6 +138,29 @@ fn field_refusal(decoded: &[u8; DECODED], terms: usize, parsed: Record) -> u8
         return CLASS_MISMATCH;
     }
     0
+}
+
+// The same of any record, by the fields of its kind: NIL, END and RETRY have none. Each kind has a line of its own, so
+// that the compiler leaves out the tests that its fields do not need.
+fn record_refusal(decoded: &[u8; DECODED], terms: usize, parsed: Record) -> u8
+    requires { ⌜ DecodedSoFar (now decoded) terms ⌝ }
+    requires { ⌜ IsKind (parsed .kind) ⌝ }
+    ensures { λ q. ⌜ FieldsTested (now (decoded .entry)) terms parsed q ⌝ }
+{
+    let kind = parsed.kind;
+    match kind {
+        PUT => fields_refusal(decoded, terms, parsed, CHANNEL, NO_FIELD),
+        TAKE => fields_refusal(decoded, terms, parsed, CHANNEL, PROCESS),
+        REPEATED_TAKE => fields_refusal(decoded, terms, parsed, CHANNEL, PROCESS),
+        PAR => fields_refusal(decoded, terms, parsed, PROCESS, PROCESS),
+        ATOM => fields_refusal(decoded, terms, parsed, EXPRESSION, NO_FIELD),
+        RD => fields_refusal(decoded, terms, parsed, CHANNEL, EXPRESSION),
+        WT => fields_refusal(decoded, terms, parsed, CHANNEL, EXPRESSION),
+        OR_ELSE => fields_refusal(decoded, terms, parsed, EXPRESSION, EXPRESSION),
+        TOKENS => fields_refusal(decoded, terms, parsed, CHANNEL, COUNT),
+        START => fields_refusal(decoded, terms, parsed, PROCESS, NO_FIELD),
+        _ => fields_refusal(decoded, terms, parsed, NO_FIELD, NO_FIELD),
+    }
 }
 
 // The start, whose fields passed. It ends the table: 9, a byte follows it.
@@ -165,7 +203,7 @@ fn apply_term(at: usize, terms: usize, parsed: Record, decoded: &mut [u8; DECODE
     ensures { λ x. ⌜ TermRead (now (decoded .entry)) at terms parsed x (now (decoded .exit)) ⌝ }
 {
     terms::put_record(decoded, terms, parsed);
-    let measures = terms::measures_of(decoded, terms, terms);
+    let measures = terms::new_measures(decoded, terms);
     if terms::over_limit(parsed.kind, measures) {
         return AfterRecord::Answer(Read::Refused {
             number: OVER_LIMIT,
@@ -193,7 +231,7 @@ fn apply_record(
     requires { ⌜ WholeRecord (now table) at parsed ⌝ }
     ensures { λ x. ⌜ ReadsRecord (now (table .entry)) at terms (now (decoded .entry)) x (now (decoded .exit)) ⌝ }
 {
-    let number = field_refusal(decoded, terms, parsed);
+    let number = record_refusal(decoded, terms, parsed);
     if number != 0 {
         return AfterRecord::Answer(Read::Refused { number, place: at });
     }

@@ -3,11 +3,12 @@
 use Prim.Native.Nat.{ℕ, zero, suc}
 use native.Mathlib.Omega.{arith}
 use mathlib.Core.Path.{refl}
+use lib.ListN.{getD}
 use Rattle.semantics.specs.Definitions.Table.{nilK, kinds, kindOf}
 use Rattle.semantics.proofs.Lists.{found-at, found-getD}
 use Rattle.records.specs.Shapes.{kindByte}
 use Rattle.records.specs.Parsing.{IsKind}
-use Rattle.records.proofs.Shapes.{entry-at}
+use Rattle.records.proofs.Shapes.{same-at}
 use Rattle.tablelaws.specs.Refusals.{KindAt}
 
 pub kind-at : (k : ℕ) → IsKind k → KindAt k
@@ -15,5 +16,5 @@ unfolding kindOf kinds
 kind-at zero h = absurd (omega arith)
 kind-at (suc k) h =
     let K = found-at kinds k (omega arith) in
-    let e = entry-at kindByte (λ i. i) nilK kinds 1 refl k (omega arith) in
+    let e = same-at (λ i. kindByte (getD kinds i nilK)) suc 0 13 refl k (omega arith) (omega arith) in
     let g = found-getD kinds k (K .0) nilK (K .1) in record { kind = K .0; named = K .1; byte = rw (← g) (omega arith) }

@@ -8,8 +8,6 @@ use mathlib.Core.Logic.{_⊎_, inl, inr}
 use mathlib.Core.Option.{some}
 use mathlib.Core.List.{List}
 use lib.ListN.{getElem?}
-use mir.Syntax.{w8}
-use mir.Val.{Fits}
 use Rattle.semantics.specs.Definitions.Terms.{endT, retryT, rdT, wtT, orElseT, nilT, putT, takeT, repeatT, parT, atomT, Term, process, expression, width, branches, pathLength}
 use Rattle.semantics.specs.Checks.AcceptedTables.{SubtermsIn, MeasuresWithinLimits}
 use Rattle.terms.specs.Decoded.{kindAt, firstAt, secondAt, breadthAt, lengthAt, RecordOf, breadth, termLength}
@@ -190,22 +188,22 @@ module _ (d : List ℕ) (kept i : ℕ) (m : Measurable d kept i) where
           y .found ts (s .right) (into d kept i ts t x b (s .right) (rw (v, u) (s .second .at))),
         )
 
-        pub sum-fits : Fits w8 (bl + br)
+        pub sum-fits : bl + br < 256
         sum-fits =
             let x = m .there in
             let s = sides-at (m .terms) (m .tree) x h in
             let n = found-sides (m .terms) (m .tree) x s in
             let l = small (s .left) (x .good .limits _ _ (s .first .at)) in
-            let r = small (s .right) (x .good .limits _ _ (s .second .at)) in record { fits = omega arith }
+            let r = small (s .right) (x .good .limits _ _ (s .second .at)) in omega arith
 
-        pub sides-measured : (n : ℕ) → n ≡ max ll lr → MeasuresOf d kept i (bl + br) n
-        sides-measured n e = record { found = λ ts t x. go ts t x (sides-at ts t x h) }
+        pub sides-measured : (j n : ℕ) → j ≡ bl + br → n ≡ max ll lr → MeasuresOf d kept i j n
+        sides-measured j n f e = record { found = λ ts t x. go ts t x (sides-at ts t x h) }
           where
             go : (ts : List Term) (t : Term) → TermAt d kept i ts t → Sides ts i (firstAt d i) (secondAt d i) t →
-                (bl + br ≡ breadth t) × (n ≡ termLength t)
+                (j ≡ breadth t) × (n ≡ termLength t)
             go ts t x s =
                 let z = found-sides ts t x s in
-                (ap₂ _+_ (z .0 .0) (z .1 .0) ∙ sym (s .sum), e ∙ ap₂ max (z .0 .1) (z .1 .1) ∙ sym (s .most))
+                (f ∙ ap₂ _+_ (z .0 .0) (z .1 .0) ∙ sym (s .sum), e ∙ ap₂ max (z .0 .1) (z .1 .1) ∙ sym (s .most))
 
     -- ---- one part
 
@@ -221,16 +219,55 @@ module _ (d : List ℕ) (kept i : ℕ) (m : Measurable d kept i) where
             (br ≡ breadth (s .rest)) × (lr ≡ termLength (s .rest))
         found-rest ts t x s = y .found ts (s .rest) (into d kept i ts t x b (s .rest) (rw (v, u) (s .second .at)))
 
-        pub longer-fits : Fits w8 (1 + lr)
+        pub longer-fits : 1 + lr < 256
         longer-fits =
             let x = m .there in
             let s = rest-at (m .terms) (m .tree) x h j in
             let n = found-rest (m .terms) (m .tree) x s in
-            let r = small (s .rest) (x .good .limits _ _ (s .second .at)) in record { fits = omega arith }
+            let r = small (s .rest) (x .good .limits _ _ (s .second .at)) in omega arith
 
-        pub rest-measured : MeasuresOf d kept i br (1 + lr)
-        rest-measured = record { found = λ ts t x. go ts t x (rest-at ts t x h j) }
+        pub rest-measured : (o n : ℕ) → o ≡ br → n ≡ 1 + lr → MeasuresOf d kept i o n
+        rest-measured o n f e = record { found = λ ts t x. go ts t x (rest-at ts t x h j) }
           where
             go : (ts : List Term) (t : Term) → TermAt d kept i ts t → Rest ts i (secondAt d i) t →
-                (br ≡ breadth t) × (1 + lr ≡ termLength t)
-            go ts t x s = let z = found-rest ts t x s in (z .0 ∙ sym (s .same), rw (z .1) (sym (s .longer)))
+                (o ≡ breadth t) × (n ≡ termLength t)
+            go ts t x s = let z = found-rest ts t x s in (f ∙ z .0 ∙ sym (s .same), e ∙ rw (z .1) (sym (s .longer)))
+
+-- ---- a term behind all that are kept: its parts are looked up
+
+module _ (d : List ℕ) (i : ℕ) (m : Measurable d i i) (k : ℕ) (p : k ≡ kindAt d i) where
+  module _ (h : Two k) (f : ℕ) (o : f ≡ firstAt d i) (a : ℕ) (q : a ≡ f) where
+    pub left-inside : a < maxTerms
+    left-inside = left-side d i i m k p h f o a q .there .inside
+
+    left-found : (bl : ℕ) → bl ≡ breadthAt d a → (ll : ℕ) → ll ≡ lengthAt d a → MeasuresOf d i a bl ll
+    left-found bl x ll y = looked-up d i a (left-side d i i m k p h f o a q) (left-falls d i i m k p h f o a q i refl) bl x ll y
+
+    module _ (g : ℕ) (u : g ≡ secondAt d i) (b : ℕ) (v : b ≡ g) where
+      pub right-inside : b < maxTerms
+      right-inside = right-side d i i m k p h g u b v .there .inside
+
+      right-found : (br : ℕ) → br ≡ breadthAt d b → (lr : ℕ) → lr ≡ lengthAt d b → MeasuresOf d i b br lr
+      right-found br x lr y = looked-up d i b (right-side d i i m k p h g u b v) (right-falls d i i m k p h g u b v i refl) br x lr y
+
+      module _ (bl : ℕ) (x : bl ≡ breadthAt d a) (ll : ℕ) (y : ll ≡ lengthAt d a)
+          (br : ℕ) (z : br ≡ breadthAt d b) (lr : ℕ) (w : lr ≡ lengthAt d b) where
+        pub kept-sum-fits : bl + br < 256
+        kept-sum-fits = sum-fits d i i m k p h g u b v f o a q bl ll (left-found bl x ll y) br lr (right-found br z lr w)
+
+        pub kept-sides-measured : (j n : ℕ) → j ≡ bl + br → n ≡ max ll lr → MeasuresOf d i i j n
+        kept-sides-measured = sides-measured d i i m k p h g u b v f o a q bl ll (left-found bl x ll y) br lr (right-found br z lr w)
+
+  module _ (h : kindByte rdK ≤ k) (j : k < kindByte orElseK) (g : ℕ) (u : g ≡ secondAt d i) (b : ℕ) (v : b ≡ g) where
+    pub rest-inside : b < maxTerms
+    rest-inside = rest-side d i i m k p h j g u b v .there .inside
+
+    module _ (br : ℕ) (z : br ≡ breadthAt d b) (lr : ℕ) (w : lr ≡ lengthAt d b) where
+      rest-found : MeasuresOf d i b br lr
+      rest-found = looked-up d i b (rest-side d i i m k p h j g u b v) (rest-falls d i i m k p h j g u b v i refl) br z lr w
+
+      pub kept-longer-fits : 1 + lr < 256
+      kept-longer-fits = longer-fits d i i m k p h j g u b v br lr rest-found
+
+      pub kept-rest-measured : (o n : ℕ) → o ≡ br → n ≡ 1 + lr → MeasuresOf d i i o n
+      kept-rest-measured = rest-measured d i i m k p h j g u b v br lr rest-found

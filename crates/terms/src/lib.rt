@@ -13,7 +13,7 @@ use records::RD;
 use records::Record;
 use records::WT;
 ghost use mathlib.Core.Path.{_≡_};
-ghost use Prim.Native.Nat.{_<_, max};
+ghost use Prim.Native.Nat.{_+_, _<_, max};
 ghost use lib.ListN.{length, getD, set};
 ghost use Rattle.terms.specs.Decoded.{channels, maxTerms, decodedBytes, kindAt, firstAt, secondAt, breadthAt, lengthAt, withRecord, withMeasures};
 ghost use Rattle.terms.specs.TermMeasures.{Measurable, MeasuresOf, LimitTested};
@@ -129,6 +129,42 @@ pub fn larger(a: u8, b: u8) -> u8
     if a < b { b } else { a }
 }
 
+// The measures of two terms as one, side by side or as the alternatives of orElse.
+fn of_both(left: Measures, right: Measures) -> Measures
+    requires { ⌜ left .breadth + right .breadth < 256 ⌝ }
+    ensures { λ m. ⌜ m .breadth ≡ left .breadth + right .breadth ⌝ }
+    ensures { λ m. ⌜ m .length ≡ max (left .length) (right .length) ⌝ }
+{
+    let breadth = left.breadth + right.breadth;
+    let length = larger(left.length, right.length);
+    Measures { breadth, length }
+}
+
+// The measures of a term behind rd or wt, with that.
+fn of_longer(rest: Measures) -> Measures
+    requires { ⌜ 1 + rest .length < 256 ⌝ }
+    ensures { λ m. ⌜ m .breadth ≡ rest .breadth ⌝ }
+    ensures { λ m. ⌜ m .length ≡ 1 + rest .length ⌝ }
+{
+    let length = 1 + rest.length;
+    Measures {
+        breadth: rest.breadth,
+        length,
+    }
+}
+
+// The measures that are kept of the term at a number.
+fn kept_measures(decoded: &[u8; DECODED], i: usize) -> Measures
+    requires { ⌜ i < maxTerms ⌝ }
+    ensures { λ m. ⌜ m .breadth ≡ breadthAt (now (decoded .entry)) i ⌝ }
+    ensures { λ m. ⌜ m .length ≡ lengthAt (now (decoded .entry)) i ⌝ }
+{
+    Measures {
+        breadth: breadth_of(decoded, i),
+        length: length_of(decoded, i),
+    }
+}
+
 // The measures of the term at a number, over the unfolded term. References go to smaller numbers. The measures of the
 // first `kept` terms stand in the decoded table and are looked up; with none kept, the whole term is walked.
 pub fn measures_of(decoded: &[u8; DECODED], kept: usize, at: usize) -> Measures
@@ -136,27 +172,34 @@ pub fn measures_of(decoded: &[u8; DECODED], kept: usize, at: usize) -> Measures
     ensures { λ m. ⌜ MeasuresOf (now (decoded .entry)) kept at (m .breadth) (m .length) ⌝ }
 {
     if at < kept {
-        return Measures {
-            breadth: breadth_of(decoded, at),
-            length: length_of(decoded, at),
-        };
+        return kept_measures(decoded, at);
     }
     match kind_of(decoded, at) {
         PAR | OR_ELSE => {
             let left = measures_of(decoded, kept, wide(first_of(decoded, at)));
             let right = measures_of(decoded, kept, wide(second_of(decoded, at)));
-            let breadth = left.breadth + right.breadth;
-            let length = larger(left.length, right.length);
-            Measures { breadth, length }
+            of_both(left, right)
         }
-        RD | WT => {
-            let rest = measures_of(decoded, kept, wide(second_of(decoded, at)));
-            let length = 1 + rest.length;
-            Measures {
-                breadth: rest.breadth,
-                length,
-            }
+        RD | WT => of_longer(measures_of(decoded, kept, wide(second_of(decoded, at)))),
+        _ => Measures {
+            breadth: 1,
+            length: 0,
+        },
+    }
+}
+
+// The same of the term behind all that are kept, as each is while a table is read: no walk.
+pub fn new_measures(decoded: &[u8; DECODED], at: usize) -> Measures
+    requires { ⌜ Measurable (now decoded) at at ⌝ }
+    ensures { λ m. ⌜ MeasuresOf (now (decoded .entry)) at at (m .breadth) (m .length) ⌝ }
+{
+    match kind_of(decoded, at) {
+        PAR | OR_ELSE => {
+            let left = kept_measures(decoded, wide(first_of(decoded, at)));
+            let right = kept_measures(decoded, wide(second_of(decoded, at)));
+            of_both(left, right)
         }
+        RD | WT => of_longer(kept_measures(decoded, wide(second_of(decoded, at)))),
         _ => Measures {
             breadth: 1,
             length: 0,

@@ -62,12 +62,12 @@ leaf-at {ts} {M} {δ} {d} {s} {at} x =
 -- ---- a read
 
 -- what the test answers is the rule's number
-module _ (s : List ℕ) (snapshot at a w : ℕ) (need : List ℕ) (r : Bool) (below : a < channels) (size : w ≡ sizeAt s at)
-    (needed : need ≡ needsOf (take w (drop (at + leafLog) s) ++ (a ∷ []))) (tested : r ≡ withinAt need s snapshot) where
+module _ (s : List ℕ) (snapshot at a w : ℕ) (r : Bool) (below : a < channels) (size : w ≡ sizeAt s at)
+    (tested : r ≡ withinAt (needsOf (take w (drop (at + leafLog) s) ++ (a ∷ []))) s snapshot) where
   read-is : (δ : Log) (σ : State) → ReadAt s snapshot at δ σ → r ≡ readable σ (δ ++ (rd a ∷ []))
   read-is δ σ x =
-      stored-readable-with s (at + leafLog) w δ (x .log) (size ∙ x .size) snapshot σ a need r
-      (x .counts) below needed tested
+      stored-readable-with s (at + leafLog) w δ (x .log) (size ∙ x .size) snapshot σ a _ r
+      (x .counts) below refl tested
 
   pub read-allowed : r ≡ true → ReadTried s snapshot at a 8
   unfolding reads innerReply ruleReply

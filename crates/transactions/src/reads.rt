@@ -22,8 +22,7 @@ pub fn read_rule(hall: &[u8], snapshot: usize, at: usize, channel: u8) -> u8
     ensures { λ r. ⌜ ReadTried (now (hall .entry)) snapshot at channel r ⌝ }
 {
     let size = wide(hall[at + LEAF_LOG_LENGTH]);
-    let need = logs::needs_with(hall, at + LEAF_LOG, size, channel);
-    if logs::within(need, hall, snapshot) {
+    if logs::readable_with(hall, at + LEAF_LOG, size, channel, snapshot) {
         ARDOK
     } else {
         ARDF

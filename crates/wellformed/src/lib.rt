@@ -45,13 +45,22 @@ pub enum Form {
 }
 
 // Whether nothing but zeros stands from an offset on. The largest byte is found first, with no way out of the loop,
-// so that many bytes are compared at once.
+// so that many bytes are compared at once; four quarters are read side by side, so that a turn costs less.
 pub fn zeros_from(s: &[u8], from: usize) -> bool
     requires { ⌜ from ≤ length (now s) ⌝ }
     ensures { λ r. ⌜ r ≡ zeros (drop from (now (s .entry))) ⌝ }
 {
+    let quarter = (s.len() - from) / 4;
     let mut top: u8 = 0;
-    let mut i = from;
+    let mut i: usize = 0;
+    while i < quarter {
+        let at = from + i;
+        let low = larger(s[at], s[at + quarter]);
+        let high = larger(s[at + 2 * quarter], s[at + 3 * quarter]);
+        top = larger(top, larger(low, high));
+        i += 1;
+    }
+    i = from + 4 * quarter;
     while i < s.len() {
         top = larger(top, s[i]);
         i += 1;

@@ -1,8 +1,8 @@
 -- `move_down` meets its contract: before each turn the first i bytes are moved. Assumes nothing.
 use Prim.Native.Nat.{_-_}
 use native.Mathlib.Omega.{arith}
-use lib.ListN.{drop, length-drop}
-use Rattle.buffer.proofs.Written.{WrittenSoFar, written-start, written-turn, written-end, still-there}
+use lib.ListN.{drop}
+use Rattle.buffer.proofs.Written.{WrittenSoFar, written-start, moved-down, written-end}
 use Rattle.buffer.proofs.move_down.Statement.{statement}
 use Rattle.buffer.proofs.move_down.Tie as tie
 
@@ -15,17 +15,20 @@ abbrev μ-loop : tie.MeasureT-loop
 loop-holds : tie.Need-loop-holds Inv-loop μ-loop
 loop-holds c = written-start _ _ _ _
 
-add-s : tie.Need-add-s Inv-loop μ-loop
-add-s c = omega arith
+sub-next-block : tie.Need-sub-next-block Inv-loop μ-loop
+sub-next-block c = omega arith
 
-slice-read-s : tie.Need-slice-read-s Inv-loop μ-loop
-slice-read-s c = omega arith
+next-block-requires : tie.Need-next-block-requires Inv-loop μ-loop
+next-block-requires c κs = omega arith
 
-add-s-2 : tie.Need-add-s-2 Inv-loop μ-loop
-add-s-2 c = omega arith
+add-move-block : tie.Need-add-move-block Inv-loop μ-loop
+add-move-block c = omega arith
 
-slice-write-s : tie.Need-slice-write-s Inv-loop μ-loop
-slice-write-s c = omega arith
+add-move-block-2 : tie.Need-add-move-block-2 Inv-loop μ-loop
+add-move-block-2 c = omega arith
+
+move-block-requires : tie.Need-move-block-requires Inv-loop μ-loop
+move-block-requires c κs = (omega arith, omega arith, omega arith)
 
 add-i : tie.Need-add-i Inv-loop μ-loop
 add-i c = omega arith
@@ -34,7 +37,7 @@ loop-less : tie.Need-loop-less Inv-loop μ-loop
 loop-less c = omega arith
 
 loop-again : tie.Need-loop-again Inv-loop μ-loop
-loop-again c = written-turn _ _ _ _ _ _ _ (c .before .before .loop .inv) (search still-there) (omega arith) (simp length-drop (omega arith)) (omega arith)
+loop-again c = search moved-down
 
 same-length : tie.Need-same-length Inv-loop μ-loop
 same-length c = omega arith
@@ -49,10 +52,11 @@ move-down-spec =
     Inv-loop
     μ-loop
     loop-holds
-    add-s
-    slice-read-s
-    add-s-2
-    slice-write-s
+    sub-next-block
+    next-block-requires
+    add-move-block
+    add-move-block-2
+    move-block-requires
     add-i
     loop-less
     loop-again

@@ -1,48 +1,44 @@
 -- `move_up` meets its contract: before each turn all but the first `left` bytes are moved. Assumes nothing.
-use Prim.Native.Nat.{_≤_, _+_, _-_}
-use mathlib.Core.Path.{_≡_}
 use native.Mathlib.Omega.{arith}
-use lib.ListN.{length, drop, length-set}
-use Rattle.buffer.specs.Splice.{written}
-use Rattle.buffer.proofs.Written.{up-start, up-turn, up-end}
+use Rattle.buffer.proofs.Written.{MovedUp, up-start, moved-up, up-end}
 use Rattle.buffer.proofs.move_up.Statement.{statement}
 use Rattle.buffer.proofs.move_up.Tie as tie
 
 abbrev Inv-loop : tie.InvT-loop
-Inv-loop s₀ from to n left₀ s left = (left ≤ n) × (length s ≡ length s₀) × (s ≡ written s₀ (to + left) (drop (from + left) s₀) (n - left))
+Inv-loop s₀ from to n left₀ s left = MovedUp s₀ from to n s left
 
 abbrev μ-loop : tie.MeasureT-loop
 μ-loop s₀ from to n left₀ s left = left
 
 loop-holds : tie.Need-loop-holds Inv-loop μ-loop
-loop-holds c = (omega arith, omega arith, up-start _ _ _ _)
+loop-holds c = up-start _ _ _ _
+
+next-block-requires : tie.Need-next-block-requires Inv-loop μ-loop
+next-block-requires c κs = omega arith
 
 sub-left : tie.Need-sub-left Inv-loop μ-loop
 sub-left c = omega arith
 
-add-s : tie.Need-add-s Inv-loop μ-loop
-add-s c = omega arith
+add-move-block : tie.Need-add-move-block Inv-loop μ-loop
+add-move-block c = omega arith
 
-slice-read-s : tie.Need-slice-read-s Inv-loop μ-loop
-slice-read-s c = omega arith
+add-move-block-2 : tie.Need-add-move-block-2 Inv-loop μ-loop
+add-move-block-2 c = omega arith
 
-add-s-2 : tie.Need-add-s-2 Inv-loop μ-loop
-add-s-2 c = omega arith
-
-slice-write-s : tie.Need-slice-write-s Inv-loop μ-loop
-slice-write-s c = omega arith
+move-block-requires : tie.Need-move-block-requires Inv-loop μ-loop
+move-block-requires c κs = (omega arith, omega arith, omega arith)
 
 loop-less : tie.Need-loop-less Inv-loop μ-loop
 loop-less c = omega arith
 
 loop-again : tie.Need-loop-again Inv-loop μ-loop
-loop-again c = (omega arith, simp length-set (omega arith), search up-turn)
+loop-again c = search moved-up
 
 same-length : tie.Need-same-length Inv-loop μ-loop
 same-length c = omega arith
 
 returns : tie.Need-returns Inv-loop μ-loop
-returns c = up-end _ _ _ _ _ _ (c .before .loop .inv .2) (omega arith)
+returns c = search up-end
 
 pub move-up-spec : {M : Type 1} → statement M
 move-up-spec =
@@ -51,11 +47,11 @@ move-up-spec =
     Inv-loop
     μ-loop
     loop-holds
+    next-block-requires
     sub-left
-    add-s
-    slice-read-s
-    add-s-2
-    slice-write-s
+    add-move-block
+    add-move-block-2
+    move-block-requires
     loop-less
     loop-again
     same-length

@@ -1,24 +1,21 @@
--- `records::body_length` meets its contract: at each return the law of its case.
+-- `records::body_length` meets its contract: the code's number has the definition's lengths.
 -- Assumes nothing.
-use Rattle.records.proofs.Shapes.{no-byte, one-byte, two-bytes}
+use Rattle.records.proofs.Shapes.{length-at}
 use borrow.Author.Needs.{needs}
 use Rattle.records.proofs.body_length.Statement.{statement}
 use Rattle.records.proofs.body_length.Tie as tie
 
-first-field-requires : tie.Need-first-field-requires
-first-field-requires c κs = search needs
+wide-requires : tie.Need-wide-requires
+wide-requires c κs = search needs
+
+mul-result : tie.Need-mul-result
+mul-result c = search needs
+
+shr-result : tie.Need-shr-result
+shr-result c = search needs
 
 returns : tie.Need-returns
-returns c = search no-byte
-
-second-field-requires : tie.Need-second-field-requires
-second-field-requires c κs = search needs
-
-returns-2 : tie.Need-returns-2
-returns-2 c = search one-byte
-
-returns-3 : tie.Need-returns-3
-returns-3 c = search two-bytes
+returns c = search length-at
 
 pub body-length-spec : {M : Type 1} → statement M
-body-length-spec = tie.close (tie.spec first-field-requires returns second-field-requires returns-2 returns-3)
+body-length-spec = tie.close (tie.spec wide-requires mul-result shr-result returns)

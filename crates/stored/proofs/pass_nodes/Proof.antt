@@ -1,16 +1,16 @@
 -- `pass_nodes` meets its contract: the walk from here ends where the walk from the tree's start does. Assumes nothing.
-use Prim.Native.Nat.{_+_, _*_, _-_, _≤_}
+use Prim.Native.Nat.{_+_, _*_, _-_, _≤_, _<_}
 use mathlib.Core.Path.{_≡_}
 use native.Mathlib.Omega.{arith}
 use Rattle.stored.specs.Nodes.{passed}
-use Rattle.stored.proofs.Nodes.{size-bounds, pending-bound, walk-over, walk-done, walk-on}
+use Rattle.stored.proofs.Nodes.{walk-fork, walk-leaf, walk-over, walk-done}
 use borrow.Author.Needs.{needs}
 use Rattle.stored.proofs.pass_nodes.Statement.{statement}
 use Rattle.stored.proofs.pass_nodes.Tie as tie
 use Rattle.stored.specs.Layout.{leafSize}
 
 abbrev Inv-loop : tie.InvT-loop
-Inv-loop s tree nodes at₀ pending₀ left₀ at pending left = (passed s left pending at ≡ passed s nodes 1 tree) × (left ≤ nodes) × (pending ≤ 1 + (nodes - left)) × (at ≤ tree + leafSize * (nodes - left))
+Inv-loop s tree nodes at₀ pending₀ left₀ at pending left = (passed s left pending at ≡ passed s nodes 1 tree) × (left ≤ nodes) × (0 < pending) × (pending ≤ 1 + (nodes - left)) × (at ≤ tree + leafSize * (nodes - left))
 
 abbrev μ-loop : tie.MeasureT-loop
 μ-loop s tree nodes at₀ pending₀ left₀ at pending left = left
@@ -19,10 +19,7 @@ wide-requires : tie.Need-wide-requires Inv-loop μ-loop
 wide-requires c κs = search needs
 
 loop-holds : tie.Need-loop-holds Inv-loop μ-loop
-loop-holds c = (rw (c .wide .ensures), omega arith, omega arith, omega arith)
-
-returns : tie.Need-returns Inv-loop μ-loop
-returns c = search walk-over
+loop-holds c = (rw (c .wide .ensures), omega arith, omega arith, omega arith, omega arith)
 
 sub-left : tie.Need-sub-left Inv-loop μ-loop
 sub-left c = search needs
@@ -30,20 +27,32 @@ sub-left c = search needs
 byte-at-requires : tie.Need-byte-at-requires Inv-loop μ-loop
 byte-at-requires c κs = search needs
 
-pending-behind-requires : tie.Need-pending-behind-requires Inv-loop μ-loop
-pending-behind-requires c κs = search needs
-
-node-size-requires : tie.Need-node-size-requires Inv-loop μ-loop
-node-size-requires c κs = search needs
+add-pending : tie.Need-add-pending Inv-loop μ-loop
+add-pending c = omega arith
 
 add-at : tie.Need-add-at Inv-loop μ-loop
-add-at c = omega (arith, size-bounds _ _ (c .node-size .ensures))
+add-at c = omega arith
 
 loop-less : tie.Need-loop-less Inv-loop μ-loop
 loop-less c = search needs
 
 loop-again : tie.Need-loop-again Inv-loop μ-loop
-loop-again c = (search walk-on, omega arith, omega (arith, pending-bound _ _ _ (c .before .pending-behind .ensures)), omega (arith, size-bounds _ _ (c .node-size .ensures)))
+loop-again c = (walk-fork _ _ _ _ _ (c .before .before .before .loop .inv .0) (omega arith) (omega arith) _ (c .before .byte-at .ensures) (c .if1 .taken), omega arith, omega arith, omega arith, omega arith)
+
+sub-pending : tie.Need-sub-pending Inv-loop μ-loop
+sub-pending c = omega arith
+
+add-at-2 : tie.Need-add-at-2 Inv-loop μ-loop
+add-at-2 c = omega arith
+
+returns : tie.Need-returns Inv-loop μ-loop
+returns c = walk-over _ _ _ _ _ (c .before .before .before .before .loop .inv .0) (omega arith) (omega arith) _ (c .before .before .byte-at .ensures) (c .before .if1 .left) (c .if2 .taken)
+
+loop-less-2 : tie.Need-loop-less-2 Inv-loop μ-loop
+loop-less-2 c = search needs
+
+loop-again-2 : tie.Need-loop-again-2 Inv-loop μ-loop
+loop-again-2 c = (walk-leaf _ _ _ _ _ (c .before .before .before .before .loop .inv .0) (omega arith) (omega arith) _ (c .before .before .byte-at .ensures) (c .before .if1 .left), omega arith, omega (arith, c .if2 .left), omega arith, omega arith)
 
 returns-2 : tie.Need-returns-2 Inv-loop μ-loop
 returns-2 c = search walk-done
@@ -56,12 +65,15 @@ pass-nodes-spec =
     μ-loop
     wide-requires
     loop-holds
-    returns
     sub-left
     byte-at-requires
-    pending-behind-requires
-    node-size-requires
+    add-pending
     add-at
     loop-less
     loop-again
+    sub-pending
+    add-at-2
+    returns
+    loop-less-2
+    loop-again-2
     returns-2)

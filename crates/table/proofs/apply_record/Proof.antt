@@ -5,8 +5,8 @@ use borrow.Author.Needs.{needs}
 use Rattle.table.proofs.apply_record.Statement.{statement}
 use Rattle.table.proofs.apply_record.Tie as tie
 
-field-refusal-requires : tie.Need-field-refusal-requires
-field-refusal-requires c κs = search needs
+record-refusal-requires : tie.Need-record-refusal-requires
+record-refusal-requires c κs = search needs
 
 returns : tie.Need-returns
 returns c = search fields-refusal
@@ -33,7 +33,7 @@ pub apply-record-spec : {M : Type 1} → statement M
 apply-record-spec =
     tie.close
     (tie.spec
-    field-refusal-requires
+    record-refusal-requires
     returns
     apply-start-requires
     returns-2

@@ -9,11 +9,11 @@ use Rattle.terms.proofs.measures_of.Reads as measures-of
 use Rattle.terms.proofs.measures_of.Kinds as measures-of-kinds
 use Rattle.terms.proofs.+measures_of.Lts-measures_of as measures-of-lts
 use Rattle.buffer.proofs.wide.Reads as wide-reads
-use Rattle.terms.proofs.breadth_of.Reads as breadth-of-reads
 use Rattle.terms.proofs.first_of.Reads as first-of-reads
+use Rattle.terms.proofs.kept_measures.Reads as kept-measures-reads
 use Rattle.terms.proofs.kind_of.Reads as kind-of-reads
-use Rattle.terms.proofs.larger.Reads as larger-reads
-use Rattle.terms.proofs.length_of.Reads as length-of-reads
+use Rattle.terms.proofs.of_both.Reads as of-both-reads
+use Rattle.terms.proofs.of_longer.Reads as of-longer-reads
 use Rattle.terms.proofs.second_of.Reads as second-of-reads
 use Rattle.terms.proofs.+measures_of.{statement}
 use Rattle.terms.proofs.+measures_of.Tie.{close}
@@ -31,10 +31,8 @@ measures-of-below t =
 
 abbrev callees : ℕ → measures-of-lts.Claims
 callees t = (
-  breadth-of-reads.Asked,
-  breadth-of-reads.Learnt,
-  length-of-reads.Asked,
-  length-of-reads.Learnt,
+  kept-measures-reads.Asked,
+  kept-measures-reads.Learnt,
   kind-of-reads.Asked,
   kind-of-reads.Learnt,
   first-of-reads.Asked,
@@ -45,15 +43,14 @@ callees t = (
   measures-of.Post,
   second-of-reads.Asked,
   second-of-reads.Learnt,
-  larger-reads.Asked,
-  larger-reads.Learnt,
+  of-both-reads.Asked,
+  of-both-reads.Learnt,
+  of-longer-reads.Asked,
+  of-longer-reads.Learnt,
 )
 
-measures-of-breadth-of-requires : (t : ℕ) → measures-of-lts.Need-breadth-of-requires (callees t) (measures-of-at t) measures-of.Post
-measures-of-breadth-of-requires t c κs = search inside
-
-measures-of-length-of-requires : (t : ℕ) → measures-of-lts.Need-length-of-requires (callees t) (measures-of-at t) measures-of.Post
-measures-of-length-of-requires t c κs = search inside
+measures-of-kept-measures-requires : (t : ℕ) → measures-of-lts.Need-kept-measures-requires (callees t) (measures-of-at t) measures-of.Post
+measures-of-kept-measures-requires t c κs = search inside
 
 measures-of-returns : (t : ℕ) → measures-of-lts.Need-returns (callees t) (measures-of-at t) measures-of.Post
 measures-of-returns t c = search looked-up
@@ -84,11 +81,8 @@ measures-of-measures-of-requires-2 t c κs =
       right-side _ _ _ asked _ (e .before .kind-of .ensures) (e .match .keys1) _ (c .before .second-of .ensures) _ (c .wide2 .ensures),
     )
 
-measures-of-add-breadth : (t : ℕ) → measures-of-lts.Need-add-breadth (callees t) (measures-of-at t) measures-of.Post
-measures-of-add-breadth t c = search sum-fits
-
-measures-of-larger-requires : (t : ℕ) → measures-of-lts.Need-larger-requires (callees t) (measures-of-at t) measures-of.Post
-measures-of-larger-requires t c κs = search needs
+measures-of-of-both-requires : (t : ℕ) → measures-of-lts.Need-of-both-requires (callees t) (measures-of-at t) measures-of.Post
+measures-of-of-both-requires t c κs = search sum-fits
 
 measures-of-second-of-requires-2 : (t : ℕ) → measures-of-lts.Need-second-of-requires-2 (callees t) (measures-of-at t) measures-of.Post
 measures-of-second-of-requires-2 t c κs = search inside
@@ -105,8 +99,8 @@ measures-of-measures-of-requires-3 t c κs =
           (c .wide3 .ensures),
     )
 
-measures-of-add-length : (t : ℕ) → measures-of-lts.Need-add-length (callees t) (measures-of-at t) measures-of.Post
-measures-of-add-length t c = search longer-fits
+measures-of-of-longer-requires : (t : ℕ) → measures-of-lts.Need-of-longer-requires (callees t) (measures-of-at t) measures-of.Post
+measures-of-of-longer-requires t c κs = search longer-fits
 
 measures-of-returns-2 : (t : ℕ) → measures-of-lts.Need-returns-2 (callees t) (measures-of-at t) measures-of.Post
 measures-of-returns-2 t c = search sides-measured
@@ -124,8 +118,7 @@ pub +measures-of-spec : {M : Type 1} → statement M
 +measures-of-spec = close μ-measures-of λ t. measures-of-lts.spec (callees t)
     (measures-of-at t)
     measures-of.Post
-    (measures-of-breadth-of-requires t)
-    (measures-of-length-of-requires t)
+    (measures-of-kept-measures-requires t)
     (measures-of-returns t)
     (measures-of-kind-of-requires t)
     (measures-of-first-of-requires t)
@@ -134,12 +127,11 @@ pub +measures-of-spec : {M : Type 1} → statement M
     (measures-of-second-of-requires t)
     (measures-of-wide-requires-2 t)
     (measures-of-measures-of-requires-2 t)
-    (measures-of-add-breadth t)
-    (measures-of-larger-requires t)
+    (measures-of-of-both-requires t)
     (measures-of-second-of-requires-2 t)
     (measures-of-wide-requires-3 t)
     (measures-of-measures-of-requires-3 t)
-    (measures-of-add-length t)
+    (measures-of-of-longer-requires t)
     (measures-of-returns-2 t)
     (measures-of-returns-3 t)
     (measures-of-returns-4 t)

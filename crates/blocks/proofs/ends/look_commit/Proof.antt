@@ -13,17 +13,14 @@ shared-slice-read-wide c = search length-inside
 wide-requires : tie.Need-wide-requires
 wide-requires c κs = search needs
 
-add-needs-of : tie.Need-add-needs-of
-add-needs-of c = let l = leaf-inside _ _ _ (c .before .before .before .pre) in search needs
+add-readable : tie.Need-add-readable
+add-readable c = let l = leaf-inside _ _ _ (c .before .before .before .pre) in search needs
 
-needs-of-requires : tie.Need-needs-of-requires
-needs-of-requires c κs = (search log-few, search log-inside)
-
-within-requires : tie.Need-within-requires
-within-requires c κs = search counts-inside
+readable-requires : tie.Need-readable-requires
+readable-requires c κs = (search log-few, search log-inside, search counts-inside)
 
 add-outputs-of : tie.Need-add-outputs-of
-add-outputs-of c = let l = leaf-inside _ _ _ (c .before .before .before .before .before .before .pre) in search needs
+add-outputs-of c = let l = leaf-inside _ _ _ (c .before .before .before .before .before .pre) in search needs
 
 outputs-of-requires : tie.Need-outputs-of-requires
 outputs-of-requires c κs = (search log-few, search log-inside)
@@ -33,7 +30,7 @@ sub-others c = search needs
 
 add-if2 : tie.Need-add-if2
 add-if2 c =
-    let read = c .before .before .before .before .before in
+    let read = c .before .before .before .before in
     let start = read .before .before .before in
     let few = start .pre .few in
     let l = outputs-few _ _ _ (start .pre) _ (read .wide .ensures) _ (c .before .outputs-of .ensures) in search needs
@@ -54,9 +51,8 @@ look-commit-spec =
     add-wide
     shared-slice-read-wide
     wide-requires
-    add-needs-of
-    needs-of-requires
-    within-requires
+    add-readable
+    readable-requires
     add-outputs-of
     outputs-of-requires
     sub-others

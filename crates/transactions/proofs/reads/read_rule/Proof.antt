@@ -13,14 +13,11 @@ shared-slice-read-wide c = search needs
 wide-requires : tie.Need-wide-requires
 wide-requires c κs = search needs
 
-add-needs-with : tie.Need-add-needs-with
-add-needs-with c = search needs
+add-readable-with : tie.Need-add-readable-with
+add-readable-with c = search needs
 
-needs-with-requires : tie.Need-needs-with-requires
-needs-with-requires c κs = search needs
-
-within-requires : tie.Need-within-requires
-within-requires c κs = search needs
+readable-with-requires : tie.Need-readable-with-requires
+readable-with-requires c κs = search needs
 
 returns : tie.Need-returns
 returns c = search read-allowed
@@ -35,8 +32,7 @@ read-rule-spec =
     add-wide
     shared-slice-read-wide
     wide-requires
-    add-needs-with
-    needs-with-requires
-    within-requires
+    add-readable-with
+    readable-with-requires
     returns
     returns-2)

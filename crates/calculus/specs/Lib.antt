@@ -1,4 +1,0 @@
-pub mod Syntax
-pub mod State
-pub mod Log
-pub mod Reduction

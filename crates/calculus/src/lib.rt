@@ -1,1 +1,0 @@
-// No code: the definitions of the calculus stand in specs/.

@@ -1,3 +1,0 @@
-pub mod Looking
-pub mod Making
-pub mod Suggesting

@@ -1,4 +1,0 @@
-pub mod Acting
-pub mod Links
-pub mod Putting
-pub mod Taking

@@ -1,4 +1,0 @@
-pub mod Admitted
-pub mod Calls
-pub mod Opening
-pub mod Verdicts

@@ -1,3 +1,0 @@
-pub mod Definitions
-pub mod Claims
-pub mod Checks
