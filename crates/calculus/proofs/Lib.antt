@@ -1,0 +1,3 @@
+pub mod States
+pub mod Logs
+pub mod Reductions

@@ -1,0 +1,4 @@
+pub mod Syntax
+pub mod State
+pub mod Log
+pub mod Reduction

@@ -1,0 +1,235 @@
+-- An entry that is looked at and made: what the look found may be made, and after it the configuration that the
+-- definitions give is held.
+-- Assumes nothing.
+use Prim.Native.Nat.{ℕ, _-_, _≤_, _<_}
+use native.Mathlib.Decide.{ℕ-discrete}
+use native.Mathlib.Omega.{arith}
+use mathlib.Core.Path.{_≡_, refl, sym, ap, _∙_}
+use mathlib.Core.Logic.{_⊎_, inl, inr}
+use mathlib.Core.Bool.{true, false}
+use mathlib.Core.List.{List}
+use lib.Dec.{lit≤}
+use Rattle.calculus.specs.Syntax.{State}
+use Rattle.calculus.specs.Reduction.{Rule, OUT, IN, REP, ATST, ATRE, ATFAIL, ATOK, ARDOK, ARDF, AWR, AOI, AOF, AOE}
+use Rattle.semantics.specs.Definitions.Configuration.{Component, Configuration}
+use Rattle.semantics.proofs.Moves.{localMove, accepted-inverts}
+use Rattle.blocks.proofs.Numbers.{by-number, BlockMove, begins, retries, fails, commits, acts-by}
+use Rattle.semantics.specs.Definitions.Moves.{Entry, act, inside, Answer, moved, refused, refusedBy, answerTo, effectOf, ruleNumber, replyOf}
+use Rattle.rules.specs.declared.Reply.{Reply}
+use Rattle.rules.specs.declared.Reply.the-variants.{Moved, Refused}
+use Rattle.rules.specs.Replies.{replyIs}
+use Rattle.index.specs.Holds.{Running}
+use Rattle.transactions.specs.declared.InnerMove.{InnerMove}
+use Rattle.transactions.specs.declared.InnerMove.the-variants as inner
+use Rattle.transactions.specs.declared.InnerMove.the-variants.{Found}
+use Rattle.transactions.specs.Finding.{replied}
+use Rattle.transactions.specs.Moving.{CanMove, HasMoved}
+use Rattle.choices.specs.declared.Entry as choices
+use Rattle.choices.specs.declared.Entry.the-variants.{Act, Inside}
+use Rattle.choices.specs.Entries.{entryOf, LookedInside}
+use Rattle.communication.specs.Tokens.{CanPut, TokenPut, CanTake, TokenTaken}
+use Rattle.blocks.specs.Ends.{Restarts, CanRestart, Restarted, CanCommit, Committed}
+use Rattle.index.specs.Choices.{afterwards, Looked, Accepts, Applied, Chosen}
+
+-- a refusal leaves the configuration as it was
+stays : (a : Answer) (h : Configuration) (m : ℕ) → replyOf a ≡ refusedBy m → afterwards a h ≡ h
+unfolding replyOf afterwards
+stays (moved r g) h m e = let z : _≡_ {A = ℕ} 0 1 = cc in absurd (omega arith)
+stays (refused k) h m e = refl
+
+module _ {d s starts : List ℕ} {n : ℕ} where
+  -- an entry whose look answers a rule may be made by it
+  pub looked-accepts : {e : Entry} {r : Reply} {rule : ℕ} → Running d s starts n → Looked d s starts n e r →
+      r ≡ Moved rule →
+      Accepts d s starts n e rule
+  unfolding replyIs
+  looked-accepts x l q = record {
+    terms = x .terms;
+    configuration = x .configuration;
+    decoded = x .decoded;
+    holds = x .holds;
+    reply = sym (l .found (x .terms) (x .configuration) (x .decoded) (x .holds)) ∙ ap replyIs q;
+  }
+
+  -- one that is made
+  pub chosen-moved : {e : Entry} {r : Reply} {rule : ℕ} {s′ starts′ : List ℕ} {n′ : ℕ} → Looked d s starts n e r →
+      r ≡ Moved rule →
+      Applied d s starts n e rule s′ starts′ n′ → Chosen d s starts n e (Moved rule) s′ starts′ n′
+  unfolding replyIs
+  chosen-moved l q a = record {
+    looked = rw q at l;
+    found = λ ts h y x. a .found ts h y x (sym (l .found ts h y x) ∙ ap replyIs q);
+  }
+
+  -- and one that is refused
+  pub chosen-refused : {e : Entry} {r : Reply} {m : ℕ} → Looked d s starts n e r → r ≡ Refused m →
+      Chosen d s starts n e (Refused m) s starts n
+  unfolding replyIs
+  chosen-refused {e} {r} {m} l q = record {
+    looked = rw q at l;
+    found = λ ts h y x. rw (stays (answerTo h e) h m (sym (l .found ts h y x) ∙ ap replyIs q)) x;
+  }
+
+  -- what is held afterwards is a run's again
+  pub chosen-running : {e : Entry} {r : Reply} {s′ starts′ : List ℕ} {n′ : ℕ} → Running d s starts n →
+      Chosen d s starts n e r s′ starts′ n′ → Running d s′ starts′ n′
+  chosen-running {e} x c = record {
+    terms = x .terms;
+    configuration = afterwards (answerTo (x .configuration) e) (x .configuration);
+    decoded = x .decoded;
+    holds = c .found (x .terms) (x .configuration) (x .decoded) (x .holds);
+  }
+
+-- ---- kind 1, by its rule: p is the position as the code has it, q as the entry has it
+
+-- the rules are numbered from 1 on
+rule-above : (r : Rule) → 1 ≤ ruleNumber r
+unfolding ruleNumber effectOf
+rule-above (OUT a) = lit≤ tt
+rule-above (IN a) = lit≤ tt
+rule-above (REP a) = lit≤ tt
+rule-above ATST = lit≤ tt
+rule-above ATRE = lit≤ tt
+rule-above ATFAIL = lit≤ tt
+rule-above (ATOK δ) = lit≤ tt
+rule-above ARDOK = lit≤ tt
+rule-above ARDF = lit≤ tt
+rule-above AWR = lit≤ tt
+rule-above AOI = lit≤ tt
+rule-above AOF = lit≤ tt
+rule-above AOE = lit≤ tt
+
+-- those from 4 on, of a block or its transaction, end with 7
+rule-below : {σ : State} {c : Component} {τ : State} {cs : List Component} (k : ℕ) → (4 ≤ k → BlockMove σ c k τ cs) →
+    k ≤ 7
+rule-below k f = elim (ℕ-discrete (k - 7) 0) [ yes z ↦ omega arith | no z ↦ go (f (omega arith)) ]
+  where
+    go : {σ : State} {c : Component} {τ : State} {cs : List Component} → BlockMove σ c k τ cs → k ≤ 7
+    go (begins n M e is f g) = omega arith
+    go (retries n M s e δ f is g h) = omega arith
+    go (fails n M s e δ f is g h) = omega arith
+    go (commits n M s e δ f q is g h) = omega arith
+
+-- an act is made by one of the rules 1 to 7
+act-rules : {d s starts : List ℕ} {n p rule : ℕ} → Accepts d s starts n (act p) rule → (1 ≤ rule) × (rule ≤ 7)
+unfolding localMove
+act-rules {p = p} {rule = rule} x =
+    let h = x .configuration in
+    let a = by-number h (act p) rule (x .reply) in
+    let m = accepted-inverts h (act p) (a .rule) (a .result) (a .answer) in
+    let b = rw (m .local) at (acts-by (h .counts) (m .component)) in
+    let low = rule-above (a .rule) in
+    let same = a .number in (omega arith, rw (← same) (rule-below (ruleNumber (a .rule)) b))
+
+taken : {d s starts : List ℕ} {n p rule : ℕ} → Accepts d s starts n (act p) rule → (rule ≡ 1 → ⊥) → rule < 4 →
+    (rule ≡ 2) ⊎ (rule ≡ 3)
+taken {rule = rule} x other below =
+    let b = act-rules x in elim (ℕ-discrete rule 2) [ yes is ↦ inl is | no is ↦ inr (omega arith) ]
+
+restarts : {rule : ℕ} → 4 ≤ rule → (rule ≡ 4 → ⊥) → rule < 7 → Restarts rule
+restarts {rule} above other below = elim (ℕ-discrete rule 5) [ yes is ↦ inl is | no is ↦ inr (omega arith) ]
+
+module _ {d s starts : List ℕ} {n p q rule : ℕ} (e : p ≡ q) where
+  renamed : (k : ℕ) → rule ≡ k → Accepts d s starts n (act q) rule → Accepts d s starts n (act p) k
+  renamed k is x = rw (e, ← is) x
+
+  renamed-back : (k : ℕ) → rule ≡ k → {s′ starts′ : List ℕ} {n′ : ℕ} → Applied d s starts n (act p) k s′ starts′ n′ →
+      Applied d s starts n (act q) rule s′ starts′ n′
+  renamed-back k is x = rw (← e, is) x
+
+  pub can-put : Accepts d s starts n (act q) rule → rule ≡ 1 → CanPut s starts n p
+  can-put x is = record { decoded = d; accepts = renamed 1 is x }
+
+  pub put-applied : {s′ starts′ : List ℕ} {n′ : ℕ} → TokenPut s starts n p s′ starts′ n′ → rule ≡ 1 →
+      Applied d s starts n (act q) rule s′ starts′ n′
+  put-applied f is = renamed-back 1 is (f .applied d)
+
+  -- IN and REP
+  pub can-take : Accepts d s starts n (act q) rule → (rule ≡ 1 → ⊥) → rule < 4 → CanTake d s starts n p
+  can-take x other below =
+      elim (taken x other below) [
+        | inl is ↦ record { repeated = false; accepts = renamed 2 is x }
+        | inr is ↦ record { repeated = true; accepts = renamed 3 is x }
+      ]
+
+  pub take-applied : {s′ starts′ : List ℕ} {n′ : ℕ} → TokenTaken d s starts n p s′ starts′ n′ →
+      Accepts d s starts n (act q) rule →
+      (rule ≡ 1 → ⊥) → rule < 4 → Applied d s starts n (act q) rule s′ starts′ n′
+  take-applied f x other below =
+      elim (taken x other below) [
+        | inl is ↦ renamed-back 2 is (f .applied false)
+        | inr is ↦ renamed-back 3 is (f .applied true)
+      ]
+
+  -- ATST
+  pub can-begin : Accepts d s starts n (act q) rule → rule ≡ 4 → Accepts d s starts n (act p) 4
+  can-begin x is = renamed 4 is x
+
+  pub begin-applied : {s′ starts′ : List ℕ} → Applied d s starts n (act p) 4 s′ starts′ n → rule ≡ 4 →
+      Applied d s starts n (act q) rule s′ starts′ n
+  begin-applied f is = renamed-back 4 is f
+
+  -- ATRE and ATFAIL
+  pub can-restart : Accepts d s starts n (act q) rule → 4 ≤ rule → (rule ≡ 4 → ⊥) → rule < 7 → CanRestart s starts n p
+  can-restart x above other below =
+      record { decoded = d; rule = rule; either = restarts above other below; accepts = renamed rule refl x }
+
+  pub restart-applied : {s′ starts′ : List ℕ} → Restarted s starts n p s′ starts′ → 4 ≤ rule → (rule ≡ 4 → ⊥) →
+      rule < 7 →
+      Applied d s starts n (act q) rule s′ starts′ n
+  restart-applied f above other below = renamed-back rule refl (f .found d rule (restarts above other below))
+
+  -- ATOK
+  pub can-commit : Accepts d s starts n (act q) rule → 7 ≤ rule → CanCommit s starts n p
+  can-commit x above = let b = act-rules x in record { decoded = d; accepts = renamed 7 (omega arith) x }
+
+  pub commit-applied : {s′ starts′ : List ℕ} {n′ : ℕ} → Committed s starts n p s′ starts′ n′ →
+      Accepts d s starts n (act q) rule →
+      7 ≤ rule → Applied d s starts n (act q) rule s′ starts′ n′
+  commit-applied f x above = let b = act-rules x in renamed-back 7 (omega arith) (f .found d)
+
+-- ---- kind 2
+
+module _ {d s starts : List ℕ} {n p q k : ℕ} {r : InnerMove} (l : LookedInside d s starts n q k r) where
+  pub can-move : {rule at : ℕ} → Running d s starts n → r ≡ Found rule at → p ≡ q → CanMove d s starts n p rule at
+  unfolding replied replyIs
+  can-move {rule} {at} x is e = rw e (record {
+    terms = x .terms;
+    configuration = x .configuration;
+    node = k;
+    move = record {
+      decoded = x .decoded;
+      holds = x .holds;
+      place = l .place rule at is;
+      reply = sym (l .looked .found (x .terms) (x .configuration) (x .decoded) (x .holds))
+          ∙ ap (λ m. replyIs (replied m)) is;
+    };
+  })
+
+  pub inside-moved : {rule at : ℕ} {s′ starts′ : List ℕ} → HasMoved d s starts n p rule at s′ starts′ →
+      r ≡ Found rule at → p ≡ q →
+      Chosen d s starts n (inside q k) (Moved rule) s′ starts′ n
+  unfolding replied replyIs
+  inside-moved {rule} {at} {s′} {starts′} f is e =
+      let g : HasMoved d s starts n q rule at s′ starts′ = rw e at f in
+      chosen-moved (l .looked) (ap replied is) (record {
+        found = λ ts h y x reply.
+            g .found ts h k (record { decoded = y; holds = x; place = l .place rule at is; reply = reply });
+      })
+
+pub inside-refused : {d s starts : List ℕ} {n q k m : ℕ} {r : InnerMove} → LookedInside d s starts n q k r →
+    r ≡ inner.Refused m →
+    Chosen d s starts n (inside q k) (Refused m) s starts n
+unfolding replied
+inside-refused l is = chosen-refused (l .looked) (ap replied is)
+
+-- ---- either kind
+
+module _ {d s starts s′ starts′ : List ℕ} {n n′ : ℕ} {r : Reply} (x : choices.Entry) where
+  pub made-act : {p : ℕ} → Chosen d s starts n (act p) r s′ starts′ n′ → x ≡ Act p →
+      Chosen d s starts n (entryOf x) r s′ starts′ n′
+  made-act c is = rw is c
+
+  pub made-inside : {p k : ℕ} → Chosen d s starts n (inside p k) r s′ starts′ n′ → x ≡ Inside p k →
+      Chosen d s starts n (entryOf x) r s′ starts′ n′
+  made-inside c is = rw is c

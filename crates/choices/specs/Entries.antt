@@ -1,0 +1,76 @@
+-- What the code of this crate says of entries (choices): which entry of the definitions one is, what is found inside a
+-- transaction (attempt), and what a suggestion answers.
+--
+-- d is a decoded table; s has the bytes, starts the index, n the number of components (stations); p is a position.
+-- Assumes nothing.
+use Prim.Native.Nat.{ℕ, _+_, _≤_}
+use mathlib.Core.Path.{_≡_}
+use mathlib.Core.List.{List}
+use lib.ListN.{getD}
+use Rattle.semantics.specs.Definitions.Layout.{maxByte}
+use Rattle.semantics.specs.Definitions.Terms.{Term}
+use Rattle.semantics.specs.Definitions.Configuration.{Configuration}
+use Rattle.semantics.specs.Definitions.Moves as moves
+use Rattle.semantics.specs.Definitions.Calls.{SuggestAnswer, suggested, still, IsRefused, Suggestable}
+use Rattle.terms.specs.Decoded.{Decoded}
+use Rattle.stored.specs.declared.Place.the-variants.{At}
+use Rattle.stored.specs.Layout.{transactionHead}
+use Rattle.stored.specs.Nodes.{nodeStart}
+use Rattle.index.specs.Holds.{Holds}
+use Rattle.index.specs.Choices.{Looked}
+use Rattle.transactions.specs.declared.InnerMove.{InnerMove}
+use Rattle.transactions.specs.declared.InnerMove.the-variants.{Found}
+use Rattle.transactions.specs.Finding.{replied}
+use Rattle.choices.specs.declared.Entry.{Entry}
+use Rattle.choices.specs.declared.Entry.the-variants.{Act, Inside}
+use Rattle.choices.specs.declared.suggests.Suggestion.{Suggestion}
+use Rattle.choices.specs.declared.suggests.Suggestion.the-variants.{Accepted, Still}
+
+-- ---- an entry
+
+-- the entry of the definitions
+abbrev pub entryOf : Entry → moves.Entry
+entryOf (Act p) = moves.act p
+entryOf (Inside p k) = moves.inside p k
+
+-- ---- inside a transaction
+
+-- r is what an entry of kind 2 is answered, and where it is accepted its node stands at the offset that r has
+pub record LookedInside (d s starts : List ℕ) (n p k : ℕ) (r : InnerMove) : Type 0 where
+  pub looked : Looked d s starts n (moves.inside p k) (replied r)
+  pub place : (rule at : ℕ) → r ≡ Found rule at → nodeStart s (getD starts p 0 + transactionHead) k ≡ At at
+
+-- ---- a suggestion
+
+-- the answer of the definitions
+abbrev pub suggestionOf : Suggestion → SuggestAnswer
+suggestionOf (Accepted e) = suggested (entryOf e)
+suggestionOf Still = still
+
+-- of whichever configuration of whichever table is held
+abbrev pub Always : (d s starts : List ℕ) (n : ℕ) → (Configuration → Type 0) → Type 0
+Always d s starts n P = (ts : List Term) (h : Configuration) → Decoded ts d → Holds ts h s starts n → P h
+
+-- the suggestion may be given
+pub record Suggests (d s starts : List ℕ) (n : ℕ) (r : Suggestion) : Type 0 where
+  pub found : Always d s starts n (λ h. Suggestable h (suggestionOf r))
+
+-- no entry of kind 2 is accepted at a position; no entry at all
+abbrev pub QuietInside : ℕ → Configuration → Type 0
+QuietInside p h = (k : ℕ) → k ≤ maxByte → IsRefused (moves.answerTo h (moves.inside p k))
+
+pub record QuietAt (p : ℕ) (h : Configuration) : Type 0 where
+  pub outside : IsRefused (moves.answerTo h (moves.act p))
+  pub within : QuietInside p h
+
+-- an entry that may be suggested; or else this is so
+abbrev pub SuggestableOr : (Configuration → Type 0) → Suggestion → Configuration → Type 0
+SuggestableOr Q (Accepted e) h = Suggestable h (suggested (entryOf e))
+SuggestableOr Q Still h = Q h
+
+-- of the entries of kind 2 at a position one may be suggested, or none is accepted; the same of all entries there
+pub record SuggestsInside (d s starts : List ℕ) (n p : ℕ) (r : Suggestion) : Type 0 where
+  pub found : Always d s starts n (SuggestableOr (QuietInside p) r)
+
+pub record SuggestsAt (d s starts : List ℕ) (n p : ℕ) (r : Suggestion) : Type 0 where
+  pub found : Always d s starts n (SuggestableOr (QuietAt p) r)

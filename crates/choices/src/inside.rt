@@ -1,0 +1,59 @@
+// Entries of kind 2 (to move inside a transaction): rules 8 to 13, at a position and a node.
+use buffer::wide;
+use rules::NO_COMPONENT;
+use rules::Reply;
+use rules::WRONG_COMPONENT;
+use stored::INDEX_SIZE;
+use stored::KIND_TRANSACTION;
+use terms::DECODED;
+use transactions::InnerMove;
+ghost use Rattle.semantics.specs.Definitions.Moves.{inside};
+ghost use Rattle.index.specs.Holds.{Running};
+ghost use Rattle.index.specs.Choices.{Chosen};
+ghost use Rattle.choices.specs.Entries.{LookedInside};
+
+// What the entry is answered, and where its node stands. Nothing changes.
+pub fn find_inside(
+    decoded: &[u8; DECODED],
+    hall: &[u8],
+    starts: &[usize; INDEX_SIZE],
+    components: usize,
+    position: u8,
+    node: u8,
+) -> InnerMove
+    requires { ⌜ Running (now decoded) (now hall) (now starts) components ⌝ }
+    ensures { λ r. ⌜ LookedInside (now (decoded .entry)) (now (hall .entry)) (now (starts .entry)) components position
+        node r ⌝ }
+{
+    let p = wide(position);
+    if components <= p {
+        return InnerMove::Refused(NO_COMPONENT);
+    }
+    let begin = starts[p];
+    if hall[begin] != KIND_TRANSACTION {
+        return InnerMove::Refused(WRONG_COMPONENT);
+    }
+    transactions::find(decoded, hall, begin, node)
+}
+
+// The entry made, where the look accepts it. As many components stay.
+pub fn act_inside(
+    decoded: &[u8; DECODED],
+    hall: &mut [u8],
+    starts: &mut [usize; INDEX_SIZE],
+    components: usize,
+    position: u8,
+    node: u8,
+) -> Reply
+    requires { ⌜ Running (now decoded) (now hall) (now starts) components ⌝ }
+    ensures { λ r. ⌜ Chosen (now (decoded .entry)) (now (hall .entry)) (now (starts .entry)) components
+        (inside position node) r (now (hall .exit)) (now (starts .exit)) components ⌝ }
+{
+    match find_inside(decoded, hall, starts, components, position, node) {
+        InnerMove::Found { rule, at } => {
+            transactions::apply(decoded, hall, starts, components, wide(position), rule, at);
+            Reply::Moved(rule)
+        }
+        InnerMove::Refused(number) => Reply::Refused(number),
+    }
+}

@@ -1,0 +1,54 @@
+// One entry of a schedule (document 01's choice) on a configuration (hall) that a run holds: looked at, made, or looked
+// for.
+//
+// A look only reads; what is made is what the look found. A suggestion goes through the looks alone.
+mod acts;
+mod inside;
+mod suggests;
+
+pub use acts::act;
+pub use acts::look_act;
+pub use inside::act_inside;
+pub use inside::find_inside;
+use rules::Reply;
+use stored::INDEX_SIZE;
+pub use suggests::Suggestion;
+pub use suggests::first_accepted;
+use terms::DECODED;
+ghost use Rattle.index.specs.Holds.{Running};
+ghost use Rattle.index.specs.Choices.{Chosen};
+ghost use Rattle.choices.specs.Entries.{entryOf};
+
+// An entry: of kind 1, to act at a position; of kind 2, to move inside the transaction (attempt) at a position, at a
+// node.
+pub enum Entry {
+    Act { position: u8 },
+    Inside { position: u8, node: u8 },
+}
+
+// What an entry was answered, and how many components (stations) there are now.
+pub struct Made {
+    pub reply: Reply,
+    pub components: usize,
+}
+
+// An entry of either kind made, where it is accepted.
+pub fn make(
+    decoded: &[u8; DECODED],
+    hall: &mut [u8],
+    starts: &mut [usize; INDEX_SIZE],
+    components: usize,
+    entry: Entry,
+) -> Made
+    requires { ⌜ Running (now decoded) (now hall) (now starts) components ⌝ }
+    ensures { λ r. ⌜ Chosen (now (decoded .entry)) (now (hall .entry)) (now (starts .entry)) components (entryOf entry)
+        (r .reply) (now (hall .exit)) (now (starts .exit)) (r .components) ⌝ }
+{
+    match entry {
+        Entry::Act { position } => act(decoded, hall, starts, components, position),
+        Entry::Inside { position, node } => {
+            let reply = act_inside(decoded, hall, starts, components, position, node);
+            Made { reply, components }
+        }
+    }
+}

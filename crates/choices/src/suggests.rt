@@ -1,0 +1,92 @@
+// A suggestion: the first entry that is accepted, at the lowest position, there kind 1 before kind 2, and of kind 2 at
+// the lowest node.
+use crate::Entry;
+use crate::acts::look_act;
+use crate::inside::find_inside;
+use buffer::wide;
+use rules::Reply;
+use stored::INDEX_SIZE;
+use stored::KIND_TRANSACTION;
+use stored::MAX_NODES;
+use terms::DECODED;
+use transactions::InnerMove;
+ghost use Prim.Native.Nat.{_<_};
+ghost use Rattle.index.specs.Holds.{Running};
+ghost use Rattle.choices.specs.Entries.{Suggests, SuggestsInside, SuggestsAt};
+
+// An entry that is accepted, or none is (document 01's still: quiescent).
+pub enum Suggestion {
+    Accepted(Entry),
+    Still,
+}
+
+// The first entry of kind 2 that is accepted at the position of a transaction. Its tree has no more nodes than these.
+fn first_inside(
+    decoded: &[u8; DECODED],
+    hall: &[u8],
+    starts: &[usize; INDEX_SIZE],
+    components: usize,
+    position: u8,
+) -> Suggestion
+    requires { ⌜ Running (now decoded) (now hall) (now starts) components ⌝ }
+    ensures { λ r. ⌜ SuggestsInside (now (decoded .entry)) (now (hall .entry)) (now (starts .entry)) components position
+        r ⌝ }
+{
+    let mut node: u8 = 0;
+    while node < MAX_NODES {
+        if let InnerMove::Found { rule: _, at: _ } = find_inside(
+            decoded,
+            hall,
+            starts,
+            components,
+            position,
+            node,
+        ) {
+            return Suggestion::Accepted(Entry::Inside { position, node });
+        }
+        node += 1;
+    }
+    Suggestion::Still
+}
+
+// The first entry that is accepted at a position.
+fn first_at(
+    decoded: &[u8; DECODED],
+    hall: &[u8],
+    starts: &[usize; INDEX_SIZE],
+    components: usize,
+    position: u8,
+) -> Suggestion
+    requires { ⌜ Running (now decoded) (now hall) (now starts) components × (position < components) ⌝ }
+    ensures { λ r. ⌜ SuggestsAt (now (decoded .entry)) (now (hall .entry)) (now (starts .entry)) components position
+        r ⌝ }
+{
+    if let Reply::Moved(_) = look_act(decoded, hall, starts, components, position) {
+        return Suggestion::Accepted(Entry::Act { position });
+    }
+    let begin = starts[wide(position)];
+    if hall[begin] != KIND_TRANSACTION {
+        return Suggestion::Still;
+    }
+    first_inside(decoded, hall, starts, components, position)
+}
+
+// The first entry that is accepted; still where there is none.
+pub fn first_accepted(
+    decoded: &[u8; DECODED],
+    hall: &[u8],
+    starts: &[usize; INDEX_SIZE],
+    components: usize,
+) -> Suggestion
+    requires { ⌜ Running (now decoded) (now hall) (now starts) components ⌝ }
+    ensures { λ r. ⌜ Suggests (now (decoded .entry)) (now (hall .entry)) (now (starts .entry)) components r ⌝ }
+{
+    let mut position: u8 = 0;
+    while wide(position) < components {
+        if let Suggestion::Accepted(entry) = first_at(decoded, hall, starts, components, position) {
+            return Suggestion::Accepted(entry);
+        }
+        position += 1;
+    }
+    Suggestion::Still
+}

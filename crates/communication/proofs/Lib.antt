@@ -1,0 +1,4 @@
+pub mod Acting
+pub mod Links
+pub mod Putting
+pub mod Taking

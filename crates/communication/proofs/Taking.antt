@@ -1,0 +1,356 @@
+-- IN and REP: a law for each need of the code.
+-- Assumes nothing.
+use Prim.Native.Nat.{ℕ, _+_, _-_, _/_, _≤_, _<_}
+use native.Mathlib.Omega.{arith}
+use mathlib.Core.Path.{_≡_, refl, sym, ap, _∙_}
+use mathlib.Core.Bool.{Bool, true, false}
+use mathlib.Core.Option.{some}
+use mathlib.Core.List.{List, [], _∷_, _++_, map, flatten, map-append}
+use lib.ListN.{length, getD, take, set, getElem?, length-append, length-take}
+use lib.Seq.{take-at, take-length}
+use lib.Dec.{leb}
+use borrow.Author.Tests.{leb-true, leb-false, le-leb}
+use Rattle.calculus.specs.Syntax.{Name}
+use Rattle.semantics.specs.Definitions.Layout.{maxTerms, maxComponents}
+use Rattle.semantics.specs.Definitions.Terms.{Program, Term, process}
+use Rattle.semantics.specs.Definitions.Table.{repeatK}
+use Rattle.semantics.specs.Definitions.Configuration.{repeating, idle, Configuration, opens}
+use Rattle.semantics.specs.Definitions.Stored.{componentBytes}
+use Rattle.semantics.specs.Definitions.Moves as moves
+use Rattle.semantics.specs.Definitions.Moves.{act, answerTo, replyOf}
+use Rattle.semantics.proofs.Lists.{found-below}
+use Rattle.semantics.proofs.RoundTrip.{width-bounds-opening}
+use Rattle.records.specs.Shapes.{kindByte}
+use Rattle.terms.specs.Decoded.{kindAt, firstAt, secondAt, breadthAt, breadth, Decoded}
+use Rattle.buffer.specs.Splice.{written}
+use Rattle.buffer.proofs.Written.{written-length, written-twice}
+use Rattle.stored.specs.Layout.{channels, idleSize, componentBody, waitingKind}
+use Rattle.storedlaws.specs.Positions.{allBytes}
+use Rattle.storedlaws.proofs.Configurations.{all-bytes-append}
+use Rattle.opening.specs.Opening.{openedBytes, ComponentsFit, ComponentsWritten, OpenedCounted}
+use Rattle.opening.proofs.Components.{opened-fits}
+use Rattle.opening.proofs.Opening.{process-fits}
+use Rattle.rules.specs.declared.Reply.{Reply}
+use Rattle.rules.specs.declared.Reply.the-variants.{Moved, Refused}
+use Rattle.rules.specs.Replies.{replyIs}
+use Rattle.index.specs.Holds.{Holds, CanReplace, Replaced}
+use Rattle.index.proofs.Holding.{hall-length, few-components, count-here, position-below}
+use Rattle.communication.specs.Tokens.{takeOf, takeTerm, successors, staying, takeNumber, laidSize, TakeHeld, TakeLooked, RoomAsked, RoomTested, CanWriteSuccessors, SuccessorsWritten, CanTake, TokenTaken}
+use Rattle.communication.proofs.Acting.{TakesHere, takes-there, many-after, empty-refused, crowded-refused, take-accepted, take-number}
+use Rattle.communication.proofs.Links.{takeKind, TakeIn, take-in, position-inside, body-inside, waits-on, take-body, take-token, take-link, linked-can, linked-held}
+
+-- ---- room for what opens
+
+module _ (d : List ℕ) (i more n : ℕ) where
+  pub room-inside : RoomAsked d i more n → i < maxTerms
+  room-inside x =
+      let y = x .continuation in
+      let l = found-below (y .terms) i _ (y .at) in
+      let f = y .decoded .good .few in omega arith
+
+  pub opened-few : (k : ℕ) → RoomAsked d i more n → OpenedCounted d i k → k ≤ maxComponents
+  opened-few k x w =
+      let y = x .continuation in
+      let e = w .found (y .terms) (y .tree) (y .decoded) (y .at) in
+      let l = y .decoded .good .limits i _ (y .at) in
+      let o = width-bounds-opening (y .tree) in omega arith
+
+  module _ (others : ℕ) (o : others ≡ n - 1 + more) where
+    -- a process that is not too wide opens into no more
+    pub narrow-enough : (b w : ℕ) → b ≡ breadthAt d i → w ≡ b → others + w ≤ maxComponents → RoomTested d i more n true
+    unfolding breadth
+    narrow-enough b w p q l = record {
+      found = λ ts P y e.
+          let m = y .measures i (process P) e .0 in
+          let v = width-bounds-opening P in sym (le-leb (n - 1 + more + length (opens P)) maxComponents (omega arith));
+    }
+
+    pub counted-enough : (k : ℕ) → OpenedCounted d i k → RoomTested d i more n (leb (others + k) maxComponents)
+    counted-enough k w = record {
+      found = λ ts P y e.
+          let z = w .found ts P y e in
+          let v : others + k ≡ n - 1 + more + length (opens P) = omega arith in rw v;
+    }
+
+-- ---- the look
+
+-- what was tested of the kind of the term says whether it is a repeated take
+abbrev pub KindTested : (repeated : Bool) → ℕ → Type 0
+KindTested true kind = kind ≡ kindByte repeatK
+KindTested false kind = kind ≡ kindByte repeatK → ⊥
+
+tested : (b b′ : Bool) (kind : ℕ) → KindTested b kind → kind ≡ takeKind b′ → b′ ≡ b
+tested false false kind x e = refl
+tested false true kind x e = absurd (x e)
+tested true false kind x e = absurd (omega arith)
+tested true true kind x e = refl
+
+-- the answer where a token is there, by the room for what opens
+abbrev roomReply : (repeated room : Bool) → Reply
+roomReply b true = Moved (takeNumber b)
+roomReply b false = Refused 19
+
+module _ (d s : List ℕ) (n m i : ℕ) (same : i ≡ m) where
+  module _ (x : TakeHeld d s n m) where
+    held-at : getElem? (x .terms) m ≡ some (takeTerm (x .repeated) m (x .channel) (x .continuation))
+    held-at = waits-on (x .holds) (x .position) (x .repeated) m (x .channel) (x .continuation) (x .there)
+
+    held-in : TakeIn (x .terms) d (x .repeated) m (x .channel) (x .continuation)
+    held-in = take-in (x .decoded) (x .repeated) m (x .channel) (x .continuation) held-at
+
+    pub looked-inside : i < maxTerms
+    looked-inside = rw same (held-in .inside)
+
+    pub looked-channel : (f a : ℕ) → f ≡ firstAt d i → a ≡ f → a < length s
+    looked-channel f a p q =
+        let l = held-in .below in
+        let e = held-in .channel in
+        let z = hall-length (x .holds) in
+        let v : a ≡ firstAt d m = q ∙ rw same at p in omega arith
+
+    pub room-asked : (g k more : ℕ) → g ≡ secondAt d i → k ≡ g → more ≤ 1 → RoomAsked d k more n
+    room-asked g k more p q l =
+        let v : k ≡ secondAt d m = q ∙ rw same at p in
+        let b = position-below (x .holds) (x .position) _ (x .there) in
+        record {
+          continuation = record {
+            terms = x .terms;
+            tree = x .continuation;
+            decoded = x .decoded;
+            at = rw v (held-in .continuation);
+          };
+          any = omega arith;
+          few = few-components (x .holds);
+          one = l;
+        }
+
+  module _ (f a : ℕ) (p : f ≡ firstAt d i) (q : a ≡ f) where
+    -- the count of the channel is that of the component's
+    counted : {ts : List Term} {h : Configuration} {starts : List ℕ} (y : Decoded ts d) (x : Holds ts h s starts n)
+        (b : Bool) (c : Name) (P : Program) → getElem? ts m ≡ some (takeTerm b m c P) →
+        getD s a 0 ≡ getD (h .counts) c 0
+    counted y x b c P e =
+        let v : a ≡ c = q ∙ (rw same at p) ∙ take-in y b m c P e .channel in
+        rw v (count-here x c (take-in y b m c P e .below))
+
+    pub empty-looked : getD s a 0 ≡ 0 → TakeLooked d s n m (Refused 18)
+    unfolding replyIs
+    empty-looked z = record {
+      found = λ ts h starts p b c P y x e.
+          let v = counted y x b c P (waits-on x p b m c P e) in sym (empty-refused h p b m c P e (sym v ∙ z));
+    }
+
+    module _ (z : getD s a 0 ≡ 0 → ⊥) (g k : ℕ) (o : g ≡ secondAt d i) (t : k ≡ g) (kind : ℕ)
+        (u : kind ≡ kindAt d i) where
+      room-looked : (b : Bool) → KindTested b kind → (r : Bool) → RoomTested d k (staying b) n r →
+          TakeLooked d s n m (roomReply b r)
+      unfolding replyIs replyOf
+      room-looked b w r told = record {
+        found = λ ts h starts p b′ c P y x e.
+            let l = waits-on x p b′ m c P e in
+            let v = counted y x b′ c P l in
+            let of-kind : kind ≡ kindAt d m = rw same at u in
+            let like : b′ ≡ b = tested b b′ kind w (of-kind ∙ take-in y b′ m c P l .kind) in
+            let at-second : k ≡ secondAt d m = t ∙ rw same at o in
+            let there : getElem? ts k ≡ some (process P) = rw at-second (take-in y b′ m c P l .continuation) in
+            go h p c P (rw like at e) (λ j. z (v ∙ j)) r (rw (x .counted) at (told .found ts P y there));
+      }
+        where
+          go : (h : Configuration) (p : ℕ) (c : Name) (P : Program) →
+              getElem? (h .components) p ≡ some (idle (takeOf b m c P)) → (getD (h .counts) c 0 ≡ 0 → ⊥) → (r : Bool) →
+              r ≡ leb (length (h .components) - 1 + staying b + length (opens P)) maxComponents →
+              replyIs (roomReply b r) ≡ replyOf (answerTo h (act p))
+          go h p c P e j true told =
+              let l = leb-true (length (h .components) - 1 + staying b + length (opens P)) maxComponents (sym told) in
+              let f = many-after h p b m c P e in
+              sym (ap replyOf (take-accepted h p b m c P e j (omega arith)) ∙ ap moves.movedBy (take-number b c))
+          go h p c P e j false told =
+              let l = leb-false (length (h .components) - 1 + staying b + length (opens P)) maxComponents (sym told) in
+              let f = many-after h p b m c P e in
+              sym (crowded-refused h p b m c P e j (omega arith))
+
+      module _ (r : Bool) where
+        pub rep-looked : kind ≡ kindByte repeatK → RoomTested d k 1 n r → r ≡ true → TakeLooked d s n m (Moved 3)
+        rep-looked w told e = room-looked true w true (rw e at told)
+
+        pub rep-crowded : kind ≡ kindByte repeatK → RoomTested d k 1 n r → r ≡ false → TakeLooked d s n m (Refused 19)
+        rep-crowded w told e = room-looked true w false (rw e at told)
+
+        pub in-looked : (kind ≡ kindByte repeatK → ⊥) → RoomTested d k 0 n r → r ≡ true → TakeLooked d s n m (Moved 2)
+        in-looked w told e = room-looked false w true (rw e at told)
+
+        pub in-crowded : (kind ≡ kindByte repeatK → ⊥) → RoomTested d k 0 n r → r ≡ false →
+            TakeLooked d s n m (Refused 19)
+        in-crowded w told e = room-looked false w false (rw e at told)
+
+-- ---- what is laid down
+
+-- what is written at the front stands there
+written-front : (s v : List ℕ) → take (length v) (written s 0 v (length v)) ≡ v
+unfolding written
+written-front s v = rw (take-length v) (take-at v _ (length v) refl)
+
+-- the repeated take stays behind what opens
+staying-bytes : (m : ℕ) (a : Name) (P : Program) →
+    allBytes (map idle (successors true m a P)) ≡ openedBytes P ++ (waitingKind ∷ m ∷ [])
+unfolding openedBytes allBytes flatten componentBytes
+staying-bytes m a P =
+    rw (map-append idle (opens P) (repeating m a P ∷ []))
+    (all-bytes-append (map idle (opens P)) (idle (repeating m a P) ∷ []))
+
+module _ (d : List ℕ) (m i : ℕ) (same : i ≡ m) (s : List ℕ) (x : CanWriteSuccessors d m s) where
+  write-successors-in : TakeIn (x .take .terms) d (x .take .repeated) m (x .take .channel) (x .take .continuation)
+  write-successors-in = let y = x .take in take-in (y .decoded) (y .repeated) m (y .channel) (y .continuation) (y .at)
+
+  pub write-successors-inside : i < maxTerms
+  write-successors-inside = rw same (write-successors-in .inside)
+
+  module _ (g k : ℕ) (o : g ≡ secondAt d i) (t : k ≡ g) where
+    at-second : k ≡ secondAt d m
+    at-second = t ∙ rw same at o
+
+    continuation-at : getElem? (x .take .terms) k ≡ some (process (x .take .continuation))
+    continuation-at = rw at-second (write-successors-in .continuation)
+
+    pub continuation-fits : ComponentsFit d k s 0
+    continuation-fits =
+        let y = x .take in
+        let z = x .sized in
+        process-fits d k s 0
+        (record { terms = y .terms; tree = y .continuation; decoded = y .decoded; at = continuation-at })
+        (omega arith)
+
+    module _ (s₁ : List ℕ) (end : ℕ) (w : ComponentsWritten d k s 0 s₁ end) where
+      opened : (ts : List Term) (b : Bool) (a : Name) (P : Program) → Decoded ts d →
+          getElem? ts m ≡ some (takeTerm b m a P) →
+          (end ≡ 0 + length (openedBytes P)) × (s₁ ≡ written s 0 (openedBytes P) (length (openedBytes P)))
+      opened ts b a P y e = w .found ts P y (rw at-second (take-in y b m a P e .continuation))
+
+      -- the take fits behind what opens
+      pub behind-fits : end + idleSize ≤ length s₁
+      behind-fits =
+          let y = x .take in
+          let v = openedBytes (y .continuation) in
+          let q = opened (y .terms) (y .repeated) (y .channel) (y .continuation) (y .decoded) (y .at) in
+          let l = y .decoded .good .limits k _ continuation-at in
+          let f = opened-fits (y .continuation) in
+          let z = x .sized in
+          let u : length s₁ ≡ length s =
+          ap length (q .1) ∙ written-length s 0 v (length v) (omega arith) (omega arith) in
+          omega (arith, q .0)
+
+      module _ (kind : ℕ) (u : kind ≡ kindAt d i) where
+        of-kind : kind ≡ kindAt d m
+        of-kind = rw same at u
+
+        pub take-laid : (kind ≡ kindByte repeatK → ⊥) → SuccessorsWritten d m s₁ end
+        unfolding openedBytes
+        take-laid h = record {
+          found = λ ts b a P y e.
+              let like = tested false b kind h (of-kind ∙ take-in y b m a P e .kind) in
+              let q = opened ts b a P y e in
+              let z : end ≡ length (openedBytes P) = omega (arith, q .0) in
+              rw (like, z, q .1) (refl, written-front s (openedBytes P));
+        }
+
+        pub repeat-laid : kind ≡ kindByte repeatK → (r : ℕ) → r ≡ end + idleSize → (s₂ : List ℕ) →
+            s₂ ≡ written s₁ end (waitingKind ∷ m ∷ []) idleSize → SuccessorsWritten d m s₂ r
+        repeat-laid h r j s₂ p = record {
+          found = λ ts b a P y e.
+              let like = tested true b kind h (of-kind ∙ take-in y b m a P e .kind) in
+              let q = opened ts b a P y e in
+              let v = openedBytes P ++ (waitingKind ∷ m ∷ []) in
+              let l = length-append (openedBytes P) (waitingKind ∷ m ∷ []) in
+              let z : r ≡ length v = omega (arith, q .0) in
+              let all : s₂ ≡ written s 0 v (length v) =
+              p ∙ rw (q .0, q .1) (written-twice s (openedBytes P) (waitingKind ∷ m ∷ []) 0 (omega arith)) in
+              rw (like, staying-bytes m a P, z, all) (refl, written-front s v);
+        }
+
+-- ---- the move
+
+module _ (d s starts : List ℕ) (n p : ℕ) where
+  -- the term that the bytes name at the position
+  abbrev term : ℕ
+  term = getD s (getD starts p 0 + componentBody) 0
+
+  module _ (x : CanTake d s starts n p) where
+    taker-here : TakesHere (x .accepts .configuration) p (x .repeated)
+    taker-here = takes-there (x .accepts .configuration) p (x .repeated) (x .accepts .reply)
+
+    pub take-position : p < maxComponents
+    take-position = position-inside (x .accepts .holds) p _ (taker-here .there)
+
+    pub take-body-inside : getD starts p 0 + componentBody < length s
+    take-body-inside =
+        let l = body-inside (x .accepts .holds) p _ (taker-here .there) in
+        let z = hall-length (x .accepts .holds) in omega arith
+
+    term-at : getElem? (x .accepts .terms) term
+        ≡ some (takeTerm (x .repeated) term (taker-here .channel) (taker-here .continuation))
+    term-at =
+        let y = taker-here in
+        let v = take-body (x .accepts .holds) p (x .repeated) (y .number) (y .channel) (y .continuation) (y .there) in
+        rw v (waits-on (x .accepts .holds) p (x .repeated) (y .number) (y .channel) (y .continuation) (y .there))
+
+    pub take-term-inside : (i : ℕ) → i ≡ term → i < maxTerms
+    take-term-inside i e =
+        let y = taker-here in
+        rw e (take-in (x .accepts .decoded) (x .repeated) term (y .channel) (y .continuation) term-at .inside)
+
+    pub can-write-successors : (buffer : List ℕ) → length buffer ≡ laidSize → CanWriteSuccessors d term buffer
+    can-write-successors buffer l = record {
+      take = record {
+        terms = x .accepts .terms;
+        repeated = x .repeated;
+        channel = taker-here .channel;
+        continuation = taker-here .continuation;
+        decoded = x .accepts .decoded;
+        at = term-at;
+      };
+      sized = l;
+    }
+
+    module _ (bytes : List ℕ) (size : ℕ) (w : SuccessorsWritten d term bytes size) where
+      -- so many bytes are there
+      pub laid-counted : size ≡ length (take size bytes)
+      laid-counted =
+          let y = taker-here in
+          let z = x .accepts in
+          let v = w .found (z .terms) (x .repeated) (y .channel) (y .continuation) (z .decoded) term-at in
+          v .0 ∙ ap length (sym (v .1))
+
+      pub laid-inside : size ≤ length bytes
+      laid-inside = let l = laid-counted in let m = length-take size bytes in omega arith
+
+  module _ (i f a : ℕ) (e : i ≡ term) (u : f ≡ firstAt d i) (q : a ≡ f) where
+    at-first : a ≡ firstAt d term
+    at-first = q ∙ rw e at u
+
+    module _ (x : CanTake d s starts n p) where
+      token-there : (a < channels) × (0 < getD s a 0)
+      token-there =
+          let y = x .accepts in take-token (y .holds) p (y .decoded) (x .repeated) (y .reply) term a refl at-first
+
+      pub take-channel-inside : a < length s
+      take-channel-inside =
+          let l = token-there .0 in
+          let z = hall-length (x .accepts .holds) in omega arith
+
+      pub take-some : 1 ≤ getD s a 0
+      take-some = token-there .1
+
+      pub can-replace-take : (bytes : List ℕ) (size : ℕ) → SuccessorsWritten d term bytes size →
+          CanReplace (set s a (getD s a 0 - 1)) starts n p (take size bytes) (size / idleSize)
+      can-replace-take bytes size w =
+          let y = x .accepts in
+          linked-can (take-link (y .holds) p (y .decoded) (x .repeated) (y .reply) term a refl at-first bytes size w)
+
+    pub token-taken : (bytes : List ℕ) (size : ℕ) → SuccessorsWritten d term bytes size → (s′ starts′ : List ℕ) (n′ : ℕ) →
+        Replaced (set s a (getD s a 0 - 1)) starts n p (take size bytes) (size / idleSize) s′ starts′ n′ →
+        TokenTaken d s starts n p s′ starts′ n′
+    token-taken bytes size w s′ starts′ n′ r = record {
+      applied = λ b. record {
+        found = λ ts h y x z. linked-held (take-link x p y b z term a refl at-first bytes size w) r;
+      };
+    }

@@ -1,0 +1,53 @@
+-- `lay` meets its contract. Assumes nothing.
+use Rattle.communication.proofs.Taking.{write-successors-inside, continuation-fits, behind-fits, take-laid, repeat-laid}
+use borrow.Author.Needs.{needs}
+use Rattle.communication.proofs.takes.write_successors.Statement.{statement}
+use Rattle.communication.proofs.takes.write_successors.Tie as tie
+
+wide-requires : tie.Need-wide-requires
+wide-requires c κs = search needs
+
+second-of-requires : tie.Need-second-of-requires
+second-of-requires c κs = search write-successors-inside
+
+wide-requires-2 : tie.Need-wide-requires-2
+wide-requires-2 c κs = search needs
+
+write-components-requires : tie.Need-write-components-requires
+write-components-requires c κs =
+    let wide2 = c .before in
+    let second = wide2 .before in
+    let wide = second .before in
+    continuation-fits _ _ _ (wide .wide .ensures) _ (wide .before .pre) _ _ (second .second-of .ensures)
+    (wide2 .wide2 .ensures)
+
+kind-of-requires : tie.Need-kind-of-requires
+kind-of-requires c κs = search write-successors-inside
+
+write-idle-requires : tie.Need-write-idle-requires
+write-idle-requires c κs =
+    let written = c .before .before .before in
+    let wide2 = written .before .before in
+    let second = wide2 .before in
+    let wide = second .before in
+    behind-fits _ _ _ (wide .wide .ensures) _ (wide .before .pre) _ _ (second .second-of .ensures)
+    (wide2 .wide2 .ensures) _ _ (written .write-components .ensures)
+
+returns : tie.Need-returns
+returns c = search repeat-laid
+
+returns-2 : tie.Need-returns-2
+returns-2 c = search take-laid
+
+pub write-successors-spec : {M : Type 1} → statement M
+write-successors-spec =
+    tie.close
+    (tie.spec
+    wide-requires
+    second-of-requires
+    wide-requires-2
+    write-components-requires
+    kind-of-requires
+    write-idle-requires
+    returns
+    returns-2)

@@ -1,0 +1,102 @@
+// IN and REP: a component (station) takes a token from its channel (tray) and gives way to what its continuation opens
+// into; a repeated take stays behind that.
+use buffer::wide;
+use index::replace_component;
+use opening::opened_count;
+use opening::write_components;
+use opening::write_idle;
+use records::REPEATED_TAKE;
+use rules::EMPTY_CHANNEL;
+use rules::IN;
+use rules::REP;
+use rules::Reply;
+use rules::TOO_MANY_COMPONENTS;
+use stored::COMPONENT_BODY;
+use stored::IDLE_SIZE;
+use stored::INDEX_SIZE;
+use stored::KIND_WAITING;
+use stored::MAX_COMPONENTS;
+use terms::DECODED;
+ghost use Rattle.communication.specs.Tokens.{TakeHeld, TakeLooked, RoomAsked, RoomTested, CanWriteSuccessors, SuccessorsWritten, CanTake, TokenTaken};
+
+// What a take may lay down, in bytes: as many components as a process is wide, and the take itself.
+const LAID: usize = IDLE_SIZE * (MAX_COMPONENTS + 1);
+
+// Whether a component may give way to what a process opens into and so many more. The width bounds what opens, so that
+// counting is needed near the limit only.
+fn has_room(decoded: &[u8; DECODED], term: usize, more: usize, components: usize) -> bool
+    requires { ⌜ RoomAsked (now decoded) term more components ⌝ }
+    ensures { λ r. ⌜ RoomTested (now (decoded .entry)) term more components r ⌝ }
+{
+    let others = components - 1 + more;
+    if others + wide(terms::breadth_of(decoded, term)) <= MAX_COMPONENTS {
+        return true;
+    }
+    others + opened_count(decoded, term) <= MAX_COMPONENTS
+}
+
+// What IN or REP is answered at a component that waits on the take or repeated take of this number. An empty channel is
+// told before too many components.
+pub fn look_take(decoded: &[u8; DECODED], hall: &[u8], components: usize, term: u8) -> Reply
+    requires { ⌜ TakeHeld (now decoded) (now hall) components term ⌝ }
+    ensures { λ r. ⌜ TakeLooked (now (decoded .entry)) (now (hall .entry)) components term r ⌝ }
+{
+    let i = wide(term);
+    let channel = wide(terms::first_of(decoded, i));
+    if hall[channel] == 0 {
+        return Reply::Refused(EMPTY_CHANNEL);
+    }
+    let continuation = wide(terms::second_of(decoded, i));
+    if terms::kind_of(decoded, i) == REPEATED_TAKE {
+        if has_room(decoded, continuation, 1, components) {
+            return Reply::Moved(REP);
+        }
+        return Reply::Refused(TOO_MANY_COMPONENTS);
+    }
+    if has_room(decoded, continuation, 0, components) {
+        return Reply::Moved(IN);
+    }
+    Reply::Refused(TOO_MANY_COMPONENTS)
+}
+
+// The bytes of what stands in the take's place afterwards: the answer is how many they are.
+fn write_successors(decoded: &[u8; DECODED], term: u8, laid: &mut [u8; LAID]) -> usize
+    requires { ⌜ CanWriteSuccessors (now decoded) term (now laid) ⌝ }
+    ensures { λ r. ⌜ SuccessorsWritten (now (decoded .entry)) term (now (laid .exit)) r ⌝ }
+{
+    let i = wide(term);
+    let end = write_components(decoded, wide(terms::second_of(decoded, i)), laid, 0);
+    let kind = terms::kind_of(decoded, i);
+    if kind == REPEATED_TAKE {
+        return write_idle(laid, end, KIND_WAITING, term);
+    }
+    end
+}
+
+// IN or REP at a position. The answer is how many components there are now.
+pub fn take(
+    decoded: &[u8; DECODED],
+    hall: &mut [u8],
+    starts: &mut [usize; INDEX_SIZE],
+    components: usize,
+    position: usize,
+) -> usize
+    requires { ⌜ CanTake (now decoded) (now hall) (now starts) components position ⌝ }
+    ensures { λ r. ⌜ TokenTaken (now (decoded .entry)) (now (hall .entry)) (now (starts .entry)) components position
+        (now (hall .exit)) (now (starts .exit)) r ⌝ }
+{
+    let begin = starts[position];
+    let term = hall[begin + COMPONENT_BODY];
+    let channel = wide(terms::first_of(decoded, wide(term)));
+    hall[channel] = hall[channel] - 1;
+    let mut laid = [0u8; LAID];
+    let end = write_successors(decoded, term, &mut laid);
+    replace_component(
+        hall,
+        starts,
+        components,
+        position,
+        &laid[..end],
+        end / IDLE_SIZE,
+    )
+}

@@ -1,0 +1,45 @@
+-- Laws of a counter that rises, one for each way on which the code goes, and of the three together.
+-- Assumes nothing.
+use Prim.Native.Nat.{ℕ, _+_, _≤_}
+use native.Mathlib.Omega.{arith}
+use mathlib.Core.Path.{_≡_, ap}
+use borrow.Author.Tests.{eq-eqb, ne-eqb}
+use Rattle.calculus.specs.Reduction.{Rule}
+use Rattle.semantics.specs.Definitions.Layout.{counterTop}
+use Rattle.semantics.specs.Definitions.Moves.{ruleNumber}
+use Rattle.semantics.specs.Definitions.Run.{Counters, saturatingSuc, countedAt, counted}
+use Rattle.counters.specs.declared.Counters as code
+use Rattle.counters.specs.Counted.{countersOf, raisedBy}
+
+-- ---- one counter
+
+module _ (counts rule counter : ℕ) where
+  -- another rule, the top, one more
+  pub raised-not : (rule ≡ counts → ⊥) → counter ≡ raisedBy counts rule counter
+  unfolding raisedBy
+  raised-not h = rw (ne-eqb rule counts h)
+
+  pub raised-stays : rule ≡ counts → counter ≡ 4294967295 → 4294967295 ≡ raisedBy counts rule counter
+  unfolding raisedBy saturatingSuc
+  raised-stays h e = rw (eq-eqb rule counts h) (omega arith)
+
+  pub raised-one : rule ≡ counts → (counter ≡ 4294967295 → ⊥) → counter ≤ 4294967295 →
+      counter + 1 ≡ raisedBy counts rule counter
+  unfolding raisedBy saturatingSuc
+  raised-one h e l = rw (eq-eqb rule counts h) (omega arith)
+
+-- ---- the three
+
+-- after a move by a rule of this number each counter is what the definitions make of it
+pub all-raised : (t u : code.Counters) (rule : ℕ) (done : Rule) → ruleNumber done ≡ rule →
+    u .commits ≡ raisedBy 7 rule (t .commits) → u .failed ≡ raisedBy 6 rule (t .failed) →
+    u .retries ≡ raisedBy 5 rule (t .retries) →
+    countersOf u ≡ counted done (countersOf t)
+unfolding counted countedAt raisedBy
+all-raised t u rule done e c f r = rw (c, f, r, ← e)
+
+-- no two values of the code are one tally
+pub counters-injective : (t u : code.Counters) → countersOf t ≡ countersOf u → t ≡ u
+counters-injective t u e =
+    let x = ap (λ w. w .commits) e in let y = ap (λ w. w .failed) e in let z = ap (λ w. w .retries) e in
+    λ i. record { commits = x i; failed = y i; retries = z i }

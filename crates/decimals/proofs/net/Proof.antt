@@ -1,0 +1,21 @@
+-- The net of a channel meets its contract.
+-- Assumes nothing.
+use borrow.Author.Needs.{needs}
+use Rattle.decimals.proofs.net.Statement.{statement}
+use Rattle.decimals.proofs.net.Tie as tie
+use Rattle.decimals.proofs.Signed.{difference-fits, difference-net}
+
+cast-result : tie.Need-cast-result
+cast-result c = search needs
+
+cast-result-2 : tie.Need-cast-result-2
+cast-result-2 c = search needs
+
+sub-result : tie.Need-sub-result
+sub-result c = difference-fits _ _ (c .fits .last) (c .fits .first)
+
+returns : tie.Need-returns
+returns c = difference-net _ _ (c .fits .last) (c .fits .first)
+
+pub net-spec : {M : Type 1} → statement M
+net-spec = tie.close (tie.spec cast-result cast-result-2 sub-result returns)

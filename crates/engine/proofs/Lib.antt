@@ -1,0 +1,4 @@
+pub mod Admitted
+pub mod Calls
+pub mod Opening
+pub mod Verdicts

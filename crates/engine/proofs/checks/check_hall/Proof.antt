@@ -1,0 +1,23 @@
+-- `check_hall` meets its contract, return by return. Assumes nothing.
+use Rattle.engine.proofs.Admitted.{passed, turned-down}
+use borrow.Author.Needs.{needs}
+use Rattle.engine.proofs.checks.check_hall.Statement.{statement}
+use Rattle.engine.proofs.checks.check_hall.Tie as tie
+
+admit-requires : tie.Need-admit-requires
+admit-requires c κs = search needs
+
+enum-told : tie.Need-enum-told
+enum-told c = search needs
+
+enum-known-number : tie.Need-enum-known-number
+enum-known-number c = search needs
+
+returns : tie.Need-returns
+returns c = search passed
+
+returns-2 : tie.Need-returns-2
+returns-2 c = search turned-down
+
+pub check-hall-spec : {M : Type 1} → statement M
+check-hall-spec = tie.close (tie.spec admit-requires enum-told enum-known-number returns returns-2)

@@ -1,0 +1,26 @@
+// Checking a stored hall.
+use admission::Admission;
+use stored::INDEX_SIZE;
+use terms::DECODED;
+ghost use mathlib.Core.Path.{_≡_};
+ghost use Rattle.semantics.specs.Definitions.Calls.{checkHall};
+ghost use Rattle.engine.specs.Answers.{hallVerdictOf};
+
+// Whether a hall is well formed for a table; where not, the refusal's number and place.
+pub enum HallVerdict {
+    WellFormed,
+    Refused { number: u8, place: usize },
+}
+
+// Checks a stored hall: refused by 1 to 9 with the table's place, by 10 where the hall has another length, by 11
+// where it is not well formed.
+pub fn check_hall(table: &[u8], hall: &[u8]) -> HallVerdict
+    ensures { λ v. ⌜ hallVerdictOf v ≡ checkHall (now (table .entry)) (now (hall .entry)) ⌝ }
+{
+    let mut decoded = [0u8; DECODED];
+    let mut starts = [0usize; INDEX_SIZE];
+    match admission::admit(table, hall, &mut decoded, &mut starts) {
+        Admission::Admitted { components: _ } => HallVerdict::WellFormed,
+        Admission::Refused { number, place } => HallVerdict::Refused { number, place },
+    }
+}

@@ -1,0 +1,19 @@
+// The calls on a table's bytes and a lent hall: opening it, checking it, running a schedule on it, making one choice on
+// it, and suggesting one. None asks anything of what it is lent.
+mod checks;
+mod opens;
+mod running;
+mod steps;
+mod suggests;
+
+pub use checks::HallVerdict;
+pub use checks::check_hall;
+pub use choices::Entry;
+pub use opens::OpenAnswer;
+pub use opens::open_hall;
+pub use running::run;
+pub use runs::RunAnswer;
+pub use steps::StepAnswer;
+pub use steps::step;
+pub use suggests::SuggestAnswer;
+pub use suggests::suggest;

@@ -1,0 +1,32 @@
+// Running a schedule (document 01's list of choices) on a stored hall.
+use admission::Admission;
+use counters::Counters;
+use runs::RunAnswer;
+use stored::INDEX_SIZE;
+use terms::DECODED;
+ghost use mathlib.Core.Path.{_≡_};
+ghost use Rattle.semantics.specs.Definitions.Calls.{runCall};
+ghost use Rattle.runs.specs.Answers.{runCallOf, RunCaseDecided};
+ghost use Rattle.engine.specs.Answers.{buffersOf};
+
+// Runs a schedule, choice by choice, up to its end or to the first that is refused, and counts what was done. Refused
+// by 1 to 11 it leaves the hall and the counters as they were.
+pub fn run(table: &[u8], hall: &mut [u8], choices: &[u8], counters: Counters) -> RunAnswer
+    ensures equation { λ r. ⌜ runCallOf r (now (hall .exit))
+        ≡ runCall (now (table .entry)) (buffersOf (now (hall .entry)) counters) (now (choices .entry)) ⌝ }
+    ensures decided { λ r. ⌜ RunCaseDecided r ⌝ }
+{
+    let mut decoded = [0u8; DECODED];
+    let mut starts = [0usize; INDEX_SIZE];
+    match admission::admit(table, hall, &mut decoded, &mut starts) {
+        Admission::Admitted { components } => {
+            runs::run_held(&decoded, hall, &mut starts, components, choices, counters)
+        }
+        Admission::Refused { number, place } => RunAnswer::Refused {
+            number,
+            place,
+            done: 0,
+            counters,
+        },
+    }
+}

@@ -1,0 +1,15 @@
+-- What the code answers to an entry, as the reply of the definitions.
+-- Assumes nothing.
+use mathlib.Core.Path.{_≡_}
+use Rattle.semantics.specs.Definitions.Moves as moves
+use Rattle.rules.specs.declared.Reply.{Reply}
+use Rattle.rules.specs.declared.Reply.the-variants.{Moved, Refused}
+
+-- each case with its number
+unfoldable pub replyIs : Reply → moves.Reply
+replyIs (Moved r) = moves.movedBy r
+replyIs (Refused n) = moves.refusedBy n
+
+-- no two answers of the code are one reply
+abbrev pub RepliesDiffer : Type 0
+RepliesDiffer = (a b : Reply) → replyIs a ≡ replyIs b → a ≡ b

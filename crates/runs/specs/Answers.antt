@@ -1,0 +1,64 @@
+-- What the answers of a run say, in the terms of the definitions.
+--
+-- d is a decoded table; s has the bytes of a configuration (hall) that is held, starts the index of its n components
+-- (stations).
+-- Assumes nothing.
+use Prim.Native.Nat.{ℕ, _<_}
+use mathlib.Core.Path.{_≡_}
+use mathlib.Core.List.{List, [], _∷_}
+use lib.ListN.{drop}
+use Rattle.semantics.specs.Definitions.Terms.{Term}
+use Rattle.semantics.specs.Definitions.Configuration.{Configuration}
+use Rattle.semantics.specs.Definitions.Moves as moves
+use Rattle.semantics.specs.Definitions.Run.{Counters, malformed, schedule, run}
+use Rattle.semantics.specs.Definitions.Calls.{RunCall, runResult}
+use Rattle.terms.specs.Decoded.{Decoded}
+use Rattle.rules.specs.declared.Reply.{Reply}
+use Rattle.rules.specs.declared.Reply.the-variants as reply
+use Rattle.counters.specs.Counted.{countersOf}
+use Rattle.schedule.specs.Parsing.{Continues}
+use Rattle.index.specs.Holds.{Holds}
+use Rattle.choices.specs.Entries.{entryOf}
+use Rattle.runs.specs.declared.Next.{Next}
+use Rattle.runs.specs.declared.Next.the-variants as next
+use Rattle.runs.specs.declared.RunAnswer.{RunAnswer}
+use Rattle.runs.specs.declared.RunAnswer.the-variants.{Completed, Refused}
+
+-- ---- the entry at an offset of a schedule
+
+-- it has some bytes, and the rest of the schedule stands behind them
+pub record EntryAt (s : List ℕ) (at : ℕ) (e : moves.Entry) (behind : ℕ) : Type 0 where
+  pub size : ℕ
+  pub some : 0 < size
+  pub continues : Continues s at e size behind
+
+abbrev pub NextIs : List ℕ → ℕ → Next → Type 0
+NextIs s at (next.Entry e behind) = EntryAt s at (entryOf e) behind
+NextIs s at (next.Malformed n) = schedule (drop at s) ≡ malformed n ∷ []
+NextIs s at next.End = schedule (drop at s) ≡ []
+
+-- the number of a refusal
+abbrev pub refusalOf : Reply → ℕ
+refusalOf (reply.Moved r) = 0
+refusalOf (reply.Refused n) = n
+
+-- ---- the run
+
+-- each case as the call of the definitions, with the lent bytes afterwards: number 0 for a run that was completed
+abbrev pub runCallOf : RunAnswer → (hall : List ℕ) → RunCall
+runCallOf (Completed p d c) hall =
+    record { number = 0; place = p; done = d; buffers = record { hall = hall; counters = countersOf c } }
+runCallOf (Refused n p d c) hall =
+    record { number = n; place = p; done = d; buffers = record { hall = hall; counters = countersOf c } }
+
+-- no refusal has number 0, so that the number tells the case
+abbrev pub RunCaseDecided : RunAnswer → Type 0
+RunCaseDecided (Completed p d c) = Unit {0}
+RunCaseDecided (Refused n p d c) = 0 < n
+
+-- r is the answer, and s′ are the bytes afterwards, whichever configuration of whichever table is held
+pub record Ran (d s starts : List ℕ) (n : ℕ) (choices : List ℕ) (t : Counters) (r : RunAnswer) (s′ : List ℕ) :
+    Type 0 where
+  pub found : (ts : List Term) (h : Configuration) → Decoded ts d → Holds ts h s starts n →
+      runCallOf r s′ ≡ runResult (run h t choices)
+  pub decided : RunCaseDecided r

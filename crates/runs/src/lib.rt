@@ -1,0 +1,120 @@
+// The run of a schedule (document 01's list of choices) on a configuration (hall) that is held: entry after entry, up to
+// the end or to the first that is refused.
+use choices::Entry;
+use counters::Counters;
+use rules::Reply;
+use schedule::Parsed;
+use stored::INDEX_SIZE;
+use terms::DECODED;
+ghost use mathlib.Core.Path.{_≡_};
+ghost use Rattle.counters.specs.Counted.{countersOf};
+ghost use Rattle.index.specs.Holds.{Running};
+ghost use Rattle.runs.specs.Answers.{NextIs, refusalOf, Ran};
+
+// The entry at an offset of a schedule, with the offset behind it; what is refused there; or the schedule's end.
+pub enum Next {
+    Entry { entry: Entry, behind: usize },
+    Malformed(u8),
+    End,
+}
+
+// The answer of a run: where it stopped, how many entries were done, and the counters after them. A run that is refused
+// has the refusal's number, and the place of the entry that was refused.
+pub enum RunAnswer {
+    Completed {
+        place: usize,
+        done: usize,
+        counters: Counters,
+    },
+    Refused {
+        number: u8,
+        place: usize,
+        done: usize,
+        counters: Counters,
+    },
+}
+
+fn next_entry(schedule: &[u8], at: usize) -> Next
+    ensures { λ r. ⌜ NextIs (now (schedule .entry)) at r ⌝ }
+{
+    match schedule::parse_entry(schedule, at) {
+        Parsed::Act { position, next } => Next::Entry {
+            entry: Entry::Act { position },
+            behind: next,
+        },
+        Parsed::Inside {
+            position,
+            node,
+            next,
+        } => Next::Entry {
+            entry: Entry::Inside { position, node },
+            behind: next,
+        },
+        Parsed::Malformed(number) => Next::Malformed(number),
+        Parsed::End => Next::End,
+    }
+}
+
+// The number of a refusal; 0 for a move.
+pub fn refusal_of(reply: Reply) -> u8
+    ensures { λ r. ⌜ r ≡ refusalOf reply ⌝ }
+{
+    match reply {
+        Reply::Moved(_) => 0,
+        Reply::Refused(number) => number,
+    }
+}
+
+// Runs a schedule. A refused entry ends the run and is not counted.
+pub fn run_held(
+    decoded: &[u8; DECODED],
+    hall: &mut [u8],
+    starts: &mut [usize; INDEX_SIZE],
+    components: usize,
+    schedule: &[u8],
+    counters: Counters,
+) -> RunAnswer
+    requires { ⌜ Running (now decoded) (now hall) (now starts) components ⌝ }
+    ensures { λ r. ⌜ Ran (now (decoded .entry)) (now (hall .entry)) (now (starts .entry)) components
+        (now (schedule .entry)) (countersOf counters) r (now (hall .exit)) ⌝ }
+{
+    let mut at: usize = 0;
+    let mut done: usize = 0;
+    let mut held = components;
+    let mut tally = counters;
+    loop {
+        match next_entry(schedule, at) {
+            Next::End => {
+                return RunAnswer::Completed {
+                    place: at,
+                    done,
+                    counters: tally,
+                };
+            }
+            Next::Malformed(number) => {
+                return RunAnswer::Refused {
+                    number,
+                    place: at,
+                    done,
+                    counters: tally,
+                };
+            }
+            Next::Entry { entry, behind } => {
+                let made = choices::make(decoded, hall, starts, held, entry);
+                let reply = made.reply;
+                let Reply::Moved(rule) = reply else {
+                    return RunAnswer::Refused {
+                        number: refusal_of(reply),
+                        place: at,
+                        done,
+                        counters: tally,
+                    };
+                };
+                held = made.components;
+                tally = tally.count(rule);
+                at = behind;
+                done += 1;
+            }
+        }
+    }
+}

@@ -1,0 +1,55 @@
+-- A returned 0 means that nothing is refused: no refusal has that number.
+-- Assumes nothing.
+use Prim.Native.Nat.{ℕ, _≤_}
+use native.Mathlib.Omega.{arith}
+use mathlib.Core.Path.{_≡_, refl}
+use mathlib.Core.Logic.{_⊎_, inl, inr}
+use mathlib.Core.List.{List, [], _∷_}
+use Rattle.semantics.specs.Definitions.Moves.{Entry}
+use Rattle.semantics.specs.Definitions.Calls.{Verdict, ok, rejected, checkTable, checkHall, OpenAnswer, opened, notOpened, openHall, openVerdict, Admission, admitted, notAdmitted, admission, SuggestAnswer, suggested, still, notSuggested, SuggestAdmitted, SuggestAllowed}
+use Rattle.semantics.specs.Checks.Conditions.{RefusalNumbers}
+use Rattle.semantics.proofs.Theorems.{refusal-numbers}
+use Rattle.ruonfidd.specs.Answered.{VerdictAnswered, OpeningAnswered, choiceWords, SuggestionAnswered}
+
+zero-ok : (v : Verdict) → ((n p : ℕ) → v ≡ rejected n p → 1 ≤ n) → (set : ℕ) → VerdictAnswered v 0 set → v ≡ ok
+zero-ok ok above set t = refl
+zero-ok (rejected n p) above set t = absurd (let z = above n p refl in let y = t .number in omega arith)
+
+pub zero-table : (table : List ℕ) (set : ℕ) → VerdictAnswered (checkTable table) 0 set → checkTable table ≡ ok
+unfolding RefusalNumbers
+zero-table table = zero-ok (checkTable table) (λ n p e. refusal-numbers table table n p .0 e .0)
+
+pub zero-hall : (table hall : List ℕ) (set : ℕ) → VerdictAnswered (checkHall table hall) 0 set → checkHall table hall ≡ ok
+unfolding RefusalNumbers
+zero-hall table hall = zero-ok (checkHall table hall) (λ n p e. refusal-numbers table hall n p .2 e .0)
+
+pub zero-opened : (table hall : List ℕ) (set : ℕ) (bytes : List ℕ) → OpeningAnswered (openHall table hall) 0 set bytes →
+    openVerdict ((openHall table hall) .answer) ≡ ok
+unfolding RefusalNumbers openVerdict
+zero-opened table hall set bytes t =
+    zero-ok (openVerdict ((openHall table hall) .answer)) (above ((openHall table hall) .answer) refl) set (t .verdict)
+  where
+    above : (a : OpenAnswer) → (openHall table hall) .answer ≡ a → (n p : ℕ) → openVerdict a ≡ rejected n p → 1 ≤ n
+    above (opened c) e n p f = absurd (let z : _≡_ {A = ℕ} 0 1 = cc in omega arith)
+    above (notOpened m q) e n p f = refusal-numbers table hall n p .1 (cc) .0
+
+-- a suggestion with number 0 is a choice, or that the hall is still: its three bytes tell which
+pub zero-suggested : (table hall : List ℕ) (place : ℕ) (w : List ℕ) → SuggestionAnswered table hall 0 place w →
+    ((e : Entry) × (w ≡ choiceWords e) × SuggestAllowed table hall (suggested e)) ⊎
+    ((w ≡ 0 ∷ 0 ∷ 0 ∷ []) × SuggestAllowed table hall still)
+unfolding SuggestAllowed SuggestAdmitted RefusalNumbers
+zero-suggested table hall place w x = go (x .answer) refl
+  where
+    refused : (m q : ℕ) (a : Admission) → admission table hall ≡ a → SuggestAdmitted a (notSuggested m q) → 1 ≤ m
+    refused m q (admitted t h) e f = absurd f
+    refused m q (notAdmitted n p) e f = rw (f .0) (refusal-numbers table hall n p .3 e .0)
+
+    go : (a : SuggestAnswer) → x .answer ≡ a →
+        ((e : Entry) × (w ≡ choiceWords e) × SuggestAllowed table hall (suggested e)) ⊎
+        ((w ≡ 0 ∷ 0 ∷ 0 ∷ []) × SuggestAllowed table hall still)
+    go (suggested e) h = inl (e, rw h at (x .values .choice), rw h at (x .allowed))
+    go still h = inr (rw h at (x .values .choice), rw h at (x .allowed))
+    go (notSuggested m q) h =
+        absurd (
+        let n : 0 ≡ m = rw h at (x .values .number) in
+        let l = refused m q (admission table hall) refl (rw h at (x .allowed)) in omega arith)

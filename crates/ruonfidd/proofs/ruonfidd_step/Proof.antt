@@ -1,0 +1,55 @@
+-- `ruonfidd_step` meets its contract: the cases of the answer are set as numbers.
+-- Assumes nothing.
+use borrow.Author.Needs.{needs}
+use Rattle.ruonfidd.proofs.Choices.{step-moved, step-refused}
+use Rattle.ruonfidd.proofs.ruonfidd_step.Statement.{statement}
+use Rattle.ruonfidd.proofs.ruonfidd_step.Tie as tie
+
+counters-in-requires : tie.Need-counters-in-requires
+counters-in-requires c κs = search needs
+
+step-requires : tie.Need-step-requires
+step-requires c κs = search needs
+
+enum-known-by : tie.Need-enum-known-by
+enum-known-by c = search needs
+
+step-answer-requires : tie.Need-step-answer-requires
+step-answer-requires c κs = search needs
+
+enum-known-number : tie.Need-enum-known-number
+enum-known-number c = search needs
+
+counters-in-requires-2 : tie.Need-counters-in-requires-2
+counters-in-requires-2 c κs = search needs
+
+step-answer-requires-2 : tie.Need-step-answer-requires-2
+step-answer-requires-2 c κs = search needs
+
+same-length : tie.Need-same-length
+same-length c = search needs
+
+returns : tie.Need-returns
+returns c = search step-moved
+
+same-length-2 : tie.Need-same-length-2
+same-length-2 c = search needs
+
+returns-2 : tie.Need-returns-2
+returns-2 c = search step-refused
+
+pub ruonfidd-step-spec : {M : Type 1} → statement M
+ruonfidd-step-spec =
+    tie.close
+    (tie.spec
+    counters-in-requires
+    step-requires
+    enum-known-by
+    step-answer-requires
+    enum-known-number
+    counters-in-requires-2
+    step-answer-requires-2
+    same-length
+    returns
+    same-length-2
+    returns-2)

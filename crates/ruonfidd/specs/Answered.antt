@@ -1,0 +1,95 @@
+-- How a call answers C: the returned number, and all else that was set. A tally is three numbers, a suggestion three
+-- bytes.
+-- Assumes nothing.
+use Prim.Native.Nat.{ℕ}
+use mathlib.Core.Path.{_≡_}
+use mathlib.Core.List.{List, [], _∷_}
+use lib.ListN.{getD}
+use Rattle.semantics.specs.Definitions.Moves.{Entry, act, inside}
+use Rattle.semantics.specs.Definitions.Run.{Counters}
+use Rattle.semantics.specs.Definitions.Calls.{Verdict, rejected, verdictNumber, verdictPlace, Opening, openVerdict, Buffers, RunCall, StepCall, SuggestAnswer, suggested, still, notSuggested, SuggestAllowed}
+
+-- these two numbers as they are
+abbrev pub verdict : (number place : ℕ) → Verdict
+verdict n p = rejected n p
+
+pub record VerdictAnswered (v : Verdict) (returned set : ℕ) : Type 0 where
+  pub number : returned ≡ verdictNumber v
+  pub place : set ≡ verdictPlace v
+
+-- an opening: its verdict, and every byte of the lent hall afterwards
+pub record OpeningAnswered (o : Opening) (returned set : ℕ) (hall : List ℕ) : Type 0 where
+  pub verdict : VerdictAnswered (openVerdict (o .answer)) returned set
+  pub bytes : hall ≡ o .hall
+
+-- commits, failed, retries, in this order
+abbrev pub tallyWords : Counters → List ℕ
+tallyWords t = t .commits ∷ t .failed ∷ t .retries ∷ []
+
+-- the counters that such a tally holds
+abbrev pub countersIn : List ℕ → Counters
+countersIn w = record { commits = getD w 0 0; failed = getD w 1 0; retries = getD w 2 0 }
+
+-- a hall and a tally, lent
+abbrev pub buffersIn : (hall tally : List ℕ) → Buffers
+buffersIn hall tally = record { hall = hall; counters = countersIn tally }
+
+-- ---- a run
+
+-- these numbers and counters as they are
+pub record RunSet (n at count : ℕ) (t : Counters) (returned p d : ℕ) (w : List ℕ) : Type 0 where
+  pub number : returned ≡ n
+  pub place : p ≡ at
+  pub done : d ≡ count
+  pub tally : w ≡ tallyWords t
+
+-- a run's call: its numbers, and every byte of the lent hall and every counter of the lent tally afterwards
+pub record RunAnswered (c : RunCall) (returned p d : ℕ) (hall w : List ℕ) : Type 0 where
+  pub numbers : RunSet (c .number) (c .place) (c .done) (c .buffers .counters) returned p d w
+  pub bytes : hall ≡ c .buffers .hall
+
+-- ---- a step
+
+pub record StepSet (n at by : ℕ) (t : Counters) (returned p r : ℕ) (w : List ℕ) : Type 0 where
+  pub number : returned ≡ n
+  pub place : p ≡ at
+  pub rule : r ≡ by
+  pub tally : w ≡ tallyWords t
+
+pub record StepAnswered (c : StepCall) (returned p r : ℕ) (hall w : List ℕ) : Type 0 where
+  pub numbers : StepSet (c .number) (c .place) (c .rule) (c .buffers .counters) returned p r w
+  pub bytes : hall ≡ c .buffers .hall
+
+-- ---- a suggestion
+
+-- a choice as kind, position and node
+abbrev pub choiceWords : Entry → List ℕ
+choiceWords (act p) = 1 ∷ p ∷ 0 ∷ []
+choiceWords (inside p k) = 2 ∷ p ∷ k ∷ []
+
+-- what each answer says: the choice, or kind 0; no number and no place but those of a refusal
+abbrev pub suggestionWords : SuggestAnswer → List ℕ
+suggestionWords (suggested e) = choiceWords e
+suggestionWords still = 0 ∷ 0 ∷ 0 ∷ []
+suggestionWords (notSuggested n p) = 0 ∷ 0 ∷ 0 ∷ []
+
+abbrev pub suggestionNumber : SuggestAnswer → ℕ
+suggestionNumber (suggested e) = 0
+suggestionNumber still = 0
+suggestionNumber (notSuggested n p) = n
+
+abbrev pub suggestionPlace : SuggestAnswer → ℕ
+suggestionPlace (suggested e) = 0
+suggestionPlace still = 0
+suggestionPlace (notSuggested n p) = p
+
+pub record SuggestionSet (n at : ℕ) (words : List ℕ) (returned p : ℕ) (w : List ℕ) : Type 0 where
+  pub number : returned ≡ n
+  pub place : p ≡ at
+  pub choice : w ≡ words
+
+-- an answer that is allowed, as it is told
+pub record SuggestionAnswered (table hall : List ℕ) (returned p : ℕ) (w : List ℕ) : Type 0 where
+  pub answer : SuggestAnswer
+  pub allowed : SuggestAllowed table hall answer
+  pub values : SuggestionSet (suggestionNumber answer) (suggestionPlace answer) (suggestionWords answer) returned p w

@@ -1,0 +1,247 @@
+// The engine's calls for C and Rust: every name begins with ruonfidd_. include/ruonfidd.h declares them for C and says in
+// plain words what each answers and what its caller owes.
+//
+// A `&[u8]` is passed as a pointer and a length, a `&mut` of a number or of an array as a pointer to what the call sets.
+// An enum does not pass to C: a call returns the number, 0 for none, and sets the rest in every case. A tally is three
+// numbers: commits, failed, retries; runs and steps count on from what it holds. A suggestion is three bytes: kind,
+// position, node.
+use choices::Entry;
+use counters::Counters;
+use engine::HallVerdict;
+use engine::OpenAnswer;
+use engine::RunAnswer;
+use engine::StepAnswer;
+use engine::SuggestAnswer;
+use report::OUTPUT;
+use schedule::KIND_ACT;
+use schedule::KIND_INSIDE;
+use table::TableVerdict;
+ghost use mathlib.Core.Path.{_≡_};
+ghost use mathlib.Core.List.{[], _∷_};
+ghost use Prim.Native.Nat.{_≤_};
+ghost use Rattle.semantics.specs.Definitions.Run.{freshCounters};
+ghost use Rattle.semantics.specs.Definitions.Calls.{checkTable, checkHall, openHall, runCall, stepCall};
+ghost use Rattle.semantics.specs.Definitions.Report.{printedRun};
+ghost use Rattle.decimals.specs.Wrote.{Wrote};
+ghost use Rattle.counters.specs.Counted.{countersOf};
+ghost use Rattle.choices.specs.Entries.{entryOf};
+ghost use Rattle.report.specs.Limits.{linesMost};
+ghost use Rattle.ruonfidd.specs.Answered.{verdict, VerdictAnswered, OpeningAnswered, tallyWords, countersIn, buffersIn, RunSet, StepSet, RunAnswered, StepAnswered, choiceWords, SuggestionSet, SuggestionAnswered};
+
+// A number to return, with its place set.
+fn answer(place: &mut usize, number: u8, at: usize) -> u8
+    ensures { λ r. ⌜ VerdictAnswered (verdict number at) r (now (place .exit)) ⌝ }
+{
+    *place = at;
+    number
+}
+
+// Whether a table is accepted: 0, and place 0; or the number of the first refusal, and its place.
+#[no_mangle]
+pub extern "C" fn ruonfidd_check_table(table: &[u8], place: &mut usize) -> u8
+    ensures { λ r. ⌜ VerdictAnswered (checkTable (now (table .entry))) r (now (place .exit)) ⌝ }
+{
+    match table::check_table(table) {
+        TableVerdict::Accepted => answer(place, 0, 0),
+        TableVerdict::Refused { number, place: at } => answer(place, number, at),
+    }
+}
+
+// Opens a table in a hall: 0, and place 0; or the number of the first refusal, and its place, with the hall as it
+// was. The counters of an opened hall are the fresh ones.
+#[no_mangle]
+pub extern "C" fn ruonfidd_open_hall(table: &[u8], hall: &mut [u8], place: &mut usize) -> u8
+    ensures { λ r. ⌜ OpeningAnswered (openHall (now (table .entry)) (now (hall .entry)))
+        r (now (place .exit)) (now (hall .exit)) ⌝ }
+{
+    match engine::open_hall(table, hall) {
+        OpenAnswer::Opened(_) => answer(place, 0, 0),
+        OpenAnswer::Refused { number, place: at } => answer(place, number, at),
+    }
+}
+
+// Whether a stored hall is well formed for a table: 0, and place 0; or the number of the first refusal, and its place.
+#[no_mangle]
+pub extern "C" fn ruonfidd_check_hall(table: &[u8], hall: &[u8], place: &mut usize) -> u8
+    ensures { λ r. ⌜ VerdictAnswered (checkHall (now (table .entry)) (now (hall .entry))) r (now (place .exit)) ⌝ }
+{
+    match engine::check_hall(table, hall) {
+        HallVerdict::WellFormed => answer(place, 0, 0),
+        HallVerdict::Refused { number, place: at } => answer(place, number, at),
+    }
+}
+
+// The fresh tally: what the first run after an opening is lent.
+#[no_mangle]
+pub extern "C" fn ruonfidd_fresh_tally(tally: &mut [u32; 3])
+    ensures { λ _. ⌜ now (tally .exit) ≡ tallyWords freshCounters ⌝ }
+{
+    let fresh = Counters::fresh();
+    *tally = [fresh.commits, fresh.failed, fresh.retries];
+}
+
+// The counters that a lent tally holds.
+fn counters_in(tally: &[u32; 3]) -> Counters
+    ensures { λ r. ⌜ countersOf r ≡ countersIn (now (tally .entry)) ⌝ }
+{
+    Counters {
+        commits: tally[0],
+        failed: tally[1],
+        retries: tally[2],
+    }
+}
+
+// What a run answers: the number to return, and all else that it sets.
+fn run_answer(
+    place: &mut usize,
+    done: &mut usize,
+    tally: &mut [u32; 3],
+    number: u8,
+    at: usize,
+    count: usize,
+    counters: Counters,
+) -> u8
+    ensures { λ r. ⌜ RunSet number at count (countersOf counters) r (now (place .exit)) (now (done .exit))
+        (now (tally .exit)) ⌝ }
+{
+    *place = at;
+    *done = count;
+    *tally = [counters.commits, counters.failed, counters.retries];
+    number
+}
+
+// Runs choices: 0, with their length as the place; or the number of the refusal, and its place. `done` is how many
+// choices were done. Refused by 1 to 11, hall and tally are as they were; else they are as the choices done made them.
+#[no_mangle]
+pub extern "C" fn ruonfidd_run(
+    table: &[u8],
+    hall: &mut [u8],
+    choices: &[u8],
+    tally: &mut [u32; 3],
+    place: &mut usize,
+    done: &mut usize,
+) -> u8
+    ensures { λ r. ⌜ RunAnswered
+        (runCall (now (table .entry)) (buffersIn (now (hall .entry)) (now (tally .entry))) (now (choices .entry)))
+        r (now (place .exit)) (now (done .exit)) (now (hall .exit)) (now (tally .exit)) ⌝ }
+{
+    match engine::run(table, hall, choices, counters_in(tally)) {
+        RunAnswer::Completed {
+            place: at,
+            done: count,
+            counters,
+        } => run_answer(place, done, tally, 0, at, count, counters),
+        RunAnswer::Refused {
+            number,
+            place: at,
+            done: count,
+            counters,
+        } => run_answer(place, done, tally, number, at, count, counters),
+    }
+}
+
+// What a step answers: the number to return, and all else that it sets.
+fn step_answer(
+    place: &mut usize,
+    rule: &mut u8,
+    tally: &mut [u32; 3],
+    number: u8,
+    at: usize,
+    by: u8,
+    counters: Counters,
+) -> u8
+    ensures { λ r. ⌜ StepSet number at by (countersOf counters) r (now (place .exit)) (now (rule .exit))
+        (now (tally .exit)) ⌝ }
+{
+    *place = at;
+    *rule = by;
+    *tally = [counters.commits, counters.failed, counters.retries];
+    number
+}
+
+// Makes one choice: 0, with the rule by which it moved and the choice's length as the place; or the number of the
+// refusal and its place, with rule 0, and hall and tally as they were. Of a choice of kind 1 the node counts for nothing.
+#[no_mangle]
+pub extern "C" fn ruonfidd_step(
+    table: &[u8],
+    hall: &mut [u8],
+    kind: u8,
+    position: u8,
+    node: u8,
+    tally: &mut [u32; 3],
+    rule: &mut u8,
+    place: &mut usize,
+) -> u8
+    ensures { λ r. ⌜ StepAnswered
+        (stepCall (now (table .entry)) (buffersIn (now (hall .entry)) (now (tally .entry))) kind position node)
+        r (now (place .exit)) (now (rule .exit)) (now (hall .exit)) (now (tally .exit)) ⌝ }
+{
+    match engine::step(table, hall, kind, position, node, counters_in(tally)) {
+        StepAnswer::Moved {
+            rule: by,
+            place: at,
+            counters,
+        } => step_answer(place, rule, tally, 0, at, by, counters),
+        StepAnswer::Refused { number, place: at } => {
+            let same = counters_in(tally);
+            step_answer(place, rule, tally, number, at, 0, same)
+        }
+    }
+}
+
+// A choice as its kind, position and node; the node of kind 1 is 0.
+fn choice_of(entry: Entry) -> [u8; 3]
+    ensures { λ r. ⌜ r ≡ choiceWords (entryOf entry) ⌝ }
+{
+    match entry {
+        Entry::Act { position } => [KIND_ACT, position, 0],
+        Entry::Inside { position, node } => [KIND_INSIDE, position, node],
+    }
+}
+
+// What a suggestion answers: the number to return, and all else that it sets.
+fn suggest_answer(
+    choice: &mut [u8; 3],
+    place: &mut usize,
+    number: u8,
+    at: usize,
+    words: [u8; 3],
+) -> u8
+    ensures { λ r. ⌜ SuggestionSet number at words r (now (place .exit)) (now (choice .exit)) ⌝ }
+{
+    *place = at;
+    *choice = words;
+    number
+}
+
+// Suggests a choice that is accepted, any one of them: 0, place 0, and the choice; kind 0 where no choice is accepted.
+// Or the number of the refusal and its place, and kind 0. What is not said is 0.
+#[no_mangle]
+pub extern "C" fn ruonfidd_suggest(
+    table: &[u8],
+    hall: &[u8],
+    choice: &mut [u8; 3],
+    place: &mut usize,
+) -> u8
+    ensures { λ r. ⌜ SuggestionAnswered (now (table .entry)) (now (hall .entry)) r (now (place .exit))
+        (now (choice .exit)) ⌝ }
+{
+    match engine::suggest(table, hall) {
+        SuggestAnswer::Suggested(entry) => suggest_answer(choice, place, 0, 0, choice_of(entry)),
+        SuggestAnswer::Still => suggest_answer(choice, place, 0, 0, [0, 0, 0]),
+        SuggestAnswer::Refused { number, place: at } => {
+            suggest_answer(choice, place, number, at, [0, 0, 0])
+        }
+    }
+}
+
+// Writes the printed run of an input, a table and the choices behind it, and sets its length. There is nothing to
+// refuse: no report is longer than the output, whose bytes behind the report stay as they were.
+#[no_mangle]
+pub extern "C" fn ruonfidd_report(input: &[u8], output: &mut [u8; OUTPUT], length: &mut usize)
+    ensures equation { λ _. ⌜ Wrote (now (output .entry)) 0 (printedRun (now (input .entry))) (now (output .exit))
+        (now (length .exit)) ⌝ }
+    ensures short { λ _. ⌜ now (length .exit) ≤ linesMost ⌝ }
+{
+    *length = report::report(input, output);
+}

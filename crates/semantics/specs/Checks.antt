@@ -1,0 +1,17 @@
+-- The definitions compared with document 01, piece by piece: its tables, moves, refusals, answers, stored form, printed
+-- run and worked examples. Assumes nothing.
+pub mod PrintedMoves
+pub mod AcceptedTables
+pub mod StoredForm
+pub mod Conditions
+pub mod Answers
+pub mod CallLists
+pub mod Steps
+pub mod PrintedRun
+pub mod Examples
+pub mod GainExamples
+pub mod ConverseSteps
+pub mod PrintedSuggestions
+pub mod EdgeExamples
+pub mod SuggestionExamples
+pub mod StepExamples

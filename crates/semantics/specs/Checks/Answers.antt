@@ -1,0 +1,68 @@
+-- What a caller is told (document 01, "What the contracts settle"): each case of an answer with its number and values,
+-- written out; and that a told number 0 says that nothing is refused.
+-- Assumes nothing.
+use Prim.Native.Nat.{ℕ}
+use mathlib.Core.Path.{_≡_}
+use mathlib.Core.Logic.{_↔_}
+use mathlib.Core.List.{List, [], _∷_}
+use Rattle.calculus.specs.Reduction.{Rule}
+use Rattle.semantics.specs.Definitions.Configuration.{Configuration}
+use Rattle.semantics.specs.Definitions.Moves.{act, inside, moved, refused, ruleNumber, movedBy, refusedBy, replyOf}
+use Rattle.semantics.specs.Definitions.Run.{Counters, entryBytes}
+use Rattle.semantics.specs.Definitions.Calls.{ok, rejected, verdictNumber, verdictPlace, checkTable, checkHall, opened, notOpened, openHall, openVerdict, SuggestAnswer, suggested, still, notSuggested}
+
+-- a check: number and place, both 0 where nothing is refused
+unfoldable pub VerdictTold : Type 0
+VerdictTold =
+    (n p : ℕ) → (verdictNumber ok ≡ 0) × (verdictPlace ok ≡ 0) ×
+    (verdictNumber (rejected n p) ≡ n) × (verdictPlace (rejected n p) ≡ p)
+
+-- an opening is told as a check is
+unfoldable pub OpeningTold : Type 0
+unfolding openVerdict
+OpeningTold = (c : Counters) (n p : ℕ) → (openVerdict (opened c) ≡ ok) × (openVerdict (notOpened n p) ≡ rejected n p)
+
+-- what each case of a suggestion says: the bytes of a choice, nothing, or a number with its place
+pub data SuggestValues : Type 0 where
+  choiceSaid : (bytes : List ℕ) → SuggestValues
+  stillSaid : SuggestValues
+  refusalSaid : (number place : ℕ) → SuggestValues
+
+unfoldable pub suggestValues : SuggestAnswer → SuggestValues
+unfolding entryBytes
+suggestValues (suggested e) = choiceSaid (entryBytes e)
+suggestValues still = stillSaid
+suggestValues (notSuggested n p) = refusalSaid n p
+
+-- written out: the bytes of a choice are those of kind 1 or 2
+unfoldable pub SuggestionTold : Type 0
+unfolding suggestValues
+SuggestionTold =
+    (n p k : ℕ) → (suggestValues (suggested (act p)) ≡ choiceSaid (1 ∷ p ∷ [])) ×
+    (suggestValues (suggested (inside p k)) ≡ choiceSaid (2 ∷ p ∷ k ∷ [])) ×
+    (suggestValues still ≡ stillSaid) × (suggestValues (notSuggested n p) ≡ refusalSaid n p)
+
+-- different answers have different values
+unfoldable pub AnswersDiffer : Type 0
+unfolding suggestValues
+AnswersDiffer = (a b : SuggestAnswer) → suggestValues a ≡ suggestValues b → a ≡ b
+
+-- a choice: the number of the rule done, or that of the refusal
+unfoldable pub ChoiceTold : Type 0
+unfolding replyOf ruleNumber
+ChoiceTold =
+    (r : Rule) (h : Configuration) (n : ℕ) →
+    (replyOf (moved r h) ≡ movedBy (ruleNumber r)) × (replyOf (refused n) ≡ refusedBy n)
+
+unfoldable pub AnswersTold : Type 0
+unfolding VerdictTold OpeningTold SuggestionTold ChoiceTold
+AnswersTold = VerdictTold × OpeningTold × SuggestionTold × ChoiceTold
+
+-- whatever is handed in, the number 0 is told exactly where the answer is no refusal
+unfoldable pub ZeroIsAccepted : Type 0
+ZeroIsAccepted =
+    (table hall : List ℕ) →
+    ((verdictNumber (checkTable table) ≡ 0) ↔ (checkTable table ≡ ok)) ×
+    ((verdictNumber (checkHall table hall) ≡ 0) ↔ (checkHall table hall ≡ ok)) ×
+    ((verdictNumber (openVerdict ((openHall table hall) .answer)) ≡ 0) ↔
+    ((openHall table hall) .answer ≡ opened (record { commits = 0; failed = 0; retries = 0 })))

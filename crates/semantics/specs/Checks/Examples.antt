@@ -1,0 +1,464 @@
+-- The worked examples (document 01, "Rehearsals to prove") as one table, from the bytes of a rule table and of choices
+-- to every answer, and the claim that the definitions give just these. Proved in proofs/Examples.
+--
+-- Each row goes through the public calls on bytes: the table is checked, a hall full of noise is lent and opened, the
+-- hall is checked, the choices are run on it, the hall that they leave is checked and every choice tried on it, and the
+-- program prints table and choices. Beside them go the rules done and the one-step run over the choices done.
+-- The ten rehearsals come first. Each row below them is there for a wrong definition that the ten let through, and its
+-- comment says which. The edges at which a row need not go through all calls stand in specs/EdgeExamples.
+-- Assumes nothing.
+use Prim.Native.Nat.{ℕ, zero, suc, _+_, _-_, _*_}
+use Prim.Native.Char.{code}
+use Prim.Native.String as Text
+use Prim.Native.String.{String}
+use mathlib.Core.Path.{_≡_}
+use mathlib.Core.Bool.{cond}
+use mathlib.Core.Option.{Option, none, some}
+use mathlib.Core.List.{List, [], _∷_, _++_, map}
+use lib.ListN.{length, take, replicate}
+use lib.Dec.{eqb}
+use Rattle.calculus.specs.Syntax.{rd, wt, State}
+use Rattle.calculus.specs.Reduction.{Rule, OUT, IN, REP, ATST, ATRE, ATFAIL, ATOK, ARDOK, ARDF, AWR, AOI, AOF, AOE}
+use Rattle.semantics.specs.Definitions.Basics.{All}
+use mathlib.Core.List.{flatten}
+use Rattle.semantics.specs.Definitions.Table.{TableAnswer, accepted, refusedAt, readTable}
+use Rattle.semantics.specs.Definitions.Configuration.{Idle, taking, repeating, block, output, Configuration}
+use Rattle.semantics.specs.Definitions.Moves.{Entry, act, inside, Answer, moved, refused, answerTo}
+use Rattle.semantics.specs.Definitions.Run.{Counters, schedule, entries, entryBytes, steps}
+use Rattle.semantics.specs.Definitions.AtomicRun.{atomicStart, atomicRun}
+use Rattle.semantics.specs.Definitions.Calls.{Verdict, ok, rejected, checkTable, checkHall, Admission, admitted, notAdmitted, admission}
+use Rattle.semantics.specs.Definitions.Calls.{OpenAnswer, opened, notOpened, openHall, Buffers, runCall}
+use Rattle.semantics.specs.Definitions.Report.{printedRun}
+
+-- ---- what is looked at
+
+-- the state of a one-step run; a station's bytes are as in a stored hall, with the 16 counts of its note behind them
+pub record OneStep : Type 0 where
+  pub counts : List ℕ
+  pub stations : List ℕ
+  pub counters : Counters
+
+pub record Observed : Type 0 where
+  -- of the table, of opening a hall from it, and of the hall that is lent to the run
+  pub checked : Verdict
+  pub opens : OpenAnswer
+  pub before : Verdict
+  -- the rules done in order, each with what it acts on: a commit shows its log
+  pub rules : List Rule
+  -- the answer of the run
+  pub number : ℕ
+  pub place : ℕ
+  pub done : ℕ
+  -- the tally and all bytes of the hall behind the run, and of that hall
+  pub counters : Counters
+  pub hall : List ℕ
+  pub behind : Verdict
+  -- the bytes of the choices that are accepted on it, one after another: of all choices at its positions and the one
+  -- behind them, with the nodes 0 to 15
+  pub accepts : List ℕ
+  -- the one-step run over the choices done, where the hall was opened
+  pub oneStep : Option OneStep
+  -- what the program prints
+  pub text : List ℕ
+
+pub record Example : Type 0 where
+  pub table : List ℕ
+  -- the hall that is lent, where it is not the one just opened
+  pub stored : Option (List ℕ)
+  -- the tally that is lent
+  pub first : Counters
+  pub choices : List ℕ
+  pub expected : Observed
+
+-- what stands in the hall before it is opened
+unfoldable pub noise : List ℕ
+noise = replicate 11344 171
+
+unfoldable pub lentHall : Option (List ℕ) → List ℕ → List ℕ
+lentHall none hall = hall
+lentHall (some bs) hall = bs
+
+unfoldable pub rulesDone : Admission → List Entry → List Rule
+unfolding steps
+rulesDone (notAdmitted n p) es = []
+rulesDone (admitted t h) es = map (λ s. s .rule) (steps h es)
+
+-- the numbers below n
+unfoldable pub upTo : ℕ → List ℕ
+upTo zero = []
+upTo (suc n) = upTo n ++ (n ∷ [])
+
+-- every choice on a hall of n stations, and some past them
+unfoldable pub everyChoice : ℕ → List Entry
+unfolding upTo flatten
+everyChoice n = flatten (map (λ p. act p ∷ map (inside p) (upTo 16)) (upTo (suc n)))
+
+unfoldable pub whereMoved : Answer → Entry → List ℕ
+unfolding entryBytes
+whereMoved (moved r h) e = entryBytes e
+whereMoved (refused n) e = []
+
+unfoldable pub acceptedOn : Admission → List ℕ
+unfolding everyChoice whereMoved answerTo flatten
+acceptedOn (notAdmitted n p) = []
+acceptedOn (admitted t h) = flatten (map (λ e. whereMoved (answerTo h e) e) (everyChoice (length (h .components))))
+
+unfoldable pub stationBytes : Idle → List ℕ
+stationBytes (taking n a P) = 20 ∷ n ∷ []
+stationBytes (repeating n a P) = 20 ∷ n ∷ []
+stationBytes (block n M) = 20 ∷ n ∷ []
+stationBytes (output a) = 24 ∷ a ∷ []
+
+unfoldable pub noteBytes : Option State → List ℕ
+noteBytes none = []
+noteBytes (some σ) = σ
+
+unfoldable pub oneStepRun : TableAnswer → Option (List ℕ) → Counters → List Entry → Option OneStep
+unfolding stationBytes noteBytes flatten atomicStart atomicRun
+oneStepRun (refusedAt n p) stored c es = none
+oneStepRun (accepted t) none c es =
+    let s = atomicRun (atomicStart t c) es in
+    some
+    (record {
+      counts = s .counts;
+      stations = flatten (map (λ x. stationBytes (x .station) ++ noteBytes (x .note)) (s .stations));
+      counters = s .counters;
+    })
+oneStepRun (accepted t) (some hall) c es = none
+
+-- a run as a call on a lent hall and tally, and all that is looked at beside it
+unfoldable pub ranOut : Example → Buffers → OpenAnswer → Observed
+unfolding rulesDone acceptedOn oneStepRun readTable checkTable checkHall admission runCall entries schedule printedRun
+ranOut e l o =
+    let r = runCall (e .table) l (e .choices) in
+    let done = take (r .done) (entries (schedule (e .choices))) in
+    record {
+      checked = checkTable (e .table);
+      opens = o;
+      before = checkHall (e .table) (l .hall);
+      rules = rulesDone (admission (e .table) (l .hall)) done;
+      number = r .number;
+      place = r .place;
+      done = r .done;
+      counters = r .buffers .counters;
+      hall = r .buffers .hall;
+      behind = checkHall (e .table) (r .buffers .hall);
+      accepts = acceptedOn (admission (e .table) (r .buffers .hall));
+      oneStep = oneStepRun (readTable (e .table)) (e .stored) (e .first) done;
+      text = printedRun (e .table ++ e .choices);
+    }
+
+unfoldable pub observed : Example → Observed
+unfolding noise lentHall openHall ranOut
+observed e =
+    let o = openHall (e .table) noise in
+    ranOut e (record { hall = lentHall (e .stored) (o .hall); counters = e .first }) (o .answer)
+
+-- ---- how a row is written: with nothing of the definitions but their types
+
+-- the bytes of a text in ASCII
+unfoldable pub ascii : String → List ℕ
+ascii Text.[] = []
+ascii (Text._∷_ c s) = code c ∷ ascii s
+
+-- the numbers that a text has in decimal, with one space between them
+unfoldable pub numbers : String → List ℕ
+numbers Text.[] = []
+numbers (Text._∷_ c s) = from (code c - 48) s
+  where
+    from : ℕ → String → List ℕ
+    from n Text.[] = n ∷ []
+    from n (Text._∷_ d r) = cond (eqb (code d) 32) (n ∷ from 0 r) (from (10 * n + (code d - 48)) r)
+
+unfoldable pub times : ℕ → List ℕ → List ℕ
+times zero xs = []
+times (suc n) xs = xs ++ times n xs
+
+-- n bytes: these, then zeros
+unfoldable pub filled : ℕ → List ℕ → List ℕ
+filled n xs = take n (xs ++ replicate n 0)
+
+-- counts from tray 0 on, 0 for trays not written
+unfoldable pub trays : String → List ℕ
+unfolding filled numbers
+trays counts = filled 16 (numbers counts)
+
+-- a hall's bytes: counts, then stations, then zeros
+unfoldable pub hallOf : (counts stations : List ℕ) → List ℕ
+hallOf counts stations = let used = counts ++ stations in used ++ replicate (11344 - length used) 0
+
+-- an attempt's bytes: a term, the snapshot, and the nodes
+unfoldable pub attempt : (term : ℕ) (snapshot : String) (nodes : List ℕ) → List ℕ
+unfolding trays
+attempt n snapshot nodes = 21 ∷ n ∷ (trays snapshot ++ nodes)
+
+-- a leaf's bytes: a term or 255, the length of its log, and the log
+unfoldable pub leafOf : (term size : ℕ) (log : String) → List ℕ
+unfolding filled numbers
+leafOf n size log = 23 ∷ n ∷ size ∷ filled 16 (numbers log)
+
+-- a block's bytes in the one-step run, with its note
+unfoldable pub noted : (term : ℕ) (note : String) → List ℕ
+unfolding trays
+noted n note = 20 ∷ n ∷ trays note
+
+-- n records of kind 9 or 10 on tray 0, the first on term i, which is the last so far, each other on the one before it
+unfoldable pub chain : (kind n i : ℕ) → List ℕ
+chain k zero i = []
+chain k (suc n) i = k ∷ 0 ∷ i ∷ chain k n (suc i)
+
+-- n records of kind 5 or 11, the first on term i twice, which is the last so far, each other twice on the one before it
+unfoldable pub doublings : (kind n i : ℕ) → List ℕ
+doublings k zero i = []
+doublings k (suc n) i = k ∷ i ∷ i ∷ doublings k n (suc i)
+
+-- the choices that act at the positions below n
+unfoldable pub acts : ℕ → List ℕ
+acts zero = []
+acts (suc n) = acts n ++ (1 ∷ n ∷ [])
+
+unfoldable pub tally : (commits failed retries : ℕ) → Counters
+tally c f r = record { commits = c; failed = f; retries = r }
+
+-- number 0 where nothing is refused
+unfoldable pub verdict : (number place : ℕ) → Verdict
+verdict zero p = ok
+verdict (suc n) p = rejected (suc n) p
+
+-- what stands behind a run: counts, stations, the stations of the one-step run, and the choices accepted on the hall
+pub record Left : Type 0 where
+  pub counts : List ℕ
+  pub stations : List ℕ
+  pub oneStep : List ℕ
+  pub accepts : List ℕ
+
+-- no attempt is open, so that the one-step run has the same stations
+unfoldable pub left : (counts stations accepts : String) → Left
+unfolding trays numbers
+left counts stations es =
+    record { counts = trays counts; stations = numbers stations; oneStep = numbers stations; accepts = numbers es }
+
+unfoldable pub leftOpen : (counts : String) (stations oneStep : List ℕ) (accepts : String) → Left
+unfolding trays numbers
+leftOpen counts stations blocks es =
+    record { counts = trays counts; stations = stations; oneStep = blocks; accepts = numbers es }
+
+-- the table is accepted and a hall opened from it; this is the run, whose one-step run ends so
+unfoldable pub ranTo : List Rule → (number place done : ℕ) → Counters → Left → Option OneStep → List ℕ → Observed
+unfolding verdict tally hallOf
+ranTo rs n p d t l s x =
+    record {
+      checked = verdict 0 0;
+      opens = opened (tally 0 0 0);
+      before = verdict 0 0;
+      rules = rs;
+      number = n;
+      place = p;
+      done = d;
+      counters = t;
+      hall = hallOf (l .counts) (l .stations);
+      behind = verdict 0 0;
+      accepts = l .accepts;
+      oneStep = s;
+      text = x;
+    }
+
+-- on the hall opened: the one-step run has the same counts and the same tally
+unfoldable pub ran : (rules : List Rule) (number place done : ℕ) → Counters → Left → (text : String) → Observed
+unfolding ranTo ascii
+ran rs n p d t l x =
+    ranTo rs n p d t l (some (record { counts = l .counts; stations = l .oneStep; counters = t })) (ascii x)
+
+-- a run on the hall opened, lent a first tally, and one lent the fresh tally
+unfoldable pub rowFrom : Counters → (table choices : String) → Observed → Example
+unfolding numbers
+rowFrom c table choices e =
+    record { table = numbers table; stored = none; first = c; choices = numbers choices; expected = e }
+
+unfoldable pub row : (table choices : String) → Observed → Example
+unfolding rowFrom tally
+row table choices e = rowFrom (tally 0 0 0) table choices e
+
+-- a table that is accepted, with no choice run: the stations that stand, the choices accepted, and their lines
+unfoldable pub acceptedTable : (table stations accepts lines : List ℕ) → Example
+unfolding ranTo tally trays ascii
+acceptedTable table stations es lines =
+    let l : Left = record { counts = trays ""; stations = stations; oneStep = stations; accepts = es } in
+    let s : OneStep = record { counts = trays ""; stations = stations; counters = tally 0 0 0 } in
+    record {
+      table = table;
+      stored = none;
+      first = tally 0 0 0;
+      choices = [];
+      expected = ranTo [] 0 0 0 (tally 0 0 0) l (some s) (ascii "R 0 0 0\nC 0 0 0\n" ++ lines);
+    }
+
+-- a table that is refused: every call says so, and hall and tally stay as they were lent
+unfoldable pub refusedTable : (table : List ℕ) (number place : ℕ) (text : String) → Example
+unfolding verdict tally noise ascii
+refusedTable table n p x =
+    record {
+      table = table;
+      stored = none;
+      first = tally 3 4 5;
+      choices = [];
+      expected =
+          record {
+            checked = verdict n p;
+            opens = notOpened n p;
+            before = verdict n p;
+            rules = [];
+            number = n;
+            place = p;
+            done = 0;
+            counters = tally 3 4 5;
+            hall = noise;
+            behind = verdict n p;
+            accepts = [];
+            oneStep = none;
+            text = ascii x;
+          };
+    }
+
+-- ---- the ten rehearsals
+
+unfoldable pub rehearsals : List Example
+unfolding ascii numbers times attempt leafOf noted chain doublings acts tally left leftOpen ran row acceptedTable
+    refusedTable
+rehearsals =
+    -- 1. the run that document 01 prints, to the byte
+    row "7 10 1 0 9 0 1 6 2 12 0 1 13 3" "1 0 2 0 0 2 0 0 1 0 1 0"
+    (ran (ATST ∷ ARDOK ∷ AWR ∷ ATOK (rd 0 ∷ wt 1 ∷ []) ∷ OUT 1 ∷ []) 0 12 5 (tally 1 0 0)
+    (left "0 1" "" "")
+    "R 0 12 5\nC 1 0 0\nT 0 1 -1 0\nT 1 0 1 1\n") ∷
+    -- 2. rd 0.rd 1.wt 2.end orElse wt 3.end, one token in tray 0: the committed log is wt 3 alone
+    row "7 10 2 0 9 1 1 9 0 2 10 3 0 11 3 4 6 5 12 0 1 13 6" "1 0 2 0 0 2 0 1 2 0 1 2 0 0 2 0 0 1 0"
+    (ran (ATST ∷ AOI ∷ ARDOK ∷ ARDF ∷ AOF ∷ AWR ∷ ATOK (wt 3 ∷ []) ∷ []) 0 19 7 (tally 1 0 0)
+    (left "1" "24 3" "1 0")
+    "R 0 19 7\nC 1 0 0\nT 0 1 0 1\nP 3\n") ∷
+    -- 3. rd 0.rd 0.end, one token: ARDF at the second read
+    row "7 9 0 0 9 0 1 6 2 12 0 1 13 3" "1 0 2 0 0 2 0 0"
+    (ran (ATST ∷ ARDOK ∷ ARDF ∷ []) 0 8 3 (tally 0 0 0)
+    (leftOpen "1" (attempt 3 "1" (leafOf 255 1 "0")) (noted 3 "1") "1 0")
+    "R 0 8 3\nC 0 0 0\nT 0 1 0 1\nA 3 1\n") ∷
+    -- 4. two blocks rd 0.end, one token, both opened and read: ATOK, then ATFAIL
+    row "7 9 0 0 6 1 5 2 2 12 0 1 13 3" "1 0 1 1 2 0 0 2 1 0 1 0 1 0"
+    (ran (ATST ∷ ATST ∷ ARDOK ∷ ARDOK ∷ ATOK (rd 0 ∷ []) ∷ ATFAIL ∷ []) 0 14 6 (tally 1 1 0)
+    (left "" "20 2" "1 0")
+    "R 0 14 6\nC 1 1 0\nT 0 1 -1 0\nW 2\n") ∷
+    -- 5. rd 0.wt 1.end orElse wt 2.end opened on empty tray 0, which then gains one: the commit still lays down tray 2
+    row "7 10 1 0 9 0 1 10 2 0 11 2 3 6 4 2 0 5 5 6 13 7" "1 0 1 1 2 0 0 2 0 1 2 0 0 2 0 0 1 0"
+    (ran (ATST ∷ OUT 0 ∷ AOI ∷ ARDF ∷ AOF ∷ AWR ∷ ATOK (wt 2 ∷ []) ∷ []) 0 18 7 (tally 1 0 0)
+    (left "1" "24 2" "1 0")
+    "R 0 18 7\nC 1 0 0\nT 0 0 1 1\nP 2\n") ∷
+    -- 6. wt 0.rd 0.end on empty tray 0: ARDF
+    row "7 9 0 0 10 0 1 6 2 13 3" "1 0 2 0 0 2 0 0"
+    (ran (ATST ∷ AWR ∷ ARDF ∷ []) 0 8 3 (tally 0 0 0)
+    (leftOpen "" (attempt 3 "" (leafOf 255 1 "16")) (noted 3 "") "1 0")
+    "R 0 8 3\nC 0 0 0\nA 3 1\n") ∷
+    -- 7. the empty table: 9, place 0
+    refusedTable [] 9 0 "R 9 0 0\n" ∷
+    -- 8. width 64 is accepted, and all 64 stations stand
+    acceptedTable (numbers "2 0" ++ (doublings 5 6 0 ++ numbers "13 6"))
+    (times 64 (numbers "24 0")) (acts 64) (times 64 (ascii "P 0\n")) ∷
+    -- 8. width 65 is refused 7, at the record that makes it
+    refusedTable (numbers "2 0" ++ (doublings 5 6 0 ++ numbers "5 6 0 13 7")) 7 20 "R 7 20 0\n" ∷
+    -- 9. branches 8 are accepted
+    acceptedTable (7 ∷ (doublings 11 3 0 ++ numbers "6 3 13 4")) (numbers "20 4") (numbers "1 0") (ascii "W 4\n") ∷
+    -- 9. branches 9 are refused 7
+    refusedTable (7 ∷ (doublings 11 3 0 ++ numbers "11 3 0 6 4 13 5")) 7 10 "R 7 10 0\n" ∷
+    -- 9. length 16 is accepted
+    acceptedTable (7 ∷ (chain 10 16 0 ++ numbers "6 16 13 17")) (numbers "20 17") (numbers "1 0") (ascii "W 17\n") ∷
+    -- 9. length 17 is refused 7
+    refusedTable (7 ∷ (chain 10 17 0 ++ numbers "6 17 13 18")) 7 49 "R 7 49 0\n" ∷
+    -- 10. OUT at 254 gives 255; at 255 it is 20
+    row "2 0 5 0 0 12 0 254 13 1" "1 0 1 0"
+    (ran (OUT 0 ∷ []) 20 2 1 (tally 0 0 0)
+    (left "255" "24 0" "")
+    "R 20 2 1\nC 0 0 0\nT 0 254 1 255\nP 0\n") ∷
+    []
+
+-- ---- further runs
+
+unfoldable pub furtherRuns : List Example
+unfolding ascii numbers attempt leafOf noted tally left leftOpen ranTo ran row rowFrom
+furtherRuns =
+    -- for the order of nodes and of outputs: wt 0.wt 1.end orElse wt 2.end, the right side moved first, two writes
+    row "7 10 1 0 10 0 1 10 2 0 11 2 3 6 4 13 5" "1 0 2 0 0 2 0 2 2 0 1 2 0 1 2 0 0 1 0"
+    (ran (ATST ∷ AOI ∷ AWR ∷ AWR ∷ AWR ∷ AOE ∷ ATOK (wt 0 ∷ wt 1 ∷ []) ∷ []) 0 19 7 (tally 1 0 0)
+    (left "" "24 0 24 1" "1 0 1 1") "R 0 19 7\nC 1 0 0\nP 0\nP 1\n") ∷
+    -- against AOF taken when a right side says retry: wt 0.end orElse retry, and 17 at the fork
+    row "7 10 0 0 8 11 1 2 6 3 13 4" "1 0 2 0 0 2 0 0"
+    (ran (ATST ∷ AOI ∷ []) 17 5 2 (tally 0 0 0)
+    (leftOpen "" (attempt 4 "" (22 ∷ (leafOf 1 0 "" ++ leafOf 2 0 ""))) (noted 4 "") "2 0 1")
+    "R 17 5 2\nC 0 0 0\nA 4 3\n") ∷
+    -- against the last readable path for the first: rd 0.wt 1.end orElse wt 2.end with a token in tray 0, so that both
+    -- are readable
+    row "7 10 1 0 9 0 1 10 2 0 11 2 3 6 4 12 0 1 13 5" "1 0 2 0 0 2 0 1 2 0 1 2 0 0 1 0"
+    (ran (ATST ∷ AOI ∷ ARDOK ∷ AWR ∷ AOE ∷ ATOK (rd 0 ∷ wt 1 ∷ []) ∷ []) 0 16 6 (tally 1 0 0)
+    (left "" "24 1" "1 0")
+    "R 0 16 6\nC 1 0 0\nT 0 1 -1 0\nP 1\n") ∷
+    -- for the kinds and rules that the ten do not meet: take 1.nil, repeated take 2 of nil, atom retry,
+    -- atom (end orElse rd 3.end) and atom (rd 3.end) side by side. ARDF writes 255 although the table has a retry; the
+    -- run ends with 18
+    row "1 3 1 0 4 2 0 8 6 3 7 9 3 5 11 5 6 6 7 6 6 5 1 2 5 4 8 5 10 11 5 12 9 12 1 1 12 2 1 13 13"
+    "1 0 1 0 1 1 1 1 1 2 2 2 0 2 2 0 1 2 1 2 2 2 0 1 0"
+    (ran (IN 1 ∷ REP 2 ∷ ATST ∷ ATRE ∷ ATST ∷ AOI ∷ AOE ∷ ATOK [] ∷ ATST ∷ ARDF ∷ []) 18 23 10 (tally 1 0 1)
+    (leftOpen "" (numbers "20 2 20 4" ++ attempt 9 "" (leafOf 255 0 "")) (numbers "20 2 20 4" ++ noted 9 "") "1 1 1 2")
+    "R 18 23 10\nC 1 0 1\nT 1 1 -1 0\nT 2 1 -1 0\nW 2\nW 4\nA 9 1\n") ∷
+    -- for the order in which stations are laid down: rep 0.(put 1 | put 2) and take 0.(put 1 | put 2) beside a block
+    -- rd 0.wt 1.rd 0.wt 2.end
+    row "2 1 2 2 5 0 1 4 0 2 3 0 2 7 10 2 5 9 0 6 10 1 7 9 0 8 6 9 5 3 4 5 11 10 12 0 4 13 12"
+    "1 0 1 3 1 5 2 5 0 2 5 0 2 5 0 2 5 0 1 5"
+    (ran (REP 0 ∷ IN 0 ∷ ATST ∷ ARDOK ∷ AWR ∷ ARDOK ∷ AWR ∷ ATOK (rd 0 ∷ wt 1 ∷ rd 0 ∷ wt 2 ∷ []) ∷ []) 0 20 8
+    (tally 1 0 0)
+    (left "" "24 1 24 2 20 3 24 1 24 2 24 1 24 2" "1 0 1 1 1 3 1 4 1 5 1 6")
+    "R 0 20 8\nC 1 0 0\nT 0 4 -4 0\nP 1\nP 2\nW 3\nP 1\nP 2\nP 1\nP 2\n") ∷
+    -- for nodes in preorder, and both sides of an orElse with the log so far:
+    -- wt 3.((rd 0.end orElse wt 1.end) orElse wt 2.end), both orElse taken apart, the leaves at nodes 2, 3 and 4
+    row "7 9 0 0 10 1 0 11 1 2 10 2 0 11 3 4 10 3 5 6 6 13 7" "1 0 2 0 0 2 0 0 2 0 1 2 0 4"
+    (ran (ATST ∷ AWR ∷ AOI ∷ AOI ∷ AWR ∷ []) 0 14 5 (tally 0 0 0)
+    (leftOpen ""
+    (attempt 7 "" (22 ∷ 22 ∷ (leafOf 1 1 "19" ++ (leafOf 2 1 "19" ++ leafOf 0 2 "19 18")))) (noted 7 "") "2 0 2 2 0 3")
+    "R 0 14 5\nC 0 0 0\nA 7 5\n") ∷
+    -- against counters that pass 4,294,967,295 or stop before it: one commit, one failure and one retry, each counter
+    -- once at its top, once one below
+    tallied (tally 4294967295 4294967294 7) (tally 4294967295 4294967295 8) ∷
+    tallied (tally 4294967294 7 4294967295) (tally 4294967295 8 4294967295) ∷
+    tallied (tally 7 4294967295 4294967294) (tally 8 4294967295 4294967295) ∷
+    -- against a read that looks at its own tray alone: a stored hall that no run reached, with stations of every kind
+    -- and a log that does not fit its snapshot, so that rd 1 fails although tray 1 has its token
+    record {
+      table = numbers "7 8 10 0 0 9 1 2 6 3 1 3 2 5 4 2 5 13 4";
+      stored = some (hallOf (trays "0 0 1") (attempted (leafOf 3 1 "0")));
+      first = tally 7 8 9;
+      choices = numbers "2 4 1";
+      expected =
+          ranTo (ARDF ∷ []) 0 3 1 (tally 7 8 9)
+          (leftOpen "0 0 1" (attempted (leafOf 255 1 "0")) [] "1 0 1 1 1 2 1 3 2 4 0 2 4 2 2 4 4") none
+          (ascii "R 14 0 0\nC 0 0 0\nW 4\n");
+    } ∷
+    []
+  where
+    tallied : (first last : Counters) → Example
+    tallied first last =
+        rowFrom first "7 9 0 0 6 1 8 6 3 5 2 2 5 5 4 12 0 1 13 6" "1 0 1 1 2 0 0 2 1 0 1 0 1 0 1 1 1 1"
+        (ran (ATST ∷ ATST ∷ ARDOK ∷ ARDOK ∷ ATOK (rd 0 ∷ []) ∷ ATFAIL ∷ ATST ∷ ATRE ∷ []) 0 18 8 last
+        (left "" "20 2 20 4" "1 0 1 1")
+        "R 0 18 8\nC 1 1 1\nT 0 1 -1 0\nW 2\nW 4\n")
+
+    -- take, repeated take, block and output, and an attempt: a fork with this left side, and on its right another fork
+    attempted : List ℕ → List ℕ
+    attempted l =
+        numbers "20 6 20 7 20 4 24 15" ++ attempt 4 "0 1" (22 ∷ (l ++ (22 ∷ (leafOf 255 2 "16 1" ++ leafOf 2 0 ""))))
+
+-- ---- the claim
+
+-- in a row the definitions give what is expected
+abbrev pub Holds : Example → Type 0
+Holds e = observed e ≡ e .expected
+
+-- the ten, and the rows beyond them
+pub record Examples : Type 0 where
+  pub the-ten : All Holds rehearsals
+  pub beyond : All Holds furtherRuns

@@ -1,0 +1,75 @@
+-- The step call: one choice, given as three numbers (document 01, "Choices and moves" and "Reasons to turn a request
+-- down"). What it answers and leaves is said apart from the definition, which goes through a run over the choice's bytes.
+-- Assumes nothing.
+use Prim.Native.Nat.{ℕ, _≤_}
+use mathlib.Core.Path.{_≡_}
+use mathlib.Core.Logic.{_⊎_, _↔_, _≢_}
+use mathlib.Core.List.{List, [], _∷_}
+use lib.ListN.{length}
+use Rattle.calculus.specs.Reduction.{Rule}
+use Rattle.semantics.specs.Definitions.Basics.{Bytes}
+use Rattle.semantics.specs.Definitions.Table.{Table}
+use Rattle.semantics.specs.Definitions.Configuration.{Configuration}
+use Rattle.semantics.specs.Definitions.Stored.{bytesOf}
+use Rattle.semantics.specs.Definitions.Moves.{Entry, act, inside, moved, refused, answerTo, ruleNumber}
+use Rattle.semantics.specs.Definitions.Run.{counted}
+use Rattle.semantics.specs.Definitions.Calls.{admitted, notAdmitted, admission, Buffers, StepCall, stepCall, stepChoice, callAnswer}
+
+-- the choice that a kind, a position and a node name, and how many bytes it has in a schedule: kind 1 has no node, and
+-- one handed in counts for nothing
+pub data Names : (kind position node : ℕ) → Entry → (size : ℕ) → Type 0 where
+  names-act : {p k : ℕ} → Names 1 p k (act p) 2
+  names-inside : {p k : ℕ} → Names 2 p k (inside p k) 3
+
+-- the answers to a step
+pub data StepAsPrinted (table : List ℕ) (l : Buffers) (kind position node : ℕ) : StepCall → Type 0 where
+  -- table or hall is turned down: that number and place
+  not-admitted : {n p : ℕ} → admission table (l .hall) ≡ notAdmitted n p →
+      StepAsPrinted table l kind position node (record { number = n; place = p; rule = 0; buffers = l })
+  -- 12: the kind is not 1 or 2
+  kind-unknown : {t : Table} {h : Configuration} → admission table (l .hall) ≡ admitted t h → kind ≢ 1 → kind ≢ 2 →
+      StepAsPrinted table l kind position node (record { number = 12; place = 0; rule = 0; buffers = l })
+  -- the choice is refused: its number, at the choice's first byte
+  is-refused : {t : Table} {h : Configuration} {e : Entry} {size n : ℕ} → admission table (l .hall) ≡ admitted t h →
+      Names kind position node e size → answerTo h e ≡ refused n →
+      StepAsPrinted table l kind position node (record { number = n; place = 0; rule = 0; buffers = l })
+  -- it moved: the number of its rule, the hall behind it, the tally with that rule counted; its place is its end
+  has-moved : {t : Table} {h g : Configuration} {e : Entry} {size : ℕ} {r : Rule} →
+      admission table (l .hall) ≡ admitted t h → Names kind position node e size → answerTo h e ≡ moved r g →
+      StepAsPrinted table l kind position node
+      (record {
+        number = 0;
+        place = size;
+        rule = ruleNumber r;
+        buffers = record { hall = bytesOf g; counters = counted r (l .counters) };
+      })
+
+-- the definition gives exactly these
+unfoldable pub StepsAsPrinted : Type 0
+StepsAsPrinted =
+    (table : List ℕ) (l : Buffers) → Bytes table → Bytes (l .hall) → (kind position node : ℕ) (a : StepCall) →
+    (stepCall table l kind position node ≡ a) ↔ StepAsPrinted table l kind position node a
+
+-- refused, under any number: no rule, hall and tally as they were; 12, or 14 to 20, at place 0 (13 cannot come); done:
+-- number 0, a rule from 1 to 13, and the place 2 for kind 1 and 3 for kind 2
+unfoldable pub StepNumbers : Type 0
+StepNumbers =
+    (table : List ℕ) (l : Buffers) → Bytes table → Bytes (l .hall) → (kind position node : ℕ) →
+    let a = stepCall table l kind position node in
+    ((a .number ≢ 0 → (a .rule ≡ 0) × (a .buffers ≡ l)) ×
+    (12 ≤ a .number → (a .place ≡ 0) × (a .number ≤ 20) × (a .number ≢ 13))) ×
+    (a .number ≡ 0 →
+    (1 ≤ a .rule) × (a .rule ≤ 13) × (((kind ≡ 1) × (a .place ≡ 2)) ⊎ ((kind ≡ 2) × (a .place ≡ 3))))
+
+-- kind 1 with any node is one and the same call
+unfoldable pub NodeOfKind1 : Type 0
+NodeOfKind1 = (table : List ℕ) (l : Buffers) (p k m : ℕ) → stepCall table l 1 p k ≡ stepCall table l 1 p m
+
+-- as one of a list of calls it is answered in the same way, with one choice done where it moved and none elsewhere
+unfoldable pub StepIsCall : Type 0
+StepIsCall =
+    (table : List ℕ) (l : Buffers) (kind position node : ℕ) →
+    let a = stepCall table l kind position node in
+    let b = callAnswer table l (stepChoice kind position node) in
+    (b .number ≡ a .number) × (b .place ≡ a .place) × (b .buffers ≡ a .buffers) ×
+    ((b .number ≡ 0) ↔ (b .done ≡ 1)) × ((b .number ≢ 0) ↔ (b .done ≡ 0))

@@ -1,0 +1,9 @@
+-- What is claimed of those definitions: demand 2, demand 3, the accounts. Assumes nothing.
+pub mod Suggestions
+pub mod Denotation
+pub mod Correspondence
+pub mod NumberedRun
+pub mod ConverseRuns
+pub mod Atomicity
+pub mod InnerMoves
+pub mod Accounts

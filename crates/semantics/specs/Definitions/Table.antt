@@ -1,0 +1,244 @@
+-- Reading a rule table (document 01, "The rule table" and refusals 1 to 9).
+-- Any list of bytes is accepted, with its terms, tokens and start, or refused with a number and a place.
+-- Assumes nothing.
+use Prim.Native.Nat.{ℕ, zero, suc, _+_}
+use mathlib.Core.Bool.{Bool, true, false, not, _||_}
+use mathlib.Core.Option.{Option, none, some}
+use mathlib.Core.List.{List, [], _∷_, _++_}
+use lib.ListN.{length, getD, drop, set, replicate, getElem?}
+use lib.Dec.{leb, ltb, eqb}
+use Rattle.calculus.specs.Syntax.{Name, State}
+use Rattle.calculus.specs.State.{count}
+use Rattle.semantics.specs.Definitions.Layout.{channels, maxTerms, maxComponents, maxBranches, maxActions, noRecord}
+use Rattle.semantics.specs.Definitions.Basics.{firstOf}
+use Rattle.semantics.specs.Definitions.Terms.{Expression, endT, retryT, rdT, wtT, orElseT, Program, nilT, putT, takeT, repeatT, parT, atomT, Term, process, expression, width, branches, pathLength}
+
+-- ---- the record shapes
+
+-- the kinds, 1 to 13
+pub data Kind : Type 0 where
+  nilK putK takeK repeatK parK atomK endK retryK rdK wtK orElseK tokensK startK : Kind
+
+unfoldable pub kinds : List Kind
+kinds = nilK ∷ putK ∷ takeK ∷ repeatK ∷ parK ∷ atomK ∷ endK ∷ retryK ∷ rdK ∷ wtK ∷ orElseK ∷ tokensK ∷ startK ∷ []
+
+-- the kind that a byte names
+unfoldable pub kindOf : ℕ → Option Kind
+unfolding kinds
+kindOf zero = none
+kindOf (suc k) = getElem? kinds k
+
+-- what a byte of a body is: a tray, a reference to a process or to an expression, a count of tokens
+pub data Field : Type 0 where
+  channelF programF expressionF amountF : Field
+
+-- the bytes that follow a kind
+unfoldable pub fields : Kind → List Field
+fields nilK = []
+fields putK = channelF ∷ []
+fields takeK = channelF ∷ programF ∷ []
+fields repeatK = channelF ∷ programF ∷ []
+fields parK = programF ∷ programF ∷ []
+fields atomK = expressionF ∷ []
+fields endK = []
+fields retryK = []
+fields rdK = channelF ∷ expressionF ∷ []
+fields wtK = channelF ∷ expressionF ∷ []
+fields orElseK = expressionF ∷ expressionF ∷ []
+fields tokensK = channelF ∷ amountF ∷ []
+fields startK = programF ∷ []
+
+-- ---- what has been read so far
+
+-- the terms in order, so that a term's number is its place; the tokens given, 0 where none were
+pub record Reading : Type 0 where
+  pub terms : List Term
+  pub tokens : State
+
+-- an accepted table
+pub record Table : Type 0 where
+  pub terms : List Term
+  pub tokens : State
+  pub start : Program
+
+pub data TableAnswer : Type 0 where
+  accepted : Table → TableAnswer
+  refusedAt : (number place : ℕ) → TableAnswer
+
+-- whether a reference is to a process or to an expression, and which one. The tests for it come first: where a record
+-- is accepted, `asProgram` meets a process and `asExpression` an expression, and their other clauses are not used.
+unfoldable pub isProgram : Option Term → Bool
+isProgram none = false
+isProgram (some (process P)) = true
+isProgram (some (expression M)) = false
+
+unfoldable pub isExpression : Option Term → Bool
+isExpression none = false
+isExpression (some (process P)) = false
+isExpression (some (expression M)) = true
+
+unfoldable pub asProgram : Option Term → Program
+asProgram none = nilT 0
+asProgram (some (process P)) = P
+asProgram (some (expression M)) = nilT 0
+
+unfoldable pub asExpression : Option Term → Expression
+asExpression none = retryT noRecord
+asExpression (some (process P)) = retryT noRecord
+asExpression (some (expression M)) = M
+
+-- what a record says: kinds 1 to 11 are terms, 12 gives tokens, 13 names the start
+pub data Content : Type 0 where
+  termRecord : Term → Content
+  tokensRecord : Name → ℕ → Content
+  startRecord : Program → Content
+
+-- the record of this kind with this body, after the terms ts: a new term's number is how many came before it
+module _ (ts : List Term) (body : List ℕ) where
+  unfoldable pub programIn : ℕ → Program
+  unfolding asProgram
+  programIn i = asProgram (getElem? ts (getD body i 0))
+
+  unfoldable pub expressionIn : ℕ → Expression
+  unfolding asExpression
+  expressionIn i = asExpression (getElem? ts (getD body i 0))
+
+  unfoldable pub recordContent : Kind → Content
+  unfolding programIn expressionIn
+  recordContent nilK = termRecord (process (nilT (length ts)))
+  recordContent putK = termRecord (process (putT (length ts) (getD body 0 0)))
+  recordContent takeK = termRecord (process (takeT (length ts) (getD body 0 0) (programIn 1)))
+  recordContent repeatK = termRecord (process (repeatT (length ts) (getD body 0 0) (programIn 1)))
+  recordContent parK = termRecord (process (parT (length ts) (programIn 0) (programIn 1)))
+  recordContent atomK = termRecord (process (atomT (length ts) (expressionIn 0)))
+  recordContent endK = termRecord (expression (endT (length ts)))
+  recordContent retryK = termRecord (expression (retryT (length ts)))
+  recordContent rdK = termRecord (expression (rdT (length ts) (getD body 0 0) (expressionIn 1)))
+  recordContent wtK = termRecord (expression (wtT (length ts) (getD body 0 0) (expressionIn 1)))
+  recordContent orElseK = termRecord (expression (orElseT (length ts) (expressionIn 0) (expressionIn 1)))
+  recordContent tokensK = tokensRecord (getD body 0 0) (getD body 1 0)
+  recordContent startK = startRecord (programIn 0)
+
+-- ---- the tests on one record, each on all of its fields
+
+-- some field of the body fails
+unfoldable pub anyField : (Field → ℕ → Bool) → List Field → List ℕ → Bool
+anyField fails [] bs = false
+anyField fails (f ∷ fs) [] = false
+anyField fails (f ∷ fs) (b ∷ bs) = fails f b || anyField fails fs bs
+
+-- 3: one term more than a table may have
+unfoldable pub tooManyTerms : List Term → Content → Bool
+tooManyTerms ts (termRecord t) = leb maxTerms (length ts)
+tooManyTerms ts (tokensRecord a n) = false
+tooManyTerms ts (startRecord P) = false
+
+-- 4: a channel that no hall has
+unfoldable pub channelOutOfRange : Field → ℕ → Bool
+channelOutOfRange channelF b = leb channels b
+channelOutOfRange programF b = false
+channelOutOfRange expressionF b = false
+channelOutOfRange amountF b = false
+
+-- 5: a reference to a term that has not come yet
+unfoldable pub forwardReference : List Term → Field → ℕ → Bool
+forwardReference ts channelF b = false
+forwardReference ts programF b = leb (length ts) b
+forwardReference ts expressionF b = leb (length ts) b
+forwardReference ts amountF b = false
+
+-- 6: a process where an expression belongs, or the other way round
+unfoldable pub classMismatch : List Term → Field → ℕ → Bool
+unfolding isProgram isExpression
+classMismatch ts channelF b = false
+classMismatch ts programF b = not (isProgram (getElem? ts b))
+classMismatch ts expressionF b = not (isExpression (getElem? ts b))
+classMismatch ts amountF b = false
+
+-- 7: a term past one of the three limits
+unfoldable pub overLimit : Content → Bool
+unfolding width branches pathLength
+overLimit (termRecord (process P)) = ltb maxComponents (width P)
+overLimit (termRecord (expression M)) = ltb maxBranches (branches M) || ltb maxActions (pathLength M)
+overLimit (tokensRecord a n) = false
+overLimit (startRecord P) = false
+
+-- 8: tokens of no count, or given to a channel for the second time
+unfoldable pub badTokens : State → Content → Bool
+badTokens σ (termRecord t) = false
+badTokens σ (tokensRecord a n) = eqb n 0 || not (eqb (count σ a) 0)
+badTokens σ (startRecord P) = false
+
+-- a refusal's number with its test
+pub record Test : Type 0 where
+  pub code : ℕ
+  pub holds : Bool
+
+-- tests 2 to 8 on a record of kind K, in number order; `bs` is all that follows its first byte
+unfoldable pub tests : Reading → Kind → List ℕ → List Test
+unfolding fields recordContent anyField tooManyTerms channelOutOfRange forwardReference classMismatch overLimit badTokens
+tests r K bs =
+    let ts = r .terms in
+    let content = recordContent ts bs K in
+    record { code = 2; holds = ltb (length bs) (length (fields K)) } ∷
+    record { code = 3; holds = tooManyTerms ts content } ∷
+    record { code = 4; holds = anyField channelOutOfRange (fields K) bs } ∷
+    record { code = 5; holds = anyField (forwardReference ts) (fields K) bs } ∷
+    record { code = 6; holds = anyField (classMismatch ts) (fields K) bs } ∷
+    record { code = 7; holds = overLimit content } ∷
+    record { code = 8; holds = badTokens (r .tokens) content } ∷ []
+
+-- ---- record by record
+
+-- what a turn gives: the answer, or the reading after a record of so many bytes
+pub data RecordOutcome : Type 0 where
+  stop : TableAnswer → RecordOutcome
+  more : Reading → ℕ → RecordOutcome
+
+-- refusal 9, at the byte behind the start record where there is one
+unfoldable pub tableEnd : Reading → Program → ℕ → List ℕ → TableAnswer
+tableEnd r P at [] = accepted (record { terms = r .terms; tokens = r .tokens; start = P })
+tableEnd r P at (b ∷ bs) = refusedAt 9 at
+
+-- a record of w bytes that passed its tests; `next` is the place behind it and `bs` what follows there
+unfoldable pub recordPassed : Reading → Content → (w next : ℕ) → List ℕ → RecordOutcome
+unfolding tableEnd
+recordPassed r (termRecord t) w next bs = more (record { terms = r .terms ++ (t ∷ []); tokens = r .tokens }) w
+recordPassed r (tokensRecord a n) w next bs = more (record { terms = r .terms; tokens = set (r .tokens) a n }) w
+recordPassed r (startRecord P) w next bs = stop (tableEnd r P next bs)
+
+unfoldable pub recordTested : Reading → ℕ → Kind → List ℕ → Option Test → RecordOutcome
+unfolding recordPassed recordContent fields
+recordTested r at K bs (some t) = stop (refusedAt (t .code) at)
+recordTested r at K bs none =
+    let size = length (fields K) in
+    recordPassed r (recordContent (r .terms) bs K) (suc size) (at + suc size) (drop size bs)
+
+unfoldable pub recordOfKind : Reading → ℕ → List ℕ → Option Kind → RecordOutcome
+unfolding recordTested tests firstOf
+recordOfKind r at bs none = stop (refusedAt 1 at)
+recordOfKind r at bs (some K) = recordTested r at K bs (firstOf (λ t. t .holds) (tests r K bs))
+
+-- the record at a place; where the table ends there without a start record, refusal 9 at that place
+unfoldable pub readRecord : Reading → ℕ → List ℕ → RecordOutcome
+unfolding recordOfKind kindOf
+readRecord r at [] = stop (refusedAt 9 at)
+readRecord r at (k ∷ bs) = recordOfKind r at bs (kindOf k)
+
+unfoldable pub thenRead : RecordOutcome → (Reading → ℕ → TableAnswer) → TableAnswer
+thenRead (stop answer) next = answer
+thenRead (more r w) next = next r w
+
+-- the rest of a table from a place; each record takes a byte at least, so the first argument never runs out
+unfoldable pub readFrom : ℕ → Reading → ℕ → List ℕ → TableAnswer
+unfolding readRecord thenRead
+readFrom zero r at bs = refusedAt 9 at
+readFrom (suc f) r at bs = thenRead (readRecord r at bs) (λ s w. readFrom f s (at + w) (drop w bs))
+
+unfoldable pub emptyReading : Reading
+emptyReading = record { terms = []; tokens = replicate channels 0 }
+
+-- the answer on any list of bytes
+unfoldable pub readTable : List ℕ → TableAnswer
+unfolding readFrom emptyReading
+readTable bs = readFrom (suc (length bs)) emptyReading 0 bs

@@ -1,0 +1,3 @@
+pub mod Definitions
+pub mod Claims
+pub mod Checks
