@@ -1,10 +1,10 @@
 -- The lines of channels, one behind another.
 -- Assumes nothing.
-use Prim.Native.Nat.{ℕ, zero, suc, _+_, _*_, _-_, _≤_, _<_}
+use Prim.Native.Nat.{ℕ, suc, _+_, _*_, _-_, _≤_, _<_}
 use native.Mathlib.Omega.{arith}
 use native.Mathlib.Numerals.{add-one}
-use mathlib.Core.Path.{_≡_, refl, sym, ap, _∙_}
-use mathlib.Core.Bool.{Bool, true, false, cond, _&&_}
+use mathlib.Core.Path.{_≡_, refl, sym, _∙_}
+use mathlib.Core.Bool.{Bool, true, false, _&&_}
 use mathlib.Core.List.{List, [], _∷_, _++_, append-assoc, append-nil}
 use lib.ListN.{length, getD, take}
 use lib.Seq.{take-suc, length-take-le}
@@ -96,7 +96,8 @@ module _ (s₀ : List ℕ) (at : ℕ) (fs ls : List ℕ) where
     next-room l = let r = x .room in printed-room (x .printed) channelMost (omega arith)
 
     pub channel-more : i < 16 → (s₁ : List ℕ) (r : ℕ) →
-        Printed channelMost s end (channelText i (getD fs i 0) (getD ls i 0)) s₁ r → ChannelsSoFar s₀ at fs ls s₁ r (i + 1)
+        Printed channelMost s end (channelText i (getD fs i 0) (getD ls i 0)) s₁ r →
+        ChannelsSoFar s₀ at fs ls s₁ r (i + 1)
     channel-more l s₁ r y =
         let o = x .room in
         let z : channelMost * i + channelMost ≡ channelMost * (i + 1) = omega arith in

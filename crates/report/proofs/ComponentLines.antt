@@ -4,25 +4,25 @@ use Prim.Native.Nat.{ℕ, zero, suc, _+_, _*_, _-_, _≤_, _<_}
 use native.Mathlib.Omega.{arith}
 use native.Mathlib.Numerals.{add-one}
 use mathlib.Core.Path.{_≡_, refl, sym, ap, _∙_}
-use mathlib.Core.Option.{Option, none, some}
+use mathlib.Core.Option.{some}
 use mathlib.Core.List.{List, [], _∷_, _++_, map, flatten, append-assoc, append-nil}
 use lib.ListN.{length, getD, take, drop, getElem?, length-append}
 use lib.Seq.{take-all}
 use mir.Syntax.{w64}
 use mir.Val.{Fits}
 use Rattle.calculus.specs.Syntax.{State}
-use Rattle.semantics.specs.Definitions.Terms.{Term, Expression, process, takeT, repeatT, atomT}
-use Rattle.semantics.specs.Definitions.Configuration.{taking, repeating, block, output, Tree, leaf, fork, Component, idle, transaction, Configuration, branchesOf, nodes}
+use Rattle.semantics.specs.Definitions.Terms.{Term, Expression}
+use Rattle.semantics.specs.Definitions.Configuration.{taking, repeating, block, output, Tree, leaf, fork, Component, idle, transaction, Configuration, nodes}
 use Rattle.semantics.specs.Definitions.Stored.{treeBytes, componentBytes, ComponentOk, TreeOk}
 use Rattle.semantics.specs.Definitions.Report.{decimal, line, componentLine}
 use Rattle.semantics.proofs.Lists.{found-below}
 use Rattle.stored.specs.declared.Walk.{Walk}
-use Rattle.stored.specs.Layout.{channels, maxNodes, outputKind, waitingKind, transactionKind, componentBody, transactionHead, forkKind, leafKind, forkSize, leafSize}
+use Rattle.stored.specs.Layout.{maxNodes, outputKind, waitingKind, transactionKind, componentBody, transactionHead, forkKind, leafKind, forkSize}
 use Rattle.stored.specs.Nodes.{passed, nodeSize, pendingBehind}
 use Rattle.storedlaws.proofs.Cursors.{over, first-byte}
 use Rattle.storedlaws.proofs.Nodes.{few-nodes, leaf-bytes}
 use Rattle.index.specs.Holds.{Holds}
-use Rattle.index.proofs.Holding.{sixteen, hall-length, few-components, component-at, component-ok, component-ends, component-inside, component-here, kind-here, body-here, output-here, waiting-here, transaction-here, snapshot-sixteen, Waiting, takes, repeats, blocks}
+use Rattle.index.proofs.Holding.{hall-length, few-components, component-at, component-ok, component-ends, component-inside, component-here, kind-here, body-here, output-here, waiting-here, transaction-here, snapshot-sixteen, Waiting, takes, repeats, blocks}
 use Rattle.decimals.specs.Wrote.{Wrote}
 use Rattle.decimals.proofs.Digits.{decimal-short}
 use Rattle.lines.specs.Lines.{numberLine}
@@ -51,7 +51,8 @@ past-tree ts (fork l r) s at p k rest ok e =
     over s at (forkKind ∷ []) _ e ∙ append-assoc (treeBytes l) (treeBytes r) rest in
     let e″ = over s (at + forkSize) (treeBytes l) (treeBytes r ++ rest) e′ in
     let z : 1 + (nodes l + nodes r) + k ≡ suc (nodes l + (nodes r + k)) = omega arith in
-    let end : at + forkSize + length (treeBytes l) + length (treeBytes r) ≡ at + length (forkKind ∷ (treeBytes l ++ treeBytes r)) =
+    let end : at + forkSize + length (treeBytes l) + length (treeBytes r)
+    ≡ at + length (forkKind ∷ (treeBytes l ++ treeBytes r)) =
     simp length-append (omega arith) in
     ap (λ n. passed s n (suc p) at) z
     ∙ past-fork s (nodes l + (nodes r + k)) p at (first-byte s at forkKind _ e)
@@ -93,7 +94,8 @@ module _ {ts : List Term} {h : Configuration} {s starts : List ℕ} {n : ℕ} (x
       go (idle (output a′)) k = absurd (a k)
       go (transaction m M σ t) k = k
 
-  module _ (m : ℕ) (M : Expression) (σ : State) (t : Tree) (e : getElem? (h .components) p ≡ some (transaction m M σ t)) where
+  module _ (m : ℕ) (M : Expression) (σ : State) (t : Tree)
+      (e : getElem? (h .components) p ≡ some (transaction m M σ t)) where
     tree-inside : getD starts p 0 + transactionHead ≤ length s
     unfolding componentBytes
     tree-inside =
@@ -148,10 +150,12 @@ module _ (s starts : List ℕ) (n p : ℕ) (st : Standing s starts n) (there : p
       let l = hall-length (st .holds) in record { fits = omega arith }
 
   -- neither an output nor one that waits
-  module _ (kind : ℕ) (k : kind ≡ getD s (getD starts p 0) 0) (a : kind ≡ outputKind → ⊥) (o : kind ≡ waitingKind → ⊥) where
+  module _ (kind : ℕ) (k : kind ≡ getD s (getD starts p 0) 0) (a : kind ≡ outputKind → ⊥)
+      (o : kind ≡ waitingKind → ⊥) where
     is-transaction : {ts : List Term} {h : Configuration} (x : Holds ts h s starts n) (c : Component) →
         getElem? (h .components) p ≡ some c →
-        (M : Expression) × (σ : State) × (t : Tree) × (c ≡ transaction (getD s (getD starts p 0 + componentBody) 0) M σ t)
+        (M : Expression) × (σ : State) × (t : Tree) ×
+        (c ≡ transaction (getD s (getD starts p 0 + componentBody) 0) M σ t)
     is-transaction x c e = transaction-here x p c e (other-kind x p c e (λ q. a (k ∙ q)) (λ q. o (k ∙ q)))
 
     pub walk-inside : getD starts p 0 + transactionHead ≤ length s
@@ -167,8 +171,10 @@ module _ (s starts : List ℕ) (n p : ℕ) (st : Standing s starts n) (there : p
           (w .left ≡ maxNodes - nodes (is-transaction x c e .2)) × (nodes (is-transaction x c e .2) ≤ maxNodes)
       left-is x c e =
           let T = is-transaction x c e in
-          let g = e ∙ ap some (T .3) in
-          (ap (λ (w : Walk). w .left) u ∙ nodes-left x p _ (T .0) (T .1) (T .2) g, nodes-few x p _ (T .0) (T .1) (T .2) g)
+          let g = e ∙ ap some (T .3) in (
+            ap (λ (w : Walk). w .left) u ∙ nodes-left x p _ (T .0) (T .1) (T .2) g,
+            nodes-few x p _ (T .0) (T .1) (T .2) g,
+          )
 
       pub left-few : (top : ℕ) → top ≡ maxNodes → w .left ≤ top
       left-few top fifteen =
@@ -194,12 +200,13 @@ module _ (s starts : List ℕ) (n p : ℕ) (st : Standing s starts n) (there : p
           (record { wrote = w; short = one-short 80 y body-byte });
     }
 
-    pub waiting-printed : (kind : ℕ) → kind ≡ getD s (getD starts p 0) 0 → kind ≡ waitingKind → (out₁ : List ℕ) (r : ℕ) →
-        Wrote out at (numberLine 87 (y ∷ 0 ∷ 0 ∷ []) 1) out₁ r → ComponentPrinted s starts n p out at out₁ r
+    pub waiting-printed : (kind : ℕ) → kind ≡ getD s (getD starts p 0) 0 → kind ≡ waitingKind →
+        (out₁ : List ℕ) (r : ℕ) → Wrote out at (numberLine 87 (y ∷ 0 ∷ 0 ∷ []) 1) out₁ r → ComponentPrinted s starts n p out at out₁ r
     unfolding componentLine
     waiting-printed kind k f out₁ r w = record { found = λ ts h c x e. go ts c (waiting-here x p c e (sym k ∙ f)) }
       where
-        short : Printed componentMost out at (line 87 (decimal (getD s (getD starts p 0 + componentBody) 0) ∷ [])) out₁ r
+        short : Printed componentMost out at
+            (line 87 (decimal (getD s (getD starts p 0 + componentBody) 0) ∷ [])) out₁ r
         short = rw (← b, ← z, ← line-one 87 y 0 0) (record { wrote = w; short = one-short 87 y body-byte })
 
         go : (ts : List Term) (c : Component) → Waiting ts (getD s (getD starts p 0 + componentBody) 0) c →
@@ -209,7 +216,8 @@ module _ (s starts : List ℕ) (n p : ℕ) (st : Standing s starts n) (there : p
         go ts c (blocks M q t) = rw q short
 
     module _ (kind : ℕ) (k : kind ≡ getD s (getD starts p 0) 0) (a : kind ≡ outputKind → ⊥) (o : kind ≡ waitingKind → ⊥)
-        (w : Walk) (u : w ≡ passed s maxNodes 1 (getD starts p 0 + transactionHead)) (top : ℕ) (fifteen : top ≡ maxNodes) where
+        (w : Walk) (u : w ≡ passed s maxNodes 1 (getD starts p 0 + transactionHead)) (top : ℕ)
+        (fifteen : top ≡ maxNodes) where
       pub two-fits : (letter : ℕ) → at + length (numberLine letter (y ∷ (top - w .left) ∷ 0 ∷ []) 2) ≤ length out
       two-fits letter = let l = two-short letter y (top - w .left) body-byte (omega arith) in omega arith
 
@@ -246,7 +254,8 @@ lines-next cs p c e = rw (add-one p) (go cs p e)
     go (x ∷ cs) zero e = let q : x ≡ c = cc in rw (q, append-nil) refl
     go (x ∷ cs) (suc p) e = rw (go cs p e) (sym (append-assoc (componentLine x) _ _))
 
-pub record ComponentsSoFar (s starts : List ℕ) (n : ℕ) (out₀ : List ℕ) (at : ℕ) (out : List ℕ) (end i : ℕ) : Type 0 where
+pub record ComponentsSoFar (s starts : List ℕ) (n : ℕ) (out₀ : List ℕ) (at : ℕ) (out : List ℕ) (end i : ℕ) :
+    Type 0 where
   pub standing : Standing s starts n
   pub room : at + componentsMost ≤ length out₀
   pub inside : i ≤ n
@@ -254,7 +263,8 @@ pub record ComponentsSoFar (s starts : List ℕ) (n : ℕ) (out₀ : List ℕ) (
       Printed (componentMost * i) out₀ at (flatten (map componentLine (take i (h .components)))) out end
 
 module _ (s starts : List ℕ) (n : ℕ) (out₀ : List ℕ) (at : ℕ) where
-  pub no-component : Standing s starts n → at + componentsMost ≤ length out₀ → ComponentsSoFar s starts n out₀ at out₀ at 0
+  pub no-component : Standing s starts n → at + componentsMost ≤ length out₀ →
+      ComponentsSoFar s starts n out₀ at out₀ at 0
   unfolding flatten
   no-component st r =
       record { standing = st; room = r; inside = omega arith; printed = λ ts h x. printed-none 0 out₀ at }
@@ -263,7 +273,8 @@ module _ (s starts : List ℕ) (n : ℕ) (out₀ : List ℕ) (at : ℕ) where
     few : n ≤ 64
     few = few-components (y .standing .holds)
 
-    here : Printed (componentMost * i) out₀ at (flatten (map componentLine (take i (y .standing .configuration .components)))) out end
+    here : Printed (componentMost * i) out₀ at
+        (flatten (map componentLine (take i (y .standing .configuration .components)))) out end
     here = y .printed _ _ (y .standing .holds)
 
     pub components-length : length out ≡ length out₀

@@ -1,8 +1,8 @@
 -- The text of an input.
 -- Assumes nothing.
-use Prim.Native.Nat.{ℕ, _+_, _-_, _≤_, _<_}
+use Prim.Native.Nat.{ℕ, _-_, _≤_, _<_}
 use native.Mathlib.Omega.{arith}
-use mathlib.Core.Path.{_≡_, refl, sym, ap, _∙_}
+use mathlib.Core.Path.{_≡_, refl, sym}
 use mathlib.Core.List.{List, [], _∷_}
 use lib.ListN.{length, getD, take, drop, replicate, length-replicate, length-drop, take-append-drop}
 use lib.Seq.{length-take-le, take-all}
@@ -12,7 +12,7 @@ use Rattle.semantics.specs.Definitions.Layout.{maxInput}
 use Rattle.semantics.specs.Definitions.Basics.{Bytes}
 use Rattle.semantics.specs.Definitions.Table.{TableAnswer, accepted, refusedAt, readTable}
 use Rattle.semantics.specs.Definitions.Report.{printedRun}
-use Rattle.semantics.specs.Checks.PrintedRun.{PrintsCalls, PrintedLong, PrintedRefused, PrintedAsCalls}
+use Rattle.semantics.specs.Checks.PrintedRun.{PrintedLong, PrintedRefused, PrintedAsCalls}
 use Rattle.semantics.proofs.Lists.{all-left}
 use Rattle.semantics.proofs.PrintedRun.{printed-long, printed-refused, printed-as-calls}
 use Rattle.stored.specs.Layout.{hallBytes}
@@ -38,7 +38,8 @@ table-size input end x = sym (length-take-le end input (x .inside))
 module _ (input : List ℕ) (short : length input ≤ maxInput) (bytes : (i : ℕ) → Fits w8 (getD input i 0)) (end : ℕ)
     (x : TableUpTo input end) (out out₁ : List ℕ) (r : ℕ) where
   -- the choices are what is behind the table, all of it
-  pub run-written : RunPrinted (take end input) (take (length input - end) (drop end input)) (replicate hallBytes 0) out out₁ r →
+  pub run-written :
+      RunPrinted (take end input) (take (length input - end) (drop end input)) (replicate hallBytes 0) out out₁ r →
       Printed linesMost out 0 (printedRun input) out₁ r
   unfolding PrintedRefused PrintedAsCalls
   run-written y = go (readTable (take end input)) refl
@@ -55,5 +56,7 @@ module _ (input : List ℕ) (short : length input ≤ maxInput) (bytes : (i : �
       go (refusedAt n p) e = rw (printed-refused input short (take end input) (x .part) n p e) (y .refused n p e)
       go (accepted t) e =
           let z : length (take end input) ≡ end = length-take-le end input (x .inside) in
-          let p = printed-as-calls input short (take end input) (x .part) t (table-bytes, e) (replicate hallBytes 0) (sym hall-size) in
+          let p =
+          printed-as-calls input short (take end input) (x .part) t (table-bytes, e) (replicate hallBytes 0)
+          (sym hall-size) in
           y .done t (printedRun input) e (rw rest (rw z at p))

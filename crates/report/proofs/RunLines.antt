@@ -1,8 +1,8 @@
 -- The lines of a run's numbers and of its counters.
 -- Assumes nothing.
-use Prim.Native.Nat.{ℕ, _+_, _≤_, _<_}
+use Prim.Native.Nat.{ℕ, _+_, _≤_}
 use native.Mathlib.Omega.{arith}
-use mathlib.Core.Path.{_≡_, refl, sym, ap, _∙_}
+use mathlib.Core.Path.{_≡_, refl}
 use mathlib.Core.List.{List, [], _∷_}
 use lib.ListN.{length}
 use mir.Syntax.{w8, w64}
@@ -16,7 +16,6 @@ use Rattle.runs.specs.declared.RunAnswer.the-variants.{Completed, Refused}
 use Rattle.decimals.specs.Wrote.{Wrote}
 use Rattle.decimals.proofs.Digits.{decimal-short}
 use Rattle.lines.specs.Lines.{numberLine}
-use Rattle.report.specs.declared.outcomes.Outcome.{Outcome}
 use Rattle.report.specs.Limits.{runMost, countersMost}
 use Rattle.report.specs.Printed.{Printed}
 use Rattle.report.specs.Runs.{OutcomeIs, CounterIs}
@@ -28,7 +27,8 @@ module _ (a : RunAnswer) (p d : ℕ) (c : Counters) where
   pub outcome-completed : a ≡ Completed p d c → OutcomeIs a (record { number = 0; place = p; done = d; counters = c })
   outcome-completed e = record { same = λ hall. rw e refl }
 
-  pub outcome-refused : (n : ℕ) → a ≡ Refused n p d c → OutcomeIs a (record { number = n; place = p; done = d; counters = c })
+  pub outcome-refused : (n : ℕ) → a ≡ Refused n p d c →
+      OutcomeIs a (record { number = n; place = p; done = d; counters = c })
   outcome-refused n e = record { same = λ hall. rw e refl }
 
 -- ---- the line of the run

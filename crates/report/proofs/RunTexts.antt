@@ -1,32 +1,30 @@
 -- The text of a run: its lines together, for a hall that is held, for one that a run left behind, and for a table that
 -- is opened.
 -- Assumes nothing.
-use Prim.Native.Nat.{ℕ, zero, suc, _+_, _≤_, _<_}
+use Prim.Native.Nat.{ℕ, zero, suc, _+_, _≤_}
 use native.Mathlib.Omega.{arith}
 use mathlib.Core.Path.{_≡_, refl, sym, ap, _∙_}
 use mathlib.Core.Bool.{Bool, true, false}
 use mathlib.Core.Option.{Option, none, some, bind}
 use mathlib.Core.List.{List, [], _∷_, _++_, map, flatten, append-assoc, append-nil}
 use lib.ListN.{length, take, drop, replicate, length-replicate}
-use lib.Seq.{take-length, drop-length, take-all, length-take-le}
+use lib.Seq.{take-all, length-take-le}
 use lib.Dec.{leb}
 use borrow.Author.Tests.{eq-eqb}
 use Rattle.semantics.specs.Definitions.Basics.{onlyIf}
 use Rattle.semantics.specs.Definitions.Terms.{Term}
-use Rattle.semantics.specs.Definitions.Table.{Table, TableAnswer, accepted, refusedAt, readTable}
+use Rattle.semantics.specs.Definitions.Table.{Table, accepted, refusedAt, readTable}
 use Rattle.semantics.specs.Definitions.Configuration.{Component, Configuration}
 use Rattle.semantics.specs.Definitions.Stored.{splitBytes, componentsFrom, configurationOf}
 use Rattle.semantics.specs.Definitions.Run as run
-use Rattle.semantics.specs.Definitions.Calls.{admitted, formTested, sizeTested, tableTested, admission, opened, notOpened, openSized, openTested, openHall, RunCall, runCall}
+use Rattle.semantics.specs.Definitions.Calls.{admitted, formTested, sizeTested, tableTested, admission, notOpened, openTested, openHall, RunCall, runCall}
 use Rattle.semantics.specs.Definitions.Report.{runLine, countersLine, channelLines, componentLine, lines}
-use Rattle.semantics.specs.Checks.PrintedRun.{PrintsCalls}
 use Rattle.stored.specs.Layout.{channels, hallBytes}
 use Rattle.buffer.specs.Splice.{written}
 use Rattle.counters.specs.declared.Counters.{Counters}
 use Rattle.counters.specs.Counted.{countersOf}
 use Rattle.runs.specs.declared.RunAnswer.{RunAnswer}
 use Rattle.runs.specs.Answers.{runCallOf}
-use Rattle.index.specs.Holds.{Holds}
 use Rattle.index.proofs.Holding.{hall-length, counts-here}
 use Rattle.admission.specs.declared.Admission.{Admission}
 use Rattle.admission.specs.declared.Admission.the-variants as admit
@@ -61,7 +59,8 @@ lines-are f a c e =
     let y = flatten (map componentLine (a .configuration .components)) in
     ap (λ x. v ++ (w ++ (x ++ y))) e ∙ sym (regrouped v w c y)
 
-module _ (s starts : List ℕ) (n : ℕ) (first : List ℕ) (o : Outcome) (out₀ out₁ out₂ out₃ out₄ : List ℕ) (i₁ i₂ i₃ i₄ : ℕ) where
+module _ (s starts : List ℕ) (n : ℕ) (first : List ℕ) (o : Outcome) (out₀ out₁ out₂ out₃ out₄ : List ℕ)
+    (i₁ i₂ i₃ i₄ : ℕ) where
   pub lines-printed : linesMost ≤ length out₀ →
       Printed runMost out₀ 0 (runLine (o .number) (o .place) (o .done)) out₁ i₁ →
       Printed countersMost out₁ i₁ (countersLine (countersOf (o .counters))) out₂ i₂ →
@@ -80,8 +79,8 @@ module _ (s starts : List ℕ) (n : ℕ) (first : List ℕ) (o : Outcome) (out�
 
 -- ---- a hall that is admitted
 
-admission-is : (table s : List ℕ) (t : Table) (l : Configuration) → readTable table ≡ accepted t → length s ≡ hallBytes →
-    configurationOf (t .terms) s ≡ some l → admission table s ≡ admitted t l
+admission-is : (table s : List ℕ) (t : Table) (l : Configuration) → readTable table ≡ accepted t →
+    length s ≡ hallBytes → configurationOf (t .terms) s ≡ some l → admission table s ≡ admitted t l
 unfolding admission tableTested sizeTested formTested
 admission-is table s t l reads size stored = rw (reads, eq-eqb (length s) 11344 size, stored) refl
 
@@ -117,7 +116,8 @@ front-short (suc n) (x ∷ s) = let l = front-short n s in omega arith
 pub front-size : (s : List ℕ) → channels ≤ length s → channels ≡ length (take channels s)
 front-size s l = sym (length-take-le channels s l)
 
-pub front-fits : (s : List ℕ) → channels ≤ length s → 0 + length (take channels s) ≤ length {A = ℕ} (replicate channels 0)
+pub front-fits : (s : List ℕ) → channels ≤ length s →
+    0 + length (take channels s) ≤ length {A = ℕ} (replicate channels 0)
 front-fits s l = let a = front-size s l in let b = length-replicate {A = ℕ} channels 0 in omega arith
 
 pub front-written : (s r : List ℕ) → channels ≤ length s →
@@ -127,17 +127,20 @@ front-written s r l e =
     let v = take channels s in
     let zeros : List ℕ = replicate channels 0 in
     let begun : r ≡ (take 0 zeros ++ take (length v) v) ++ drop (0 + length v) zeros = e in
-    begun ∙ ap (λ n. (take 0 zeros ++ take n v) ++ drop (0 + n) zeros) (sym (front-size s l)) ∙ append-nil (take channels v)
-    ∙ take-all channels v (front-short channels s)
+    begun ∙ ap (λ n. (take 0 zeros ++ take n v) ++ drop (0 + n) zeros) (sym (front-size s l))
+    ∙ append-nil (take channels v) ∙ take-all channels v (front-short channels s)
 
 -- those of a configuration that is read
-counts-read : (ts : List Term) (s : List ℕ) (h : Configuration) → configurationOf ts s ≡ some h → h .counts ≡ take channels s
+counts-read : (ts : List Term) (s : List ℕ) (h : Configuration) → configurationOf ts s ≡ some h →
+    h .counts ≡ take channels s
 unfolding configurationOf splitBytes bind onlyIf
 counts-read ts s h e = whole (leb channels (length s)) e
   where
     few : (b : Bool) (cs : List Component) → onlyIf b (record { counts = take channels s; components = cs }) ≡ some h →
         h .counts ≡ take channels s
-    few true cs e = let q : record { counts = take channels s; components = cs } ≡ h = cc in ap (λ (g : Configuration). g .counts) (sym q)
+    few true cs e =
+        let q : record { counts = take channels s; components = cs } ≡ h = cc in
+        ap (λ (g : Configuration). g .counts) (sym q)
     few false cs e = let z : _≡_ {A = ℕ} 0 1 = cc in absurd (omega arith)
 
     each : (m : Option (List Component)) →
@@ -147,7 +150,8 @@ counts-read ts s h e = whole (leb channels (length s)) e
     each (some cs) e = few (leb (length cs) 64) cs e
 
     whole : (b : Bool) →
-        bind {A = List ℕ × List ℕ} (onlyIf b (take channels s, drop channels s)) (λ c. bind (componentsFrom (suc (length s)) ts (c .1)) (λ cs.
+        bind {A = List ℕ × List ℕ} (onlyIf b (take channels s, drop channels s)) (λ c.
+        bind (componentsFrom (suc (length s)) ts (c .1)) (λ cs.
         onlyIf (leb (length cs) 64) (record { counts = c .0; components = cs }))) ≡ some h →
         h .counts ≡ take channels s
     whole true e = each (componentsFrom (suc (length s)) ts (drop channels s)) e
@@ -155,7 +159,8 @@ counts-read ts s h e = whole (leb channels (length s)) e
 
 -- ---- a table that is opened
 
-open-refused : (table hall : List ℕ) (n p : ℕ) → readTable table ≡ refusedAt n p → (openHall table hall) .answer ≡ notOpened n p
+open-refused : (table hall : List ℕ) (n p : ℕ) → readTable table ≡ refusedAt n p →
+    (openHall table hall) .answer ≡ notOpened n p
 unfolding openHall openTested
 open-refused table hall n p e = rw e refl
 

@@ -5,20 +5,20 @@ use native.Mathlib.Omega.{arith}
 use mathlib.Core.Path.{_≡_, refl, sym, ap, _∙_}
 use mathlib.Core.Logic.{_⊎_, inl, inr}
 use mathlib.Core.Bool.{Bool, true, false}
-use mathlib.Core.Option.{Option, none, some}
+use mathlib.Core.Option.{some}
 use mathlib.Core.List.{List, [], _∷_}
 use lib.ListN.{length, getD, take, drop, drop-of-length-le}
 use lib.Dec.{eqb}
 use borrow.Author.Tests.{eqb-true, eqb-false}
 use Rattle.semantics.proofs.Lists.{found-below}
 use lib.Seq.{drop-cons, drop-drop, take-all, take-length}
-use Rattle.semantics.specs.Definitions.Table.{Kind, kindOf, kinds, fields, startK}
-use Rattle.semantics.specs.Checks.PrintedRun.{TableEnds, at-start, past-record, TablePart, up-to-start, all-of-it}
+use Rattle.semantics.specs.Definitions.Table.{Kind, kindOf, kinds, fields}
+use Rattle.semantics.specs.Checks.PrintedRun.{TableEnds, at-start, past-record, up-to-start, all-of-it}
 use Rattle.records.specs.declared.Record.{Record}
 use Rattle.records.specs.declared.Parsed.{Parsed}
 use Rattle.records.specs.declared.Parsed.the-variants.{End, UnknownKind, CutShort, Whole}
-use Rattle.records.specs.Shapes.{bodyOf, lastKind}
-use Rattle.records.specs.Parsing.{IsKind, WholeRecord, ShortRecord, ParsedAs}
+use Rattle.records.specs.Shapes.{bodyOf}
+use Rattle.records.specs.Parsing.{WholeRecord, ShortRecord, ParsedAs}
 use Rattle.records.proofs.Shapes.{body-of-kind}
 use Rattle.tablelaws.proofs.KindBytes.{kind-at}
 use Rattle.report.specs.Printed.{TableUpTo}
@@ -51,7 +51,11 @@ pub record SteppedTo (s : List ℕ) (at : ℕ) : Type 0 where
   pub only : (n : ℕ) → TableEnds s n → (m : ℕ) × TableEnds (drop at s) m
 
 pub not-yet : (s : List ℕ) → SteppedTo s 0
-not-yet s = record { inside = omega arith; onwards = λ n x. let z : 0 + n ≡ n = omega arith in rw z x; only = λ n x. (n, x) }
+not-yet s = record {
+  inside = omega arith;
+  onwards = λ n x. let z : 0 + n ≡ n = omega arith in rw z x;
+  only = λ n x. (n, x);
+}
 
 module _ (s : List ℕ) (at : ℕ) (x : SteppedTo s at) where
   -- a whole record
@@ -81,12 +85,14 @@ module _ (s : List ℕ) (at : ℕ) (x : SteppedTo s at) where
         let b = w .behind in
         let body = ap length (body-of-kind (r .kind) (K .kind) (K .named)) in
         let here : r .next ≡ suc at + size = omega arith in
-        let rest : drop size (drop (suc at) s) ≡ drop (r .next) s = drop-drop size (suc at) s ∙ ap (λ i. drop i s) (sym here) in
+        let rest : drop size (drop (suc at) s) ≡ drop (r .next) s =
+        drop-drop size (suc at) s ∙ ap (λ i. drop i s) (sym here) in
         record {
           inside = let i = w .inside in omega arith;
           onwards = λ n y.
               let z : at + (suc size + n) ≡ r .next + n = omega arith in
-              rw (← z) (x .onwards (suc size + n) (rw first-byte (past-record {n = n} {bs = drop (suc at) s} (K .kind) (K .named) other (rw rest y))));
+              let over = past-record {n = n} {bs = drop (suc at) s} (K .kind) (K .named) other (rw rest y) in
+              rw (← z) (x .onwards (suc size + n) (rw first-byte over));
           only = λ n y.
               let m = x .only n y in
               let o = ends-behind (drop at s) (m .0) (m .1) (r .kind) (drop (suc at) s) first-byte other in
@@ -134,7 +140,8 @@ module _ (s : List ℕ) (at : ℕ) (x : SteppedTo s at) where
           let body = ap length (body-of-kind (getD s at 0) (o .0) (o .1)) in
           let past = w .past in
           let size = length (fields (o .0)) in
-          let end : drop size (drop (suc at) s) ≡ [] = drop-drop size (suc at) s ∙ drop-of-length-le s {i = suc at + size} (omega arith) in
+          let end : drop size (drop (suc at) s) ≡ [] =
+          drop-drop size (suc at) s ∙ drop-of-length-le s {i = suc at + size} (omega arith) in
           no-end (o .2) (rw end at (o .3)))
 
   module _ (p : Parsed) (parsed : ParsedAs s at p) where

@@ -2,7 +2,7 @@
 --
 -- s has the bytes of a configuration (hall) that is held, starts the index of its n components (stations).
 -- Assumes nothing.
-use Prim.Native.Nat.{ℕ, _+_, _≤_, _<_}
+use Prim.Native.Nat.{ℕ, _≤_}
 use mathlib.Core.Path.{_≡_}
 use mathlib.Core.Bool.{cond, _&&_}
 use mathlib.Core.Option.{some}

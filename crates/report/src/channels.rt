@@ -21,7 +21,8 @@ fn channel_line(out: &mut [u8], at: usize, channel: usize, first: u8, last: u8) 
 
 // The lines of all channels, from the counts before a run and those after it: a hall's first bytes.
 pub fn channel_lines(out: &mut [u8], at: usize, first: &[u8], last: &[u8]) -> usize
-    requires { ⌜ (Layout·channels ≤ length (now first)) × (Layout·channels ≤ length (now last)) × (at + channelsMost ≤ length (now out)) ⌝ }
+    requires { ⌜ (Layout·channels ≤ length (now first)) × (Layout·channels ≤ length (now last))
+        × (at + channelsMost ≤ length (now out)) ⌝ }
     ensures { λ r. ⌜ Printed channelsMost (now (out .entry)) at
         (channelLines 0 (take Layout·channels (now (first .entry))) (take Layout·channels (now (last .entry))))
         (now (out .exit)) r ⌝ }

@@ -26,9 +26,10 @@ fn component_line(
     out: &mut [u8],
     at: usize,
 ) -> usize
-    requires { ⌜ Standing (now hall) (now starts) components × (position < components) × (at + componentMost ≤ length (now out)) ⌝ }
-    ensures { λ r. ⌜ ComponentPrinted (now (hall .entry)) (now (starts .entry)) components position (now (out .entry)) at
-        (now (out .exit)) r ⌝ }
+    requires { ⌜ Standing (now hall) (now starts) components × (position < components)
+        × (at + componentMost ≤ length (now out)) ⌝ }
+    ensures { λ r. ⌜ ComponentPrinted (now (hall .entry)) (now (starts .entry)) components position (now (out .entry))
+        at (now (out .exit)) r ⌝ }
 {
     let begin = starts[position];
     let kind = byte_at(hall, begin);

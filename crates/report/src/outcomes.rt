@@ -67,7 +67,8 @@ fn wide_counter(n: u32) -> usize
 // The line of the counters.
 pub fn counters_line(out: &mut [u8], at: usize, counters: Counters) -> usize
     requires { ⌜ at + countersMost ≤ length (now out) ⌝ }
-    ensures { λ r. ⌜ Printed countersMost (now (out .entry)) at (countersLine (countersOf counters)) (now (out .exit)) r ⌝ }
+    ensures { λ r. ⌜ Printed countersMost (now (out .entry)) at (countersLine (countersOf counters))
+        (now (out .exit)) r ⌝ }
 {
     let commits = wide_counter(counters.commits);
     let failed = wide_counter(counters.failed);

@@ -27,7 +27,8 @@ fn print_lines(
     outcome: Outcome,
     out: &mut [u8],
 ) -> usize
-    requires { ⌜ Standing (now hall) (now starts) components × (Layout·channels ≤ length (now first)) × (linesMost ≤ length (now out)) ⌝ }
+    requires { ⌜ Standing (now hall) (now starts) components × (Layout·channels ≤ length (now first))
+        × (linesMost ≤ length (now out)) ⌝ }
     ensures { λ r. ⌜ LinesPrinted (now (hall .entry)) (now (starts .entry)) components (now (first .entry)) outcome
         (now (out .entry)) (now (out .exit)) r ⌝ }
 {
@@ -41,8 +42,8 @@ fn print_lines(
 // The same for a hall that is not held yet. One that a run left behind is never refused.
 fn print_hall(table: &[u8], hall: &[u8], first: &[u8], outcome: Outcome, out: &mut [u8]) -> usize
     requires { ⌜ (Layout·channels ≤ length (now first)) × (linesMost ≤ length (now out)) ⌝ }
-    ensures { λ r. ⌜ HallPrinted (now (table .entry)) (now (hall .entry)) (now (first .entry)) outcome (now (out .entry))
-        (now (out .exit)) r ⌝ }
+    ensures { λ r. ⌜ HallPrinted (now (table .entry)) (now (hall .entry)) (now (first .entry)) outcome
+        (now (out .entry)) (now (out .exit)) r ⌝ }
 {
     let mut decoded = [0u8; DECODED];
     let mut starts = [0usize; INDEX_SIZE];

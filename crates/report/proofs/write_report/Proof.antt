@@ -46,7 +46,8 @@ returns-2 c =
     let printed = c .before .before .before in
     let found = printed .before .before .before .before .before in
     let given = found .before .before .before in
-    run-written _ (search needs) (given .shared-slice-known .given) _ (found .table-end .ensures) _ _ _ (printed .print-run .ensures)
+    run-written _ (search needs) (given .shared-slice-known .given) _ (found .table-end .ensures) _ _ _
+    (printed .print-run .ensures)
 
 pub write-report-spec : {M : Type 1} → statement M
 write-report-spec =

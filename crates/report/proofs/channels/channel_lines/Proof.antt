@@ -1,7 +1,6 @@
 -- Printing the lines of all channels meets its contract.
 -- Assumes nothing.
 use borrow.Author.Needs.{needs}
-use native.Mathlib.Omega.{arith}
 use Prim.Native.Nat.{_-_}
 use Rattle.report.proofs.ChannelLines.{ChannelsSoFar, no-channel, channels-length, first-inside, last-inside, next-room, channel-more, all-channels}
 use Rattle.report.proofs.channels.channel_lines.Statement.{statement}

@@ -1,14 +1,14 @@
 -- Printing the lines of all components meets its contract.
 -- Assumes nothing.
 use borrow.Author.Needs.{needs}
-use native.Mathlib.Omega.{arith}
 use Prim.Native.Nat.{_-_}
 use Rattle.report.proofs.ComponentLines.{ComponentsSoFar, no-component, components-length, component-room, component-more, all-components}
 use Rattle.report.proofs.components.component_lines.Statement.{statement}
 use Rattle.report.proofs.components.component_lines.Tie as tie
 
 abbrev Inv-loop : tie.InvT-loop
-Inv-loop hall starts components out₀ at end₀ position₀ out end position = ComponentsSoFar hall starts components out₀ at out end position
+Inv-loop hall starts components out₀ at end₀ position₀ out end position =
+    ComponentsSoFar hall starts components out₀ at out end position
 
 abbrev μ-loop : tie.MeasureT-loop
 μ-loop hall starts components out₀ at end₀ position₀ out end position = components - position

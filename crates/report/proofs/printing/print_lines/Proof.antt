@@ -12,7 +12,7 @@ counters-line-requires : tie.Need-counters-line-requires
 counters-line-requires c κs = search needs
 
 channel-lines-requires : tie.Need-channel-lines-requires
-channel-lines-requires c κs = (search needs, search hall-long, search needs)
+channel-lines-requires c κs = (search (hall-long, needs), search hall-long, search needs)
 
 component-lines-requires : tie.Need-component-lines-requires
 component-lines-requires c κs = search needs

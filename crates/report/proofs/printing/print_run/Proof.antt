@@ -48,8 +48,9 @@ returns c =
     let told = counted .before .before .before in
     let opened = told .before .before .before .before in
     let start = opened .before .before .before .before .before .before in
-    opened-printed _ _ _ _ _ (opened .open-hall .ensures) _ _ _ _ (told .counters .given .1) _ (counted .counts-of .ensures)
-    _ _ (ran .run .ensures .0) (omega (arith, start .pre .0)) _ (outcome .outcome-of .ensures) (printed .print-hall .ensures)
+    opened-printed _ _ _ _ _ (opened .open-hall .ensures) _ _ _ _ (told .counters .given .1) _
+    (counted .counts-of .ensures) _ _ (ran .run .ensures .0) (omega (arith, start .pre .0)) _
+    (outcome .outcome-of .ensures) (printed .print-hall .ensures)
 
 same-length-3 : tie.Need-same-length-3
 same-length-3 c = search needs
