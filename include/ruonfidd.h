@@ -1,0 +1,146 @@
+/* The hall engine for C and C++: rule tables, halls, choices.
+ *
+ * Link with target/staticlib/libruonfidd.a, which `rt staticlib ruonfidd` writes (x86-64 Linux).
+ * The library is proved to answer as the definitions in crates/semantics/specs/Definitions say; this
+ * file says the same in plain words.
+ *
+ * WHAT EVERY CALL GIVES
+ *
+ * Each call but ruonfidd_fresh_tally and ruonfidd_report returns a number, 0 where nothing is
+ * refused.  Whatever is returned, it has set every number that it was given a pointer to: none has
+ * to be set beforehand but the tally, which runs and steps count on from.
+ * Any bytes may be handed in; there are none on which a call does not end, stops the program, or
+ * reads or writes past what it was lent.  A call keeps nothing for the next one, allocates nothing
+ * and needs a few KB of stack, ruonfidd_report some 20.  The same bytes always get the same answer;
+ * only which choice is suggested is promised by nothing and may differ in another version of the
+ * library.
+ *
+ * The table is tested first, record by record, each record by the numbers in their order; then the
+ * hall; then the choices, one by one.  A place is an offset in bytes.  The bytes of tables, halls
+ * and choices, width, branches and length are explained in docs/FORMAT.md.
+ *
+ *    1  a record's kind is not 1 to 13            place of 1 to 8: the record's first byte
+ *    2  the bytes end inside a record
+ *    3  a term after 200 terms
+ *    4  a tray over 15
+ *    5  a reference that is not to an earlier term
+ *    6  a reference to a process for an expression, or the other way round
+ *    7  a term over 64 wide, with over 8 branches, or over 16 long
+ *    8  tokens of count 0, or for a tray that was given some before
+ *    9  a byte behind the start record (place: that byte), or no start record (place: the length)
+ *   10  the hall is not RUONFIDD_HALL_BYTES long  place of 10 and 11: 0
+ *   11  the bytes are no hall of this table
+ *   12  a choice's kind is not 1 or 2             place of 12 to 20: the choice's first byte
+ *   13  the bytes end inside a choice
+ *   14  no station at the position
+ *   15  kind 1: an attempt that is not a single end or retry leaf; kind 2: no attempt
+ *   16  no node of this number
+ *   17  no rule for the node: an end or retry leaf, or a fork whose left side is neither
+ *   18  a take from an empty tray
+ *   19  over 64 stations would stand afterwards
+ *   20  a put on a tray that holds 255
+ *
+ * Refused by 1 to 11, hall and tally are as they were.  A refused choice, 12 to 20, leaves what the
+ * choices before it made.
+ *
+ * WHAT A CALLER OWES
+ *
+ * - A pointer and a length are those of memory that may be read, and written where the pointer is
+ *   not const.  A null pointer is allowed only with length 0.  Pointers to numbers, to a tally and
+ *   to a choice are never null.
+ * - No two buffers of one call overlap, the numbers that it sets included.  (Two that are only read
+ *   may.)
+ * - While a call is at work, no other thread writes what it was lent, and none reads what it writes.
+ *   Calls on different memory may be made at the same time.
+ * - Between the calls on a hall nobody else writes hall or tally, and each call gets the same table,
+ *   and the tally as the last call left it.  Each answer alone holds without that.  But what is
+ *   proved of a whole list of calls from an opening on, that each committed block acts in one moment
+ *   and that abandoned attempts leave no trace but in the tally, then says nothing.
+ * - The tally is no part of the stored hall: whoever stores a hall stores its tally beside it.  The
+ *   first call may be lent any tally.
+ */
+#ifndef RUONFIDD_H
+#define RUONFIDD_H
+
+#include <stddef.h>
+#include <stdint.h>
+
+#ifdef __cplusplus
+extern "C" {
+#endif
+
+/* The length of a stored hall: 16 counts, the stations in order, zeros. */
+#define RUONFIDD_HALL_BYTES 11344
+
+/* Checks a rule table.
+ *
+ * Accepted: 0, place 0.  Refused: 1 to 9, and the place. */
+uint8_t ruonfidd_check_table(const uint8_t *table, size_t table_length, size_t *place);
+
+/* Opens a rule table in a hall, whatever stood there.  The tally to begin with is the fresh one.
+ *
+ * Opened: 0, place 0, and every byte of the hall is written.
+ * Refused: 1 to 10, and the place; no byte of the hall is changed. */
+uint8_t ruonfidd_open_hall(const uint8_t *table, size_t table_length, uint8_t *hall,
+                           size_t hall_length, size_t *place);
+
+/* Checks a stored hall.
+ *
+ * Well formed for the table: 0, place 0.  Refused: 1 to 11, and the place. */
+uint8_t ruonfidd_check_hall(const uint8_t *table, size_t table_length, const uint8_t *hall,
+                            size_t hall_length, size_t *place);
+
+/* Sets the tally of a hall just opened: 0, 0, 0. */
+void ruonfidd_fresh_tally(uint32_t tally[3]);
+
+/* Runs a list of choices, up to its end or to the first one refused.  A choice is the byte 1 and a
+ * position: a station acts; or the byte 2, a position and a node: a move inside an attempt.
+ * Positions count from 0; nodes count from 0 too, a node before its left side, that before its right.
+ *
+ * All done: 0, and the place is the length of the choices.  Refused: 1 to 20, and the place.
+ * done: how many choices were done; 0 under 1 to 11.
+ * tally: commits, failed, retries.  One of them rises by one whenever an attempt is committed, fails
+ * at its commit, or ends in retry; at 4294967295 it stays.
+ * Hall and tally are as the choices done have made them, and under 1 to 11 as they were. */
+uint8_t ruonfidd_run(const uint8_t *table, size_t table_length, uint8_t *hall, size_t hall_length,
+                     const uint8_t *choices, size_t choices_length, uint32_t tally[3],
+                     size_t *place, size_t *done);
+
+/* Makes one choice, as a run of it alone would, and says by which rule.  For kind 1 the node counts
+ * for nothing.  Kind, position and node are bytes: C cuts a larger number down to one.
+ *
+ * Done: 0; the place is the choice's length in a list, 2 or 3; the rule is 1 OUT, 2 IN, 3 REP,
+ * 4 ATST, 5 ATRE, 6 ATFAIL, 7 ATOK, 8 ARDOK, 9 ARDF, 10 AWR, 11 AOI, 12 AOF or 13 AOE.
+ * Refused: 1 to 12 or 14 to 20, and the place, which is 0 from 10 on; the rule is 0; hall and tally
+ * are as they were. */
+uint8_t ruonfidd_step(const uint8_t *table, size_t table_length, uint8_t *hall, size_t hall_length,
+                      uint8_t kind, uint8_t position, uint8_t node, uint32_t tally[3],
+                      uint8_t *rule, size_t *place);
+
+/* Suggests a choice.
+ *
+ * choice: kind, position and node of a choice that is accepted on this hall, any one of them; or kind
+ * 0 where the hall is still, which is said only where no choice at all is accepted.  What is not
+ * said is 0: the node of kind 1, and all three bytes where the hall is still or the call refused.
+ * Not refused: 0, place 0.  Refused: 1 to 11, and the place.
+ * A block that waits can always begin, so a hall with one is never still: whoever follows
+ * suggestions sets a limit. */
+uint8_t ruonfidd_suggest(const uint8_t *table, size_t table_length, const uint8_t *hall,
+                         size_t hall_length, uint8_t choice[3], size_t *place);
+
+/* No printed run is longer. */
+#define RUONFIDD_REPORT_BYTES 1024
+
+/* Prints a run: the input is a table up to its first start record, then choices; where no start
+ * record is found, all of it is the table.  The hall is opened, the choices are run, and the lines
+ * R, C, T, P, W and A of docs/FORMAT.md are written to the output; above 16384 bytes of input the
+ * line `long` alone.  length: how many bytes were written, at most 947.  The bytes of the output
+ * behind them are as they were. */
+void ruonfidd_report(const uint8_t *input, size_t input_length,
+                     uint8_t output[RUONFIDD_REPORT_BYTES], size_t *length);
+
+#ifdef __cplusplus
+}
+#endif
+
+#endif

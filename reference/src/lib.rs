@@ -1,0 +1,41 @@
+//! A second implementation of the hall engine.
+//!
+//! It was written from the papers and shares no code with the engine. It is
+//! there to be compared with it: for the same bytes both must give the same
+//! answers, the same hall, the same tally and the same printed lines.
+//!
+//! It aims to be easy to read against document 01 ("the hall engine: rule
+//! tables, halls and choices") and not to be fast. Comments name the section
+//! of that document which a piece of code follows.
+//!
+//! | Module | What it holds |
+//! |---|---|
+//! | [`table`] | reading a rule table, its measures |
+//! | [`hall`] | the hall as plain data, and its stored form |
+//! | [`choice`] | one choice and its bytes |
+//! | [`moves`] | what one choice does to a hall |
+//! | [`run`] | a list of choices, the tally |
+//! | [`calls`] | the public calls on bytes |
+//! | [`print`](mod@print) | the printed run |
+//! | [`atomic`] | the one-step run and the steps of its converse |
+//! | [`calculus`] | `AtCCS` without hiding, from document 004 |
+//! | [`stands_for`] | the process that a hall stands for |
+//! | [`build`] | a small writer of rule tables |
+//! | `generator` | random tables, halls and choices for tests; only with the feature of that name |
+//!
+//! [`atomic`] and [`calculus`] call none of [`moves`] and [`run`]: they are
+//! what those two are tested against.
+
+pub mod atomic;
+pub mod build;
+pub mod calculus;
+pub mod calls;
+pub mod choice;
+#[cfg(feature = "generator")]
+pub mod generator;
+pub mod hall;
+pub mod moves;
+pub mod print;
+pub mod run;
+pub mod stands_for;
+pub mod table;

@@ -1,0 +1,164 @@
+//! One choice, what an accepted one did, and what ends a list of them.
+
+use std::error::Error;
+use std::fmt;
+
+use crate::Refusal;
+
+/// One choice. Positions and nodes count from 0; the nodes of an attempt count
+/// in preorder: a node, its left side, its right side.
+/// Further kinds may come.
+///
+/// ```
+/// use ruonfidd::Choice;
+///
+/// let mut list = Vec::new();
+/// Choice::Act { position: 0 }.write_to(&mut list);
+/// Choice::Inside { position: 0, node: 3 }.write_to(&mut list);
+/// assert_eq!(list, [1, 0, 2, 0, 3]);
+/// ```
+#[derive(Clone, Copy, Debug, PartialEq, Eq, Hash)]
+#[non_exhaustive]
+pub enum Choice {
+    /// Kind 1: a station acts.
+    Act {
+        /// Which station.
+        position: u8,
+    },
+    /// Kind 2: a move inside a station's attempt.
+    Inside {
+        /// Which station.
+        position: u8,
+        /// Which node of its attempt.
+        node: u8,
+    },
+}
+
+impl Choice {
+    /// Adds the choice's bytes, two or three, to a list of choices.
+    pub fn write_to(self, list: &mut Vec<u8>) {
+        match self {
+            Choice::Act { position } => list.extend([1, position]),
+            Choice::Inside { position, node } => list.extend([2, position, node]),
+        }
+    }
+
+    /// Kind, position and node, which is 0 for a choice that has none.
+    pub(crate) fn to_bytes(self) -> [u8; 3] {
+        match self {
+            Choice::Act { position } => [1, position, 0],
+            Choice::Inside { position, node } => [2, position, node],
+        }
+    }
+
+    /// The choice of these three bytes; kind 0 is none.
+    pub(crate) fn from_bytes([kind, position, node]: [u8; 3]) -> Option<Choice> {
+        match kind {
+            0 => None,
+            1 => Some(Choice::Act { position }),
+            _ => Some(Choice::Inside { position, node }),
+        }
+    }
+}
+
+/// What an accepted choice did.
+///
+/// Rules have the calculus's names, each an associated constant of this type.
+#[derive(Clone, Copy, Debug, PartialEq, Eq, Hash)]
+#[non_exhaustive]
+pub struct Moved {
+    /// The number of the rule, 1 to 13.
+    pub rule: u8,
+    /// How many bytes the choice has in a list: what a run of this choice alone
+    /// would give as its place.
+    pub place: usize,
+}
+
+/// Stations that are no attempts.
+impl Moved {
+    /// A token was put on a tray, and the station is gone.
+    pub const OUT: u8 = 1;
+    /// A token was taken, and what follows the take stands in its place.
+    pub const IN: u8 = 2;
+    /// The same by a repeated take, which stays behind what it opened.
+    pub const REP: u8 = 3;
+    /// A block began an attempt.
+    pub const ATST: u8 = 4;
+}
+
+/// The end of an attempt.
+impl Moved {
+    /// It ended in retry, and the block waits again.
+    pub const ATRE: u8 = 5;
+    /// Its commit found too little, and the block waits again.
+    pub const ATFAIL: u8 = 6;
+    /// It was committed.
+    pub const ATOK: u8 = 7;
+}
+
+/// Inside an attempt.
+impl Moved {
+    /// A read was logged.
+    pub const ARDOK: u8 = 8;
+    /// A read found too little and became a retry.
+    pub const ARDF: u8 = 9;
+    /// A write was logged.
+    pub const AWR: u8 = 10;
+    /// An alternative became a fork.
+    pub const AOI: u8 = 11;
+    /// A fork kept its right side.
+    pub const AOF: u8 = 12;
+    /// A fork kept its left side.
+    pub const AOE: u8 = 13;
+}
+
+/// A run that was refused, and how many choices it had done by then.
+///
+/// Where the refusal is by the table or the hall, 1 to 11, none was done.
+#[derive(Clone, Copy, Debug, PartialEq, Eq, Hash)]
+#[non_exhaustive]
+pub struct Stopped {
+    /// Why it was refused, and where.
+    pub refusal: Refusal,
+    /// How many choices were done.
+    pub done: usize,
+}
+
+impl fmt::Display for Stopped {
+    fn fmt(&self, out: &mut fmt::Formatter<'_>) -> fmt::Result {
+        let Stopped { refusal, done } = self;
+        write!(out, "{refusal} ({done} done)")
+    }
+}
+
+impl Error for Stopped {
+    fn source(&self) -> Option<&(dyn Error + 'static)> {
+        Some(&self.refusal)
+    }
+}
+
+impl From<Stopped> for Refusal {
+    fn from(stopped: Stopped) -> Refusal {
+        stopped.refusal
+    }
+}
+
+#[cfg(test)]
+mod tests {
+    use super::Choice;
+
+    #[test]
+    fn bytes_and_back() {
+        for position in 0..=255 {
+            let act = Choice::Act { position };
+            assert_eq!(act.to_bytes(), [1, position, 0]);
+            assert_eq!(Choice::from_bytes(act.to_bytes()), Some(act));
+            for node in 0..=255 {
+                let inside = Choice::Inside { position, node };
+                assert_eq!(inside.to_bytes(), [2, position, node]);
+                assert_eq!(Choice::from_bytes(inside.to_bytes()), Some(inside));
+            }
+        }
+        assert_eq!(Choice::from_bytes([0, 0, 0]), None);
+    }
+}

@@ -1,0 +1,440 @@
+//! The library's calls as they are declared for C, and over each of them one
+//! function that takes references and gives the bare numbers.
+//!
+//! The functions are safe to call and are public for this package's tests
+//! alone; they are no part of its interface. All unsafe code of the package is
+//! here. In the library's calls a `&[u8]` or `&mut [u8]` is a pointer and a
+//! length, a `&mut` of a number is a pointer; a call returns the number of the
+//! refusal, 0 for none, and sets the place.
+
+#![allow(unsafe_code)]
+
+use std::ptr::addr_of_mut;
+
+mod library {
+    extern "C" {
+        pub(super) fn ruonfidd_check_table(
+            table: *const u8,
+            length: usize,
+            place: *mut usize,
+        ) -> u8;
+        pub(super) fn ruonfidd_open_hall(
+            table: *const u8,
+            length: usize,
+            hall: *mut u8,
+            hall_length: usize,
+            place: *mut usize,
+        ) -> u8;
+        pub(super) fn ruonfidd_check_hall(
+            table: *const u8,
+            length: usize,
+            hall: *const u8,
+            hall_length: usize,
+            place: *mut usize,
+        ) -> u8;
+        pub(super) fn ruonfidd_fresh_tally(tally: *mut [u32; 3]);
+        pub(super) fn ruonfidd_run(
+            table: *const u8,
+            length: usize,
+            hall: *mut u8,
+            hall_length: usize,
+            choices: *const u8,
+            choices_length: usize,
+            tally: *mut [u32; 3],
+            place: *mut usize,
+            done: *mut usize,
+        ) -> u8;
+        pub(super) fn ruonfidd_step(
+            table: *const u8,
+            length: usize,
+            hall: *mut u8,
+            hall_length: usize,
+            kind: u8,
+            position: u8,
+            node: u8,
+            tally: *mut [u32; 3],
+            rule: *mut u8,
+            place: *mut usize,
+        ) -> u8;
+        pub(super) fn ruonfidd_suggest(
+            table: *const u8,
+            length: usize,
+            hall: *const u8,
+            hall_length: usize,
+            choice: *mut [u8; 3],
+            place: *mut usize,
+        ) -> u8;
+    }
+}
+
+/// The number, and in `place` the place: 0 where the number is 0.
+pub fn check_table(table: &[u8], place: &mut usize) -> u8 {
+    // SAFETY: the pointer and the length are those of one slice, which the
+    // call only reads; `place` is a number of the caller's that nothing else
+    // can reach meanwhile. The call keeps neither of them.
+    unsafe { library::ruonfidd_check_table(table.as_ptr(), table.len(), place) }
+}
+
+/// The number, and in `place` the place: 0 where the number is 0. `hall` is
+/// written then, and else not.
+pub fn open_hall(table: &[u8], hall: &mut [u8], place: &mut usize) -> u8 {
+    // SAFETY: each pointer and length are those of one slice; the table is only
+    // read, and the hall and `place` are the caller's alone meanwhile. The call
+    // keeps none of them.
+    unsafe {
+        library::ruonfidd_open_hall(
+            table.as_ptr(),
+            table.len(),
+            hall.as_mut_ptr(),
+            hall.len(),
+            place,
+        )
+    }
+}
+
+/// The number, and in `place` the place: 0 where the number is 0.
+pub fn check_hall(table: &[u8], hall: &[u8], place: &mut usize) -> u8 {
+    // SAFETY: as above; the call reads both slices and writes neither.
+    unsafe {
+        library::ruonfidd_check_hall(
+            table.as_ptr(),
+            table.len(),
+            hall.as_ptr(),
+            hall.len(),
+            place,
+        )
+    }
+}
+
+/// Commits, failed and retries of the fresh tally.
+#[must_use]
+pub fn fresh_tally() -> [u32; 3] {
+    let mut tally = [u32::MAX; 3];
+    // SAFETY: the call writes the three numbers and keeps no pointer.
+    unsafe { library::ruonfidd_fresh_tally(addr_of_mut!(tally)) };
+    tally
+}
+
+/// The number; in `place` its place, or where it is 0 the length of the
+/// choices; in `done` how many choices were done. Hall and tally are as those
+/// choices have made them, and as they were where the number is 1 to 11.
+pub fn run(
+    table: &[u8],
+    hall: &mut [u8],
+    choices: &[u8],
+    tally: &mut [u32; 3],
+    place: &mut usize,
+    done: &mut usize,
+) -> u8 {
+    // SAFETY: each pointer and length are those of one slice; table and choices
+    // are only read, and all that is written is the caller's alone meanwhile.
+    // The call keeps none of them.
+    unsafe {
+        library::ruonfidd_run(
+            table.as_ptr(),
+            table.len(),
+            hall.as_mut_ptr(),
+            hall.len(),
+            choices.as_ptr(),
+            choices.len(),
+            tally,
+            place,
+            done,
+        )
+    }
+}
+
+/// One choice, in its three bytes: kind, position, node.
+///
+/// The number; in `place` its place, or where it is 0 the length of the choice;
+/// in `rule` the number of the rule done, 0 for none. Hall and tally are as the
+/// choice has made them, and as they were where the number is not 0.
+pub fn step(
+    table: &[u8],
+    hall: &mut [u8],
+    [kind, position, node]: [u8; 3],
+    tally: &mut [u32; 3],
+    rule: &mut u8,
+    place: &mut usize,
+) -> u8 {
+    // SAFETY: as for a run.
+    unsafe {
+        library::ruonfidd_step(
+            table.as_ptr(),
+            table.len(),
+            hall.as_mut_ptr(),
+            hall.len(),
+            kind,
+            position,
+            node,
+            tally,
+            rule,
+            place,
+        )
+    }
+}
+
+/// The number, and in `place` the place: 0 where the number is 0. In `choice`
+/// the kind, position and node suggested; what is not said is 0.
+pub fn suggest(table: &[u8], hall: &[u8], choice: &mut [u8; 3], place: &mut usize) -> u8 {
+    // SAFETY: each pointer and length are those of one slice, which the call
+    // only reads; `choice` and `place` are the caller's alone meanwhile. The
+    // call keeps none of them.
+    unsafe {
+        library::ruonfidd_suggest(
+            table.as_ptr(),
+            table.len(),
+            hall.as_ptr(),
+            hall.len(),
+            choice,
+            place,
+        )
+    }
+}
+
+#[cfg(test)]
+mod tests {
+    use super::{check_hall, check_table, fresh_tally, open_hall, run, step, suggest};
+    use crate::HALL_BYTES;
+
+    const TABLE: [u8; 14] = [7, 10, 1, 0, 9, 0, 1, 6, 2, 12, 0, 1, 13, 3];
+
+    /// Calls with a place that no call can answer, between two guards.
+    #[track_caller]
+    fn sets_the_place(call: impl FnOnce(&mut usize) -> u8, number: u8, place: usize) {
+        let mut places = [usize::MAX; 3];
+        assert_eq!(call(&mut places[1]), number);
+        assert_eq!(places, [usize::MAX, place, usize::MAX]);
+    }
+
+    #[track_caller]
+    fn table_gives(table: &[u8], number: u8, place: usize) {
+        let before = table.to_vec();
+        sets_the_place(|at| check_table(table, at), number, place);
+        assert_eq!(table, before);
+    }
+
+    #[test]
+    fn the_place_is_set_and_nothing_beside_it() {
+        table_gives(&[], 9, 0);
+        table_gives(&[1, 13, 0], 0, 0);
+        table_gives(&[0], 1, 0);
+        table_gives(&[1, 1, 1], 9, 3);
+        table_gives(&[1, 13, 0, 77], 9, 3);
+        table_gives(&[2, 15, 2, 16, 13, 0], 4, 2);
+    }
+
+    #[test]
+    fn a_place_beyond_any_byte() {
+        let mut table = vec![1; 200];
+        for tray in 0..16 {
+            table.extend([12, tray, 255]);
+        }
+        table_gives(&table, 9, 248);
+        table.extend([12, 0, 1]);
+        table_gives(&table, 8, 248);
+        table.truncate(248);
+        table.extend([13, 199, 0]);
+        table_gives(&table, 9, 250);
+        table_gives(&table[..250], 0, 0);
+        table.resize(100_000, 0);
+        table_gives(&table, 9, 250);
+    }
+
+    #[test]
+    fn an_opening_writes_the_hall_and_nothing_beside_it() {
+        let mut buffer = vec![170; HALL_BYTES + 2];
+        sets_the_place(
+            |at| open_hall(&TABLE, &mut buffer[1..=HALL_BYTES], at),
+            0,
+            0,
+        );
+        assert_eq!((buffer[0], buffer[HALL_BYTES + 1]), (170, 170));
+        let mut hall = vec![0; HALL_BYTES];
+        hall[0] = 1;
+        hall[16..18].copy_from_slice(&[20, 3]);
+        assert_eq!(buffer[1..=HALL_BYTES], hall);
+    }
+
+    #[test]
+    fn a_refused_opening_sets_the_place_and_writes_nothing() {
+        let mut hall = vec![170; HALL_BYTES + 1];
+        sets_the_place(|at| open_hall(&TABLE, &mut hall, at), 10, 0);
+        let hall = &mut hall[..HALL_BYTES];
+        sets_the_place(|at| open_hall(&TABLE[..13], hall, at), 2, 12);
+        sets_the_place(|at| open_hall(&TABLE[..12], hall, at), 9, 12);
+        assert!(hall.iter().all(|byte| *byte == 170));
+    }
+
+    #[test]
+    fn a_checked_hall_sets_the_place_and_writes_nothing() {
+        let mut hall = vec![0; HALL_BYTES];
+        hall[16..18].copy_from_slice(&[20, 3]);
+        let before = hall.clone();
+        sets_the_place(|at| check_hall(&TABLE, &hall, at), 0, 0);
+        sets_the_place(|at| check_hall(&TABLE, &hall[1..], at), 10, 0);
+        sets_the_place(|at| check_hall(&TABLE[..13], &hall, at), 2, 12);
+        assert_eq!(hall, before);
+        hall[17] = 0;
+        sets_the_place(|at| check_hall(&TABLE, &hall, at), 11, 0);
+    }
+
+    #[test]
+    fn the_fresh_tally_is_three_zeros() {
+        assert_eq!(fresh_tally(), [0, 0, 0]);
+    }
+
+    /// The hall that the table opens, between two guards.
+    fn guarded_hall() -> Vec<u8> {
+        let mut buffer = vec![170; HALL_BYTES + 2];
+        let hall = &mut buffer[1..=HALL_BYTES];
+        assert_eq!(open_hall(&TABLE, hall, &mut 0), 0);
+        buffer
+    }
+
+    /// The hall of the table with its block begun: a token, and an attempt with
+    /// a leaf that has read nothing yet.
+    fn begun() -> Vec<u8> {
+        let mut hall = vec![0; HALL_BYTES];
+        hall[0] = 1;
+        hall[16..19].copy_from_slice(&[21, 3, 1]);
+        hall[34..36].copy_from_slice(&[23, 2]);
+        hall
+    }
+
+    #[test]
+    fn a_run_writes_hall_tally_place_and_done_and_nothing_beside_them() {
+        let mut buffer = guarded_hall();
+        let mut numbers = [[7; 3], [1, 2, 3], [7; 3]];
+        let mut done = [usize::MAX; 3];
+        let choices = [1, 0, 2, 0, 0, 2, 0, 0, 1, 0, 1, 0, 9];
+        let before = choices;
+        sets_the_place(
+            |at| {
+                let hall = &mut buffer[1..=HALL_BYTES];
+                run(&TABLE, hall, &choices, &mut numbers[1], at, &mut done[1])
+            },
+            12,
+            12,
+        );
+        assert_eq!(choices, before);
+        assert_eq!(done, [usize::MAX, 5, usize::MAX]);
+        assert_eq!(numbers, [[7; 3], [2, 2, 3], [7; 3]]);
+        assert_eq!((buffer[0], buffer[HALL_BYTES + 1]), (170, 170));
+        let mut hall = vec![0; HALL_BYTES];
+        hall[1] = 1;
+        assert_eq!(buffer[1..=HALL_BYTES], hall);
+    }
+
+    #[test]
+    fn a_run_of_no_choices() {
+        let mut buffer = guarded_hall();
+        let before = buffer.clone();
+        let (mut tally, mut done) = ([4, 5, 6], usize::MAX);
+        sets_the_place(
+            |at| {
+                let hall = &mut buffer[1..=HALL_BYTES];
+                run(&TABLE, hall, &[], &mut tally, at, &mut done)
+            },
+            0,
+            0,
+        );
+        assert_eq!((tally, done), ([4, 5, 6], 0));
+        assert_eq!(buffer, before);
+    }
+
+    #[test]
+    fn a_step_writes_hall_tally_rule_and_place_and_nothing_beside_them() {
+        let mut buffer = guarded_hall();
+        let mut tallies = [[7; 3], [1, 2, 3], [7; 3]];
+        let mut rules = [99; 3];
+        sets_the_place(
+            |at| {
+                let hall = &mut buffer[1..=HALL_BYTES];
+                step(&TABLE, hall, [1, 0, 77], &mut tallies[1], &mut rules[1], at)
+            },
+            0,
+            2,
+        );
+        assert_eq!(rules, [99, 4, 99]);
+        assert_eq!(tallies, [[7; 3], [1, 2, 3], [7; 3]]);
+        assert_eq!((buffer[0], buffer[HALL_BYTES + 1]), (170, 170));
+        assert_eq!(buffer[1..=HALL_BYTES], begun());
+        sets_the_place(
+            |at| {
+                let hall = &mut buffer[1..=HALL_BYTES];
+                step(&TABLE, hall, [2, 0, 0], &mut tallies[1], &mut rules[1], at)
+            },
+            0,
+            3,
+        );
+        assert_eq!(rules, [99, 8, 99]);
+        let mut read = begun();
+        read[35..38].copy_from_slice(&[1, 1, 0]);
+        assert_eq!(buffer[1..=HALL_BYTES], read);
+    }
+
+    #[test]
+    fn a_refused_step_sets_rule_and_place_and_writes_nothing_else() {
+        let mut hall = begun();
+        let before = hall.clone();
+        let mut tally = [1, 2, 3];
+        for (table, choice, number, place) in [
+            (&TABLE[..13], [1, 0, 0], 2, 12),
+            (&TABLE[..], [0, 0, 0], 12, 0),
+            (&TABLE[..], [3, 0, 0], 12, 0),
+            (&TABLE[..], [255, 255, 255], 12, 0),
+            (&TABLE[..], [1, 1, 0], 14, 0),
+            (&TABLE[..], [1, 0, 0], 15, 0),
+            (&TABLE[..], [2, 0, 1], 16, 0),
+            (&TABLE[..], [2, 0, 255], 16, 0),
+        ] {
+            let mut rule = 99;
+            sets_the_place(
+                |at| step(table, &mut hall, choice, &mut tally, &mut rule, at),
+                number,
+                place,
+            );
+            assert_eq!(rule, 0, "{choice:?}");
+            assert_eq!(tally, [1, 2, 3]);
+            assert_eq!(hall, before);
+        }
+        let mut rule = 99;
+        sets_the_place(
+            |at| step(&TABLE, &mut hall[1..], [1, 0, 0], &mut tally, &mut rule, at),
+            10,
+            0,
+        );
+        assert_eq!(rule, 0);
+        hall[17] = 0;
+        let mut rule = 99;
+        sets_the_place(
+            |at| step(&TABLE, &mut hall, [1, 0, 0], &mut tally, &mut rule, at),
+            11,
+            0,
+        );
+        assert_eq!((rule, tally), (0, [1, 2, 3]));
+    }
+
+    #[test]
+    fn a_suggestion_sets_choice_and_place_and_writes_nothing_else() {
+        let suggested = |table: &[u8], hall: &[u8], number, place, choice: [u8; 3]| {
+            let before = hall.to_vec();
+            let mut choices = [[99; 3]; 3];
+            sets_the_place(
+                |at| suggest(table, hall, &mut choices[1], at),
+                number,
+                place,
+            );
+            assert_eq!(choices, [[99; 3], choice, [99; 3]]);
+            assert_eq!(hall, before);
+        };
+        let opened = guarded_hall();
+        suggested(&TABLE, &opened[1..=HALL_BYTES], 0, 0, [1, 0, 0]);
+        suggested(&TABLE, &begun(), 0, 0, [2, 0, 0]);
+        suggested(&TABLE, &vec![0; HALL_BYTES], 0, 0, [0, 0, 0]);
+        suggested(&TABLE[..13], &begun(), 2, 12, [0, 0, 0]);
+        suggested(&TABLE, &[], 10, 0, [0, 0, 0]);
+        suggested(&TABLE, &vec![1; HALL_BYTES], 11, 0, [0, 0, 0]);
+    }
+}

@@ -1,0 +1,246 @@
+//! Safe calls of the proved hall engine.
+//!
+//! The engine is a static library, `libruonfidd.a`, that is proved to answer
+//! as the scope's definitions say. This package links it and adds nothing to
+//! its answers: only its number and its place become a [`Result`].
+//!
+//! # Linking
+//!
+//! `rt staticlib ruonfidd`, run in the repository's top folder, writes the
+//! library to `target/staticlib`, where this package looks for it. Another
+//! folder can be named in the environment variable `RUONFIDD_LIB_DIR`, as an
+//! absolute path or from this package's folder on. The library is part of the
+//! program that is built: nothing has to be installed beside it.
+//!
+//! # What a call may be relied on for
+//!
+//! - It takes any bytes. There is no input on which it stops the program.
+//! - It keeps nothing from one call to the next and needs little stack, so any
+//!   thread may call it at any time. A [`Hall`] owns memory for its bytes;
+//!   nothing else is allocated.
+//! - The same bytes always get the same answer. Only which accepted choice is
+//!   suggested is promised by nothing, and may differ in another version.
+//! - Refused by table or hall, 1 to 11, hall and tally stay as they are. A
+//!   refused choice leaves what the choices before it made.
+//!
+//! What is proved of a whole list of calls, that each committed block acts in
+//! one moment, is proved of calls on one table, hall and tally, each as the last
+//! call left it. It says nothing where somebody else has written hall or tally
+//! in between. The tally is no part of the hall and is kept beside it.
+//!
+//! # Example
+//!
+//! ```
+//! use ruonfidd::{Choice, Hall, Moved, Refusal};
+//!
+//! // A block that reads a token from tray 0 and writes one to tray 1; tray 0
+//! // holds one token.
+//! let table = [7, 10, 1, 0, 9, 0, 1, 6, 2, 12, 0, 1, 13, 3];
+//! let (mut hall, mut tally) = Hall::open(&table)?;
+//! assert_eq!(hall.counts()[..2], [1, 0]);
+//!
+//! // The block begins; its attempt reads, writes and is committed; the token
+//! // is put.
+//! let choices = [1, 0, 2, 0, 0, 2, 0, 0, 1, 0, 1, 0];
+//! assert_eq!(hall.run(&table, &choices, &mut tally), Ok(5));
+//! assert_eq!(hall.counts()[..2], [0, 1]);
+//! assert_eq!(tally.commits, 1);
+//!
+//! // Nothing is left to do.
+//! assert_eq!(hall.suggest(&table), Ok(None));
+//! let refusal = hall.step(&table, Choice::Act { position: 0 }, &mut tally).unwrap_err();
+//! assert_eq!(refusal.number, Refusal::NO_STATION);
+//!
+//! // The same by suggestions, step by step, and no more than a hundred.
+//! let (mut hall, mut tally) = Hall::open(&table)?;
+//! let mut rules = Vec::new();
+//! for step in hall.suggested_steps(&table, &mut tally).take(100) {
+//!     rules.push(step?.moved.rule);
+//! }
+//! use Moved as M;
+//! assert_eq!(rules, [M::ATST, M::ARDOK, M::AWR, M::ATOK, M::OUT]);
+//! assert_eq!(hall.counts()[..2], [0, 1]);
+//! # Ok::<(), Refusal>(())
+//! ```
+
+mod choice;
+#[doc(hidden)]
+pub mod ffi;
+mod hall;
+mod refusal;
+mod suggested;
+mod tally;
+
+pub use choice::{Choice, Moved, Stopped};
+pub use hall::Hall;
+pub use refusal::Refusal;
+pub use suggested::{Followed, Suggested, SuggestedSteps};
+pub use tally::Tally;
+
+/// The length of a stored hall.
+pub const HALL_BYTES: usize = 11_344;
+
+/// Whether a rule table is accepted.
+///
+/// Records are tested from the first one on, and on each record the tests are
+/// made in the order of their numbers.
+///
+/// # Errors
+///
+/// The first refusal met, 1 to 9; [`Refusal`] says what its number and its
+/// place mean.
+///
+/// ```
+/// use ruonfidd::Refusal;
+///
+/// let refusal = ruonfidd::check_table(&[1, 2, 16]).unwrap_err();
+/// assert_eq!((refusal.number, refusal.place), (Refusal::UNKNOWN_TRAY, 1));
+/// assert_eq!(refusal.reason(), "a tray above 15");
+/// ```
+pub fn check_table(table: &[u8]) -> Result<(), Refusal> {
+    let mut place = 0;
+    let number = ffi::check_table(table, &mut place);
+    Refusal::unless_zero(number, place)
+}
+
+/// Opens a hall from a rule table in lent memory, whatever stood there, and
+/// gives the fresh tally. [`Hall::open`] brings its own memory.
+///
+/// # Errors
+///
+/// 1 to 9 by the table; 10, place 0, where the hall is not [`HALL_BYTES`] long.
+/// Refused, not a byte of the hall is changed.
+///
+/// ```
+/// use ruonfidd::{check_hall, open_hall, HALL_BYTES};
+///
+/// let table = [7, 10, 1, 0, 9, 0, 1, 6, 2, 12, 0, 1, 13, 3];
+/// let mut hall = vec![99; HALL_BYTES];
+/// let tally = open_hall(&table, &mut hall).unwrap();
+/// assert_eq!(tally.commits, 0);
+/// assert_eq!(hall[..2], [1, 0]); // one token in tray 0
+/// assert_eq!(hall[16..19], [20, 3, 0]); // one station, waiting with term 3
+/// assert_eq!(check_hall(&table, &hall), Ok(()));
+/// ```
+pub fn open_hall(table: &[u8], hall: &mut [u8]) -> Result<Tally, Refusal> {
+    let mut place = 0;
+    let number = ffi::open_hall(table, hall, &mut place);
+    Refusal::unless_zero(number, place).map(|()| Tally::fresh())
+}
+
+/// Whether a stored hall is well formed for a rule table. [`Hall::from_bytes`]
+/// keeps the bytes too.
+///
+/// # Errors
+///
+/// 1 to 9 by the table; 10, place 0, where the hall is not [`HALL_BYTES`] long;
+/// 11, place 0, where it is not well formed.
+pub fn check_hall(table: &[u8], hall: &[u8]) -> Result<(), Refusal> {
+    let mut place = 0;
+    let number = ffi::check_hall(table, hall, &mut place);
+    Refusal::unless_zero(number, place)
+}
+
+/// Runs a list of choices, up to its end or to the first one refused.
+/// [`Hall::run`] is the same on a hall that owns its bytes.
+///
+/// Hall and tally are brought up to date choice by choice. The answer is how
+/// many choices were done.
+///
+/// # Errors
+///
+/// 1 to 9 by the table, 10 and 11 by the hall, 12 to 20 by a choice; hall and
+/// tally are then as the choices done have made them, and under 1 to 11 as they
+/// were.
+///
+/// ```
+/// use ruonfidd::{open_hall, run, Refusal, HALL_BYTES};
+///
+/// let table = [7, 10, 1, 0, 9, 0, 1, 6, 2, 12, 0, 1, 13, 3];
+/// let mut hall = vec![0; HALL_BYTES];
+/// let mut tally = open_hall(&table, &mut hall).unwrap();
+///
+/// // The block begins; it cannot end yet.
+/// let stopped = run(&table, &mut hall, &[1, 0, 1, 0], &mut tally).unwrap_err();
+/// assert_eq!(stopped.done, 1);
+/// assert_eq!(stopped.refusal.number, Refusal::WRONG_STATION);
+/// assert_eq!(stopped.refusal.place, 2);
+///
+/// // What was done stays.
+/// assert_eq!(run(&table, &mut hall, &[2, 0, 0, 2, 0, 0, 1, 0], &mut tally), Ok(3));
+/// assert_eq!(tally.commits, 1);
+/// ```
+pub fn run(
+    table: &[u8],
+    hall: &mut [u8],
+    choices: &[u8],
+    tally: &mut Tally,
+) -> Result<usize, Stopped> {
+    let mut words = tally.to_words();
+    let (mut place, mut done) = (0, 0);
+    let number = ffi::run(table, hall, choices, &mut words, &mut place, &mut done);
+    *tally = Tally::from_words(words);
+    match Refusal::unless_zero(number, place) {
+        Ok(()) => Ok(done),
+        Err(refusal) => Err(Stopped { refusal, done }),
+    }
+}
+
+/// Makes one choice and says by which rule. [`Hall::step`] is the same on a
+/// hall that owns its bytes.
+///
+/// # Errors
+///
+/// 1 to 9 by the table, 10 and 11 by the hall, 14 to 20, place 0, by the
+/// choice. Hall and tally are then as they were.
+///
+/// ```
+/// use ruonfidd::{open_hall, step, Choice, Moved, HALL_BYTES};
+///
+/// let table = [7, 10, 1, 0, 9, 0, 1, 6, 2, 12, 0, 1, 13, 3];
+/// let mut hall = vec![0; HALL_BYTES];
+/// let mut tally = open_hall(&table, &mut hall).unwrap();
+/// let moved = step(&table, &mut hall, Choice::Act { position: 0 }, &mut tally).unwrap();
+/// assert_eq!((moved.rule, moved.place), (Moved::ATST, 2));
+/// ```
+pub fn step(
+    table: &[u8],
+    hall: &mut [u8],
+    choice: Choice,
+    tally: &mut Tally,
+) -> Result<Moved, Refusal> {
+    let mut words = tally.to_words();
+    let (mut rule, mut place) = (0, 0);
+    let bytes = choice.to_bytes();
+    let number = ffi::step(table, hall, bytes, &mut words, &mut rule, &mut place);
+    *tally = Tally::from_words(words);
+    Refusal::unless_zero(number, place).map(|()| Moved { rule, place })
+}
+
+/// Suggests a choice, which is an accepted one; none where no choice is
+/// accepted. Which of the accepted choices it is, is not promised.
+/// [`Hall::suggest`] is the same on a hall that owns its bytes.
+///
+/// # Errors
+///
+/// 1 to 9 by the table, 10 and 11 by the hall.
+///
+/// ```
+/// use ruonfidd::{open_hall, suggest, Choice, HALL_BYTES};
+///
+/// let table = [7, 10, 1, 0, 9, 0, 1, 6, 2, 12, 0, 1, 13, 3];
+/// let mut hall = vec![0; HALL_BYTES];
+/// assert_eq!(suggest(&table, &hall), Ok(None));
+/// open_hall(&table, &mut hall).unwrap();
+/// assert_eq!(suggest(&table, &hall), Ok(Some(Choice::Act { position: 0 })));
+/// ```
+pub fn suggest(table: &[u8], hall: &[u8]) -> Result<Option<Choice>, Refusal> {
+    let (mut choice, mut place) = ([0; 3], 0);
+    let number = ffi::suggest(table, hall, &mut choice, &mut place);
+    Refusal::unless_zero(number, place).map(|()| Choice::from_bytes(choice))
+}
+
+/// The README's example.
+#[cfg(doctest)]
+#[doc = include_str!("../../README.md")]
+struct Readme;

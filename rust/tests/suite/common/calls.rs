@@ -1,0 +1,316 @@
+//! Calls that run choices, each compared with the second implementation's:
+//! answer, every byte of the hall, every number of the tally.
+
+use std::fmt;
+
+use reference::calls::{self, StepAnswer};
+use reference::choice::Choice;
+use reference::hall::{decode, Station};
+use reference::moves::{ATOK, IN, REP};
+use reference::run::{run_choices, Tally};
+use reference::table::{read_table, Term};
+use ruonfidd::{ffi, HALL_BYTES};
+
+/// What was met over many calls.
+#[derive(Clone, Debug, Default, PartialEq, Eq)]
+pub(crate) struct Met {
+    /// Calls of the library that were compared.
+    pub(crate) calls: usize,
+    /// How often each rule was done.
+    pub(crate) rules: [usize; 14],
+    /// How often each number was answered, 0 for none.
+    pub(crate) numbers: [usize; 21],
+    /// How often 19 stopped an IN, a REP and an ATOK, by the rule's number.
+    pub(crate) too_many: [usize; 8],
+    /// How often a rule that is counted found its counter at the top.
+    pub(crate) at_the_top: [usize; 3],
+    /// Suggestions, and halls found still.
+    pub(crate) suggested: usize,
+    pub(crate) still: usize,
+}
+
+impl Met {
+    /// What was met here or there.
+    pub(crate) fn add(&mut self, other: &Met) {
+        fn each<const N: usize>(sum: &mut [usize; N], more: &[usize; N]) {
+            for (sum, more) in sum.iter_mut().zip(more) {
+                *sum += more;
+            }
+        }
+        self.calls += other.calls;
+        each(&mut self.rules, &other.rules);
+        each(&mut self.numbers, &other.numbers);
+        each(&mut self.too_many, &other.too_many);
+        each(&mut self.at_the_top, &other.at_the_top);
+        self.suggested += other.suggested;
+        self.still += other.still;
+    }
+
+    /// Each rule, 1 to 13, was done so often.
+    #[track_caller]
+    pub(crate) fn rules_at_least(&self, least: usize) {
+        for (rule, times) in self.rules.iter().enumerate().skip(1) {
+            assert!(*times >= least, "rule {rule} too seldom: {self}");
+        }
+    }
+
+    /// Each of these numbers was answered so often.
+    #[track_caller]
+    pub(crate) fn numbers_at_least(&self, numbers: impl Iterator<Item = usize>, least: usize) {
+        for number in numbers {
+            assert!(self.numbers[number] >= least, "{number} too seldom: {self}");
+        }
+    }
+
+    /// 19 was answered so often at each of the three rules that open stations.
+    #[track_caller]
+    pub(crate) fn too_many_at_least(&self, least: usize) {
+        for rule in [IN, REP, ATOK] {
+            assert!(
+                self.too_many[usize::from(rule)] >= least,
+                "19 at rule {rule} too seldom: {self}"
+            );
+        }
+    }
+}
+
+impl fmt::Display for Met {
+    fn fmt(&self, out: &mut fmt::Formatter<'_>) -> fmt::Result {
+        write!(
+            out,
+            "{} calls; rules 1 to 13 {:?}; numbers 0 to 20 {:?}; 19 at IN {}, REP {}, ATOK {}; \
+             counters at the top {:?}; {} suggestions, {} still",
+            self.calls,
+            &self.rules[1..],
+            self.numbers,
+            self.too_many[usize::from(IN)],
+            self.too_many[usize::from(REP)],
+            self.too_many[usize::from(ATOK)],
+            self.at_the_top,
+            self.suggested,
+            self.still
+        )
+    }
+}
+
+fn words(tally: Tally) -> [u32; 3] {
+    [tally.commits, tally.failed, tally.retries]
+}
+
+/// One table, hall and tally on which call after call is made, by the engine
+/// and by the second implementation. Both begin with the same bytes and never
+/// see each other's.
+#[derive(Clone, Debug)]
+pub(crate) struct Sequence {
+    pub(crate) table: Vec<u8>,
+    pub(crate) hall: Vec<u8>,
+    pub(crate) tally: Tally,
+    by_second: Vec<u8>,
+    tally_of_second: Tally,
+    pub(crate) met: Met,
+}
+
+impl Sequence {
+    pub(crate) fn new(table: &[u8], hall: &[u8], tally: Tally) -> Sequence {
+        Sequence {
+            table: table.to_vec(),
+            hall: hall.to_vec(),
+            tally,
+            by_second: hall.to_vec(),
+            tally_of_second: tally,
+            met: Met::default(),
+        }
+    }
+
+    /// The hall that a table opens, with the fresh tally.
+    #[track_caller]
+    pub(crate) fn open(table: &[u8]) -> Sequence {
+        let mut hall = vec![170; HALL_BYTES];
+        assert_eq!(ffi::open_hall(table, &mut hall, &mut 0), 0);
+        Sequence::new(table, &hall, Tally::FRESH)
+    }
+
+    /// The same table, hall and tally, with nothing met.
+    pub(crate) fn copy(&self) -> Sequence {
+        Sequence {
+            met: Met::default(),
+            ..self.clone()
+        }
+    }
+
+    /// Hall and tally are those of the second implementation.
+    #[track_caller]
+    fn compare(&mut self, what: &dyn fmt::Debug) {
+        self.met.calls += 1;
+        if self.hall != self.by_second {
+            let at = self
+                .hall
+                .iter()
+                .zip(&self.by_second)
+                .position(|(a, b)| a != b);
+            panic!("byte {at:?} differs after {what:?}: {self}");
+        }
+        assert_eq!(self.tally, self.tally_of_second, "after {what:?}: {self}");
+    }
+
+    /// Runs choices: number, place and choices done.
+    #[track_caller]
+    pub(crate) fn run(&mut self, choices: &[u8]) -> (u8, usize, usize) {
+        self.note_run(choices);
+        let mut tally = words(self.tally);
+        let (mut place, mut done) = (usize::MAX, usize::MAX);
+        let number = ffi::run(
+            &self.table,
+            &mut self.hall,
+            choices,
+            &mut tally,
+            &mut place,
+            &mut done,
+        );
+        let second = calls::run(
+            &self.table,
+            &mut self.by_second,
+            &mut self.tally_of_second,
+            choices,
+        );
+        self.set_tally(tally);
+        let answer = (number, place, done);
+        let expected = (second.number, second.place, second.done);
+        assert_eq!(answer, expected, "{choices:?} on {self}");
+        self.compare(&choices);
+        answer
+    }
+
+    /// Makes one choice of any kind: number, place and rule.
+    #[track_caller]
+    pub(crate) fn step(&mut self, choice: [u8; 3]) -> (u8, usize, u8) {
+        let [kind, position, node] = choice;
+        let bytes = match kind {
+            1 => vec![kind, position],
+            2 => vec![kind, position, node],
+            _ => vec![kind],
+        };
+        self.note_run(&bytes);
+        let mut tally = words(self.tally);
+        let (mut place, mut rule) = (usize::MAX, u8::MAX);
+        let number = ffi::step(
+            &self.table,
+            &mut self.hall,
+            choice,
+            &mut tally,
+            &mut rule,
+            &mut place,
+        );
+        let second = calls::step(
+            &self.table,
+            &mut self.by_second,
+            &mut self.tally_of_second,
+            &bytes,
+        );
+        self.set_tally(tally);
+        let expected = match second {
+            StepAnswer::Moved(rule) => (0, bytes.len(), rule),
+            StepAnswer::Refused(refusal) => (refusal.number, refusal.place, 0),
+        };
+        let answer = (number, place, rule);
+        assert_eq!(answer, expected, "{choice:?} on {self}");
+        self.compare(&choice);
+        answer
+    }
+
+    /// The choice suggested: one that is accepted, or none where none is.
+    #[track_caller]
+    pub(crate) fn suggest(&mut self) -> Option<Choice> {
+        let (mut place, mut choice) = (usize::MAX, [u8::MAX; 3]);
+        let number = ffi::suggest(&self.table, &self.hall, &mut choice, &mut place);
+        let suggestion = match choice {
+            [0, 0, 0] => None,
+            [1, position, 0] => Some(Choice::Act { position }),
+            [2, position, node] => Some(Choice::Inside { position, node }),
+            _ => panic!("{choice:?} on {self}"),
+        };
+        self.met.numbers[usize::from(number)] += 1;
+        match calls::accepted_choices(&self.table, &self.by_second) {
+            Err(refusal) => {
+                let expected = (refusal.number, refusal.place, None);
+                assert_eq!((number, place, suggestion), expected, "{self}");
+            }
+            Ok(accepted) => {
+                assert_eq!((number, place), (0, 0), "{self}");
+                if let Some(choice) = suggestion {
+                    assert!(accepted.contains(&choice), "{choice:?} on {self}");
+                    self.met.suggested += 1;
+                } else {
+                    assert!(accepted.is_empty(), "{accepted:?} on {self}");
+                    self.met.still += 1;
+                }
+            }
+        }
+        self.compare(&"a suggestion");
+        suggestion
+    }
+
+    fn set_tally(&mut self, [commits, failed, retries]: [u32; 3]) {
+        self.tally = Tally {
+            commits,
+            failed,
+            retries,
+        };
+    }
+
+    /// What a run of these choices will meet, by the second implementation.
+    fn note_run(&mut self, choices: &[u8]) {
+        let Ok(table) = read_table(&self.table) else {
+            let number = calls::check_table(&self.table).number;
+            self.met.numbers[usize::from(number)] += 1;
+            return;
+        };
+        let Some(hall) = decode(&table, &self.by_second) else {
+            let number = calls::check_hall(&self.table, &self.by_second).number;
+            self.met.numbers[usize::from(number)] += 1;
+            return;
+        };
+        let result = run_choices(&table, &hall, self.tally_of_second, choices);
+        self.met.numbers[usize::from(result.number)] += 1;
+        let mut tally = self.tally_of_second;
+        for rule in result.rules {
+            self.met.rules[usize::from(rule)] += 1;
+            let counter = match rule {
+                7 => Some((0, tally.commits)),
+                6 => Some((1, tally.failed)),
+                5 => Some((2, tally.retries)),
+                _ => None,
+            };
+            if let Some((counter, u32::MAX)) = counter {
+                self.met.at_the_top[counter] += 1;
+            }
+            tally = tally.after(rule);
+        }
+        if result.number == 19 {
+            let position = usize::from(choices[result.place + 1]);
+            let rule = match result.hall.stations[position] {
+                Station::Waiting { term } => match table.terms[term] {
+                    Term::Take { .. } => IN,
+                    _ => REP,
+                },
+                _ => ATOK,
+            };
+            self.met.too_many[usize::from(rule)] += 1;
+        }
+    }
+}
+
+/// The table and the used part of the hall, for a message.
+impl fmt::Display for Sequence {
+    fn fmt(&self, out: &mut fmt::Formatter<'_>) -> fmt::Result {
+        let zeros = self.by_second.iter().rev().take_while(|byte| **byte == 0);
+        let used = self.by_second.len() - zeros.count();
+        write!(
+            out,
+            "table {:?}, hall {:?} and zeros, tally {:?}",
+            self.table,
+            &self.by_second[..used],
+            self.tally_of_second
+        )
+    }
+}

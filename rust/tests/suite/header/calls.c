@@ -1,0 +1,84 @@
+/* Calls every function of the header, as C and as C++. The first answer that is not as it must be is printed. */
+#include "ruonfidd.h"
+
+#include <stdio.h>
+#include <string.h>
+
+#define MUST(fact) \
+    do { \
+        if (!(fact)) { \
+            printf("line %d: %s\n", __LINE__, #fact); \
+            return 1; \
+        } \
+    } while (0)
+
+/* A block that reads tray 0 and writes tray 1; one token. */
+static const uint8_t table[] = {7, 10, 1, 0, 9, 0, 1, 6, 2, 12, 0, 1, 13, 3};
+static const uint8_t choices[] = {1, 0, 2, 0, 0, 2, 0, 0, 1, 0, 1, 0};
+static uint8_t hall[RUONFIDD_HALL_BYTES];
+static uint8_t before[RUONFIDD_HALL_BYTES];
+static const uint8_t input[] = {7, 10, 1, 0, 9, 0, 1, 6, 2, 12, 0, 1, 13, 3, 1, 0, 2, 0, 0, 2, 0, 0, 1, 0, 1, 0};
+static const char printed[] = "R 0 12 5\nC 1 0 0\nT 0 1 -1 0\nT 1 0 1 1\n";
+static uint8_t report[RUONFIDD_REPORT_BYTES];
+
+int main(void) {
+    const size_t unset = (size_t)-1;
+    size_t place = unset, done = unset;
+    uint32_t tally[3] = {9, 9, 9};
+    uint8_t rule = 99, choice[3] = {99, 99, 99};
+
+    MUST(ruonfidd_check_table(table, sizeof table, &place) == 0 && place == 0);
+    MUST(ruonfidd_check_table(table, 12, &place) == 9 && place == 12);
+    MUST(ruonfidd_check_table(NULL, 0, &place) == 9 && place == 0);
+
+    memset(hall, 170, sizeof hall);
+    place = unset;
+    MUST(ruonfidd_open_hall(table, sizeof table, NULL, 0, &place) == 10 && place == 0);
+    place = unset;
+    MUST(ruonfidd_open_hall(table, sizeof table, hall, sizeof hall, &place) == 0 && place == 0);
+    MUST(hall[0] == 1 && hall[16] == 20 && hall[17] == 3 && hall[18] == 0 && hall[sizeof hall - 1] == 0);
+    place = unset;
+    MUST(ruonfidd_check_hall(table, sizeof table, hall, sizeof hall, &place) == 0 && place == 0);
+    MUST(ruonfidd_check_hall(table, sizeof table, NULL, 0, &place) == 10 && place == 0);
+    ruonfidd_fresh_tally(tally);
+    MUST(tally[0] == 0 && tally[1] == 0 && tally[2] == 0);
+
+    /* No choices, without memory. */
+    memcpy(before, hall, sizeof hall);
+    MUST(ruonfidd_run(table, sizeof table, hall, sizeof hall, NULL, 0, tally, &place, &done) == 0);
+    MUST(place == 0 && done == 0 && memcmp(hall, before, sizeof hall) == 0);
+
+    /* The first choice by a step, the second as it is suggested, the others in a run that is refused behind them. */
+    place = unset;
+    MUST(ruonfidd_step(table, sizeof table, hall, sizeof hall, 1, 0, 200, tally, &rule, &place) == 0);
+    MUST(rule == 4 && place == 2 && hall[16] == 21);
+    place = unset;
+    MUST(ruonfidd_suggest(table, sizeof table, hall, sizeof hall, choice, &place) == 0 && place == 0);
+    MUST(choice[0] == 2 && choice[1] == 0 && choice[2] == 0);
+    MUST(ruonfidd_step(table, sizeof table, hall, sizeof hall, choice[0], choice[1], choice[2], tally,
+                       &rule, &place) == 0);
+    MUST(rule == 8 && place == 3);
+    MUST(ruonfidd_step(table, sizeof table, hall, sizeof hall, 255, 0, 0, tally, &rule, &place) == 12);
+    MUST(rule == 0 && place == 0);
+    place = done = unset;
+    MUST(ruonfidd_run(table, sizeof table, hall, sizeof hall, choices + 5, sizeof choices - 5, tally, &place,
+                      &done) == 0);
+    MUST(place == 7 && done == 3 && hall[0] == 0 && hall[1] == 1 && hall[16] == 0);
+    MUST(tally[0] == 1 && tally[1] == 0 && tally[2] == 0);
+    MUST(ruonfidd_run(table, sizeof table, hall, sizeof hall, choices, 2, tally, &place, &done) == 14);
+    MUST(place == 0 && done == 0);
+
+    /* Still, and refused. */
+    MUST(ruonfidd_suggest(table, sizeof table, hall, sizeof hall, choice, &place) == 0 && place == 0);
+    MUST(choice[0] == 0 && choice[1] == 0 && choice[2] == 0);
+    memset(choice, 99, sizeof choice);
+    MUST(ruonfidd_suggest(table, 12, hall, sizeof hall, choice, &place) == 9 && place == 12);
+    MUST(choice[0] == 0 && choice[1] == 0 && choice[2] == 0);
+
+    /* The printed run of table and choices; behind it nothing is written. */
+    memset(report, 99, sizeof report);
+    ruonfidd_report(input, sizeof input, report, &place);
+    MUST(place == sizeof printed - 1 && memcmp(report, printed, place) == 0 && report[place] == 99);
+    puts("all answers are as they must be");
+    return 0;
+}

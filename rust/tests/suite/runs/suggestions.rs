@@ -1,0 +1,152 @@
+//! Suggestions: always an accepted choice, and still only where none is.
+
+use reference::build::Builder;
+use reference::choice::Choice;
+use reference::generator::{self, Random};
+use reference::hall::{encode, opening};
+use reference::run::Tally;
+
+use crate::common::by_chance::{accepted, any_table, reached_hall};
+use crate::common::by_hand::{attempt, each_kind, hall, joined, leaf, leaning_left};
+use crate::common::by_hand::{BARE_RETRY, PUTTING, WAITING};
+use crate::common::calls::{Met, Sequence};
+use crate::common::choices::step_bytes;
+use crate::common::seeds::{say, seeds};
+
+/// A hall of the table with a term of each kind.
+fn sequence(counts: &[u8], stations: &[u8]) -> Sequence {
+    let mut stored = hall(stations);
+    stored[..counts.len()].copy_from_slice(counts);
+    Sequence::new(&each_kind::table(), &stored, Tally::FRESH)
+}
+
+/// The suggestion on such a hall.
+#[track_caller]
+fn suggests(counts: &[u8], stations: &[u8], choice: Choice) {
+    let mut sequence = sequence(counts, stations);
+    assert_eq!(sequence.suggest(), Some(choice), "{sequence}");
+}
+
+/// Such a hall is still.
+#[track_caller]
+fn still(counts: &[u8], stations: &[u8]) {
+    let mut sequence = sequence(counts, stations);
+    assert_eq!(sequence.suggest(), None, "{sequence}");
+}
+
+fn act(position: u8) -> Choice {
+    Choice::Act { position }
+}
+
+fn inside(position: u8, node: u8) -> Choice {
+    Choice::Inside { position, node }
+}
+
+/// Where one choice alone is accepted, it is suggested.
+#[test]
+fn the_only_choice() {
+    let end = leaf(each_kind::END, 0, &[]);
+    let retry = leaf(BARE_RETRY, 0, &[]);
+    let rd = leaf(each_kind::RD, 0, &[]);
+    let block = each_kind::BLOCK;
+    still(&[], &[]);
+    suggests(&[], &[PUTTING, 0], act(0));
+    still(&[255], &[PUTTING, 0]);
+    suggests(&[254], &[PUTTING, 0], act(0));
+    still(&[], &[WAITING, each_kind::TAKE]);
+    suggests(&[1], &[WAITING, each_kind::TAKE], act(0));
+    still(&[1], &[WAITING, each_kind::REPEATED_TAKE]);
+    suggests(&[0, 1], &[WAITING, each_kind::REPEATED_TAKE], act(0));
+    suggests(&[], &[WAITING, block], act(0));
+    suggests(&[], &attempt(block, &end), act(0));
+    suggests(&[], &attempt(block, &retry), act(0));
+    suggests(&[], &attempt(block, &rd), inside(0, 0));
+    // A fork waits for its left side, however deep that is.
+    let forks = leaning_left(&[rd.clone(), end.clone(), retry.clone(), end.clone()]);
+    suggests(&[], &attempt(block, &forks), inside(0, 3));
+    // Behind stations and forks that cannot move.
+    let mut stations = [WAITING, each_kind::TAKE].repeat(63);
+    stations.extend([PUTTING, 0]);
+    suggests(&[], &stations, act(63));
+    let mut leaves = vec![end; 8];
+    leaves[0] = rd;
+    let eight = leaning_left(&leaves);
+    let stations = joined(&[&stations[..126], &attempt(block, &eight)]);
+    suggests(&[], &stations, inside(63, 7));
+}
+
+/// A commit that would leave too many stations is not suggested; one that fails
+/// is.
+#[test]
+fn in_a_full_hall() {
+    let writes = leaf(each_kind::END, 2, &[16, 17]);
+    let reads_too = leaf(each_kind::END, 3, &[16, 17, 0]);
+    let waiting = [WAITING, each_kind::TAKE].repeat(63);
+    let with = |leaf: &[u8]| joined(&[&waiting, &attempt(each_kind::BLOCK, leaf)]);
+    still(&[], &with(&writes));
+    suggests(&[], &with(&reads_too), act(63));
+    let one_write = leaf(each_kind::END, 1, &[16]);
+    suggests(&[], &with(&one_write), act(63));
+}
+
+/// In a full hall a repeated take of nil is accepted, and one of a put is not.
+#[test]
+fn a_repeated_take_in_a_full_hall() {
+    let mut table = Builder::new();
+    let nil = table.nil();
+    let nils = table.copies(nil, 3);
+    let put = table.put(3);
+    let quiet = table.repeated_take(0, nils);
+    let loud = table.repeated_take(0, put);
+    table.tokens(0, 2);
+    for (term, suggestion) in [(quiet, Some(act(0))), (loud, None)] {
+        let all = table.clone().copies(term, 64);
+        let mut table = table.clone();
+        assert_eq!(table.copies(term, 64), all);
+        let mut sequence = Sequence::open(&table.start(all));
+        assert_eq!(sequence.suggest(), suggestion);
+    }
+}
+
+/// From openings, suggestion after suggestion, each made by a step.
+#[test]
+fn followed_from_openings() {
+    let mut met = Met::default();
+    for seed in seeds("suggestions followed", 1_500) {
+        let mut random = Random::new(seed);
+        let bytes = any_table(&mut random);
+        let start = encode(&opening(&accepted(&bytes)));
+        let mut sequence = Sequence::new(&bytes, &start, Tally::FRESH);
+        for _ in 0..15 {
+            let Some(choice) = sequence.suggest() else {
+                break;
+            };
+            let (number, _, _) = sequence.step(step_bytes(choice, 5));
+            assert_eq!(number, 0, "{choice:?} on {sequence}");
+        }
+        met.add(&sequence.met);
+    }
+    say(&format!("suggestions followed: {met}"));
+    assert!(met.suggested >= 10_000 && met.still >= 100, "{met}");
+}
+
+/// Halls of any kind.
+#[test]
+fn on_any_hall() {
+    let mut met = Met::default();
+    for seed in seeds("suggestions on any hall", 12_000) {
+        let mut random = Random::new(seed);
+        let bytes = any_table(&mut random);
+        let table = accepted(&bytes);
+        let start = match seed % 3 {
+            0 => reached_hall(&mut random, &table, 6),
+            1 => generator::hall_with(&mut random, &table, 1),
+            _ => generator::hall(&mut random, &table),
+        };
+        let mut sequence = Sequence::new(&bytes, &encode(&start), Tally::FRESH);
+        sequence.suggest();
+        met.add(&sequence.met);
+    }
+    say(&format!("suggestions on any hall: {met}"));
+    assert!(met.suggested >= 6_000 && met.still >= 1_000, "{met}");
+}
