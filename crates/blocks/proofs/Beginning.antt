@@ -14,8 +14,8 @@ use Rattle.semantics.specs.Definitions.Logs.{emptyLog}
 use Rattle.semantics.specs.Definitions.Configuration.{block, leaf, Component, idle, transaction, Configuration}
 use Rattle.semantics.specs.Definitions.Stored.{treeBytes, componentBytes, ComponentOk}
 use Rattle.semantics.specs.Definitions.Moves.{act, acts, answerTo, ruleNumber, movedBy, replyOf}
-use Rattle.semantics.proofs.Lists.{found-below, length-replaceAt}
-use Rattle.semantics.proofs.Moves.{positionOf, localMove, accepted-made}
+use Rattle.theorems.proofs.Lists.{found-below, length-replaceAt}
+use Rattle.theorems.proofs.Moves.{positionOf, localMove, accepted-made}
 use Rattle.records.specs.Shapes.{kindByte}
 use Rattle.terms.specs.Decoded.{Decoded, maxTerms, kindAt, firstAt}
 use Rattle.buffer.specs.Splice.{written}

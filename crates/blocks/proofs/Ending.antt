@@ -15,7 +15,7 @@ use Rattle.semantics.specs.Definitions.Terms.{Expression, Term, endT, retryT}
 use Rattle.semantics.specs.Definitions.Configuration.{block, output, Tree, leaf, Component, idle, transaction, Configuration}
 use Rattle.semantics.specs.Definitions.Stored.{componentBytes}
 use Rattle.semantics.specs.Definitions.Moves.{act, answerTo, movedBy, replyOf}
-use Rattle.semantics.proofs.WellFormedKept.{without-bytes}
+use Rattle.theorems.proofs.WellFormedKept.{without-bytes}
 use Rattle.terms.specs.Decoded.{Decoded}
 use Rattle.stored.specs.Layout.{indexSize, waitingKind, idleSize, componentBody, transactionHead, leafLogLength, leafLog}
 use Rattle.storedlaws.specs.Positions.{allBytes}

@@ -12,9 +12,9 @@ use Rattle.semantics.specs.Definitions.Terms.{Term}
 use Rattle.semantics.specs.Definitions.Configuration.{Component, Configuration}
 use Rattle.semantics.specs.Definitions.Moves.{act, acts, moves, moved, answerTo, movedBy, replyOf}
 use Rattle.semantics.specs.Definitions.Stored.{WellFormed}
-use Rattle.semantics.proofs.Lists.{length-replaceAt}
-use Rattle.semantics.proofs.Moves.{positionOf, localMove, accepted-inverts}
-use Rattle.semantics.proofs.WellFormedKept.{well-formed-step}
+use Rattle.theorems.proofs.Lists.{length-replaceAt}
+use Rattle.theorems.proofs.Moves.{positionOf, localMove, accepted-inverts}
+use Rattle.theorems.proofs.WellFormedKept.{well-formed-step}
 use Rattle.stored.specs.Layout.{indexSize}
 use Rattle.storedlaws.specs.Positions.{allBytes}
 use Rattle.index.specs.Holds.{Holds, replacedAt, withCounts, Spaced, Replaces, CanReplace, Replaced}

@@ -20,8 +20,8 @@ use Rattle.semantics.specs.Definitions.Terms.{Expression, endT, retryT, rdT, wt
 use Rattle.semantics.specs.Definitions.Logs.{readable}
 use Rattle.semantics.specs.Definitions.Configuration.{block, output, Tree, leaf, fork, Component, idle, transaction, Configuration}
 use Rattle.semantics.specs.Definitions.Moves.{act, moves, blocked, commits, ends, acts, Answer, applyAt, answerTo, ruleNumber, Reply, movedBy, refusedBy, replyOf}
-use Rattle.semantics.proofs.Lists.{found-below, length-replaceAt}
-use Rattle.semantics.proofs.Moves.{positionOf, localMove, chosen-at}
+use Rattle.theorems.proofs.Lists.{found-below, length-replaceAt}
+use Rattle.theorems.proofs.Moves.{positionOf, localMove, chosen-at}
 use Rattle.records.specs.Shapes.{kindByte}
 use Rattle.terms.specs.Decoded.{Decoded}
 use Rattle.stored.specs.Layout.{hallBytes, maxComponents, transactionHead}

@@ -15,7 +15,7 @@ use Rattle.semantics.specs.Definitions.Terms.{Expression, endT, retryT, rdT, wt
 use Rattle.semantics.specs.Definitions.Logs.{emptyLog, readable}
 use Rattle.semantics.specs.Definitions.Configuration.{taking, repeating, block, output, Tree, leaf, fork, Component, idle, transaction, Configuration}
 use Rattle.semantics.specs.Definitions.Moves.{Entry, LocalAnswer, moves, blocked, takes, puts, ends, acts, Answer, moved, refused, answerTo, ruleNumber, movedBy, replyOf}
-use Rattle.semantics.proofs.Reading.{by-cases}
+use Rattle.theorems.proofs.Reading.{by-cases}
 
 -- an entry that is accepted by a rule of number k
 pub record Numbered (h : Configuration) (e : Entry) (k : ℕ) : Type 0 where

@@ -18,7 +18,7 @@ use Rattle.semantics.specs.Definitions.Terms.{Program, Term}
 use Rattle.semantics.specs.Definitions.Configuration.{taking, repeating, block, output, Component, idle, transaction, Configuration}
 use Rattle.semantics.specs.Definitions.Stored.{componentBytes}
 use Rattle.semantics.specs.Definitions.Moves.{act, inside, actsInside, atPosition, applyAt, answerTo, replyOf}
-use Rattle.semantics.proofs.Lists.{found-below}
+use Rattle.theorems.proofs.Lists.{found-below}
 use Rattle.semantics.specs.Definitions.Table.{atomK}
 use Rattle.semantics.specs.Checks.AcceptedTables.{kindByte}
 use Rattle.terms.specs.Decoded.{kindAt, Decoded}

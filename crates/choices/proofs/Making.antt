@@ -12,7 +12,7 @@ use lib.Dec.{lit≤}
 use Rattle.calculus.specs.Syntax.{State}
 use Rattle.calculus.specs.Reduction.{Rule, OUT, IN, REP, ATST, ATRE, ATFAIL, ATOK, ARDOK, ARDF, AWR, AOI, AOF, AOE}
 use Rattle.semantics.specs.Definitions.Configuration.{Component, Configuration}
-use Rattle.semantics.proofs.Moves.{localMove, accepted-inverts}
+use Rattle.theorems.proofs.Moves.{localMove, accepted-inverts}
 use Rattle.blocks.proofs.Numbers.{by-number, BlockMove, begins, retries, fails, commits, acts-by}
 use Rattle.semantics.specs.Definitions.Moves.{Entry, act, inside, Answer, moved, refused, refusedBy, answerTo, effectOf, ruleNumber, replyOf}
 use Rattle.rules.specs.declared.Reply.{Reply}

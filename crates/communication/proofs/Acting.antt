@@ -19,9 +19,9 @@ use Rattle.semantics.specs.Definitions.Terms.{Expression, Program, endT, retryT
 use Rattle.semantics.specs.Definitions.Logs.{readable, addToken, takeToken}
 use Rattle.semantics.specs.Definitions.Configuration.{taking, repeating, block, output, Tree, leaf, fork, Component, idle, transaction, Configuration, opens}
 use Rattle.semantics.specs.Definitions.Moves.{act, LocalAnswer, moves, blocked, takes, puts, ends, commits, acts, Answer, moved, refused, applyAt, answerTo, ruleNumber, movedBy, refusedBy, replyOf}
-use Rattle.semantics.proofs.Lists.{found-below, length-replaceAt}
-use Rattle.semantics.proofs.Reading.{by-cases}
-use Rattle.semantics.proofs.Moves.{positionOf, localMove, chosen-at, accepted-inverts, accepted-made}
+use Rattle.theorems.proofs.Lists.{found-below, length-replaceAt}
+use Rattle.theorems.proofs.Reading.{by-cases}
+use Rattle.theorems.proofs.Moves.{positionOf, localMove, chosen-at, accepted-inverts, accepted-made}
 use Rattle.communication.specs.Tokens.{takeOf, successors, staying, takeRule, takeNumber}
 
 -- ---- at an output

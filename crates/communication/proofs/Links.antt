@@ -17,8 +17,8 @@ use Rattle.semantics.specs.Definitions.Logs.{addToken, takeToken}
 use Rattle.semantics.specs.Definitions.Configuration.{Idle, taking, repeating, output, Component, idle, Configuration}
 use Rattle.semantics.specs.Definitions.Stored.{componentBytes, ComponentOk}
 use Rattle.semantics.specs.Definitions.Moves.{act, moved, answerTo, movedBy, replyOf}
-use Rattle.semantics.proofs.Lists.{found-below}
-use Rattle.semantics.proofs.WellFormedKept.{count-byte, well-formed-step}
+use Rattle.theorems.proofs.Lists.{found-below}
+use Rattle.theorems.proofs.WellFormedKept.{count-byte, well-formed-step}
 use Rattle.records.specs.Shapes.{kindByte}
 use Rattle.terms.specs.Decoded.{kindAt, firstAt, secondAt, Decoded}
 use Rattle.stored.specs.Layout.{channels, maxComponents, hallBytes, componentBody, idleSize}

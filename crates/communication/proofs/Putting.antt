@@ -9,7 +9,7 @@ use Rattle.semantics.specs.Definitions.Layout.{maxCount}
 use Rattle.semantics.specs.Definitions.Configuration.{output, idle}
 use Rattle.semantics.specs.Definitions.Stored.{ComponentOk}
 use Rattle.semantics.specs.Definitions.Moves.{replyOf, ruleNumber}
-use Rattle.semantics.proofs.WellFormedKept.{count-byte}
+use Rattle.theorems.proofs.WellFormedKept.{count-byte}
 use Rattle.stored.specs.Layout.{channels, maxComponents, componentBody}
 use Rattle.rules.specs.declared.Reply.the-variants.{Moved, Refused}
 use Rattle.rules.specs.Replies.{replyIs}

@@ -18,8 +18,8 @@ use Rattle.semantics.specs.Definitions.Configuration.{repeating, idle, Configur
 use Rattle.semantics.specs.Definitions.Stored.{componentBytes}
 use Rattle.semantics.specs.Definitions.Moves as moves
 use Rattle.semantics.specs.Definitions.Moves.{act, answerTo, replyOf}
-use Rattle.semantics.proofs.Lists.{found-below}
-use Rattle.semantics.proofs.RoundTrip.{width-bounds-opening}
+use Rattle.theorems.proofs.Lists.{found-below}
+use Rattle.theorems.proofs.RoundTrip.{width-bounds-opening}
 use Rattle.records.specs.Shapes.{kindByte}
 use Rattle.terms.specs.Decoded.{kindAt, firstAt, secondAt, breadthAt, breadth, Decoded}
 use Rattle.buffer.specs.Splice.{written}

@@ -13,8 +13,8 @@ use Rattle.semantics.specs.Definitions.Run.{Counters, counted}
 use Rattle.semantics.specs.Definitions.Calls.{admission, Buffers, runAdmitted, runCall, stepCall, SuggestAdmitted, SuggestAllowed}
 use Rattle.semantics.specs.Checks.Conditions.{RefusalNumbers}
 use Rattle.semantics.specs.Checks.Steps.{Names, names-act, names-inside}
-use Rattle.semantics.proofs.Theorems.{refusal-numbers}
-use Rattle.semantics.proofs.Steps.{answered, step-turned-down, step-unknown, step-answered}
+use Rattle.theorems.proofs.Theorems.{refusal-numbers}
+use Rattle.theorems.proofs.Steps.{answered, step-turned-down, step-unknown, step-answered}
 use Rattle.rules.specs.declared.Reply.{Reply}
 use Rattle.rules.specs.declared.Reply.the-variants as reply
 use Rattle.counters.specs.declared.Counters as code

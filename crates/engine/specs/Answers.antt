@@ -9,7 +9,7 @@ use Rattle.semantics.specs.Definitions.Moves.{Entry, answerTo}
 use Rattle.semantics.specs.Definitions.Run.{Counters}
 use Rattle.semantics.specs.Definitions.Calls.{Verdict, ok, rejected, Opening, opened, notOpened, Buffers, StepCall, suggested, still, notSuggested}
 use Rattle.semantics.specs.Definitions.Calls as calls
-use Rattle.semantics.proofs.Steps.{answered}
+use Rattle.theorems.proofs.Steps.{answered}
 use Rattle.terms.specs.Decoded.{Decoded}
 use Rattle.index.specs.Holds.{Holds}
 use Rattle.counters.specs.declared.Counters as counters

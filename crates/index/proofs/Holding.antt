@@ -17,8 +17,8 @@ use Rattle.semantics.specs.Definitions.Terms.{Expression, Program, takeT, repea
 use Rattle.semantics.specs.Definitions.Configuration.{taking, repeating, block, output, Tree, Component, idle, transaction, Configuration}
 use Rattle.semantics.specs.Definitions.Stored.{treeBytes, componentBytes, bytesOf, ComponentOk, configurationOf}
 use Rattle.semantics.specs.Checks.AcceptedTables.{GoodTable}
-use Rattle.semantics.proofs.Lists.{found-below, found-at, all-at}
-use Rattle.semantics.proofs.RoundTrip.{read-is-well-formed}
+use Rattle.theorems.proofs.Lists.{found-below, found-at, all-at}
+use Rattle.theorems.proofs.RoundTrip.{read-is-well-formed}
 use Rattle.terms.specs.Decoded.{Decoded}
 use Rattle.stored.specs.declared.Place.the-variants.{At, Nowhere}
 use Rattle.stored.specs.Layout.{channels, hallBytes, maxComponents, indexSize, waitingKind, transactionKind, outputKind, componentBody, idleSize, transactionHead}

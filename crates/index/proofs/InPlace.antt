@@ -14,7 +14,7 @@ use Rattle.semantics.specs.Definitions.Layout.{maxCount}
 use Rattle.semantics.specs.Definitions.Terms.{Expression, Term, number}
 use Rattle.semantics.specs.Definitions.Configuration.{Tree, leaf, transaction, Configuration}
 use Rattle.semantics.specs.Definitions.Stored.{actionByte, treeBytes, componentBytes, bytesOf, ByteCounts, WellFormed}
-use Rattle.semantics.proofs.Lists.{all-set}
+use Rattle.theorems.proofs.Lists.{all-set}
 use Rattle.buffer.specs.Splice.{written}
 use Rattle.stored.specs.Layout.{channels, transactionKind, leafTerm, leafLogLength, leafLog, logSize}
 use Rattle.storedlaws.specs.Positions.{Context, plug, before, behind}

@@ -15,7 +15,7 @@ use Rattle.semantics.specs.Definitions.Basics.{replaceAt}
 use Rattle.semantics.specs.Definitions.Terms.{Term}
 use Rattle.semantics.specs.Definitions.Configuration.{Idle, Component, idle, Configuration}
 use Rattle.semantics.specs.Definitions.Stored.{componentBytes, WellFormed}
-use Rattle.semantics.proofs.Lists.{found-below, length-replaceAt}
+use Rattle.theorems.proofs.Lists.{found-below, length-replaceAt}
 use Rattle.buffer.specs.Splice.{written, spliced, Room}
 use Rattle.buffer.proofs.Spliced.{shifted-none, spliced-from}
 use Rattle.stored.specs.Layout.{idleSize}

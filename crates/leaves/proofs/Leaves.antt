@@ -17,7 +17,7 @@ use Rattle.semantics.specs.Definitions.Configuration.{Tree, leaf, fork, transac
 use Rattle.semantics.specs.Definitions.Stored.{leafExpression, treeBytes, TreeOk, ComponentOk}
 use Rattle.semantics.specs.Definitions.Table.{endK, retryK, rdK, wtK, orElseK}
 use Rattle.semantics.specs.Checks.AcceptedTables.{kindByte, ChannelBelow}
-use Rattle.semantics.proofs.Lists.{found-below}
+use Rattle.theorems.proofs.Lists.{found-below}
 use Rattle.terms.specs.Decoded.{channels, maxTerms, kindAt, firstAt, secondAt, RecordOf, Decoded}
 use Rattle.stored.specs.Layout.{leafKind, forkKind, leafTerm, leafLog, forkSize, noRecord, transactionHead}
 use Rattle.storedlaws.specs.Positions.{Context, top, before, node, nodeOf}

@@ -12,7 +12,7 @@ use lib.ListN.{length, getD, take, set}
 use lib.Seq.{take-all, take-nil, set-getD}
 use borrow.Author.Tests.{leb-true, le-leb}
 use Rattle.semantics.specs.Definitions.Layout.{channels}
-use Rattle.semantics.proofs.Reading.{and-true}
+use Rattle.theorems.proofs.Reading.{and-true}
 use Rattle.logs.specs.Needs.{withinFirst, withinAt, lowered}
 
 -- ---- the test, channel by channel

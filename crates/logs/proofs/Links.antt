@@ -20,8 +20,8 @@ use Rattle.semantics.specs.Definitions.Layout.{channels, maxActions, writeOffse
 use Rattle.semantics.specs.Definitions.Logs.{readable}
 use Rattle.semantics.specs.Definitions.Configuration.{idle, output}
 use Rattle.semantics.specs.Definitions.Stored.{actionByte, channelOf, componentBytes}
-use Rattle.semantics.proofs.Lists.{all-append}
-use Rattle.semantics.proofs.Readable.{readable-included, included-readable}
+use Rattle.theorems.proofs.Lists.{all-append}
+use Rattle.theorems.proofs.Readable.{readable-included, included-readable}
 use Rattle.buffer.specs.Splice.{written}
 use Rattle.logs.specs.declared.Log as code
 use Rattle.logs.specs.declared.Outputs.{Outputs}

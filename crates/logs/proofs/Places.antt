@@ -13,7 +13,7 @@ use Rattle.semantics.specs.Definitions.Layout.{channels, maxActions, transactio
 use Rattle.semantics.specs.Definitions.Terms.{Expression, Term, number}
 use Rattle.semantics.specs.Definitions.Configuration.{Tree, leaf, transaction, Configuration}
 use Rattle.semantics.specs.Definitions.Stored.{actionByte, treeBytes, componentBytes, bytesOf, TreeOk}
-use Rattle.semantics.proofs.Trees.{length-padded}
+use Rattle.theorems.proofs.Trees.{length-padded}
 use Rattle.stored.specs.Layout.{idleSize, leafLogLength, leafLog}
 use Rattle.logs.specs.Places.{LogAt, CountsAt}
 

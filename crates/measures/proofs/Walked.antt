@@ -5,7 +5,7 @@ use native.Mathlib.Omega.{arith}
 use mathlib.Core.Path.{_≡_}
 use mathlib.Core.List.{List}
 use Rattle.semantics.specs.Definitions.Table.{TableAnswer, accepted, refusedAt, readTable}
-use Rattle.semantics.proofs.Lists.{found-at}
+use Rattle.theorems.proofs.Lists.{found-at}
 use Rattle.terms.specs.TermMeasures.{Measurable}
 use Rattle.table.specs.declared.Read.{Read}
 use Rattle.table.specs.declared.Read.the-variants.{Accepted}

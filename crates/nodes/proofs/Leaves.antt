@@ -13,7 +13,7 @@ use Rattle.semantics.specs.Definitions.Terms.{Expression, retryT, Program, Term
 use Rattle.semantics.specs.Definitions.Table.{expressionF}
 use Rattle.semantics.specs.Definitions.Configuration.{branchesOf}
 use Rattle.semantics.specs.Definitions.Stored.{leafExpression, leafFrom}
-use Rattle.semantics.proofs.Lists.{found-below, none-past}
+use Rattle.theorems.proofs.Lists.{found-below, none-past}
 use Rattle.records.specs.Shapes.{fieldNumber, termClass, classOf}
 use Rattle.terms.specs.Decoded.{kindAt, breadthAt, lengthAt, breadth, termLength, Decoded}
 use Rattle.terms.proofs.TermKinds.{record-class}

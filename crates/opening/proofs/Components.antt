@@ -13,8 +13,8 @@ use Rattle.semantics.specs.Definitions.Terms.{Program, nilT, putT, takeT, repea
 use Rattle.semantics.specs.Checks.AcceptedTables.{programNumber, termNumber, SubtermsIn}
 use Rattle.semantics.specs.Definitions.Configuration.{idle, opens}
 use Rattle.semantics.specs.Definitions.Stored.{componentBytes}
-use Rattle.semantics.proofs.Lists.{found-below}
-use Rattle.semantics.proofs.RoundTrip.{width-bounds-opening}
+use Rattle.theorems.proofs.Lists.{found-below}
+use Rattle.theorems.proofs.RoundTrip.{width-bounds-opening}
 use Rattle.terms.specs.Decoded.{kindAt, firstAt, secondAt, RecordOf, Decoded, maxTerms}
 use Rattle.buffer.specs.Splice.{written}
 use Rattle.buffer.proofs.Written.{written-none, written-length, written-twice}

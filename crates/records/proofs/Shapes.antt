@@ -10,7 +10,7 @@ use mathlib.Core.List.{List, [], _∷_}
 use lib.Bits.{bitAnd}
 use lib.ListN.{length, getElem?}
 use Rattle.semantics.specs.Definitions.Table.{Kind, kinds, kindOf, fields}
-use Rattle.semantics.proofs.Lists.{all-at}
+use Rattle.theorems.proofs.Lists.{all-at}
 use Rattle.records.specs.Shapes.{lastKind, kindsEnd, fieldsOf, bodyOf}
 
 -- ---- by the kinds from one number on

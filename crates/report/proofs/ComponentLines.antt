@@ -15,7 +15,7 @@ use Rattle.semantics.specs.Definitions.Terms.{Term, Expression}
 use Rattle.semantics.specs.Definitions.Configuration.{taking, repeating, block, output, Tree, leaf, fork, Component, idle, transaction, Configuration, nodes}
 use Rattle.semantics.specs.Definitions.Stored.{treeBytes, componentBytes, ComponentOk, TreeOk}
 use Rattle.semantics.specs.Definitions.Report.{decimal, line, componentLine}
-use Rattle.semantics.proofs.Lists.{found-below}
+use Rattle.theorems.proofs.Lists.{found-below}
 use Rattle.stored.specs.declared.Walk.{Walk}
 use Rattle.stored.specs.Layout.{maxNodes, outputKind, waitingKind, transactionKind, componentBody, transactionHead, forkKind, leafKind, forkSize}
 use Rattle.stored.specs.Nodes.{passed, nodeSize, pendingBehind}

@@ -13,8 +13,8 @@ use Rattle.semantics.specs.Definitions.Basics.{Bytes}
 use Rattle.semantics.specs.Definitions.Table.{TableAnswer, accepted, refusedAt, readTable}
 use Rattle.semantics.specs.Definitions.Report.{printedRun}
 use Rattle.semantics.specs.Checks.PrintedRun.{PrintedLong, PrintedRefused, PrintedAsCalls}
-use Rattle.semantics.proofs.Lists.{all-left}
-use Rattle.semantics.proofs.PrintedRun.{printed-long, printed-refused, printed-as-calls}
+use Rattle.theorems.proofs.Lists.{all-left}
+use Rattle.theorems.proofs.PrintedRun.{printed-long, printed-refused, printed-as-calls}
 use Rattle.stored.specs.Layout.{hallBytes}
 use Rattle.buffer.specs.Splice.{written}
 use Rattle.index.proofs.Holding.{slice-bytes}

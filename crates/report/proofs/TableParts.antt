@@ -10,7 +10,7 @@ use mathlib.Core.List.{List, [], _∷_}
 use lib.ListN.{length, getD, take, drop, drop-of-length-le}
 use lib.Dec.{eqb}
 use borrow.Author.Tests.{eqb-true, eqb-false}
-use Rattle.semantics.proofs.Lists.{found-below}
+use Rattle.theorems.proofs.Lists.{found-below}
 use lib.Seq.{drop-cons, drop-drop, take-all, take-length}
 use Rattle.semantics.specs.Definitions.Table.{Kind, kindOf, kinds, fields}
 use Rattle.semantics.specs.Checks.PrintedRun.{TableEnds, at-start, past-record, up-to-start, all-of-it}

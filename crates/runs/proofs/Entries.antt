@@ -11,7 +11,7 @@ use Rattle.semantics.specs.Definitions.Terms.{Term}
 use Rattle.semantics.specs.Definitions.Configuration.{Configuration}
 use Rattle.semantics.specs.Definitions.Moves.{Entry, Answer, moved, refused, answerTo, ruleNumber, movedBy, refusedBy, replyOf}
 use Rattle.semantics.specs.Definitions.Run.{ScheduleItem, malformed, schedule}
-use Rattle.semantics.proofs.CallsAsOne.{AnswerHigh, ItemHigh, schedule-high, choose-high}
+use Rattle.theorems.proofs.CallsAsOne.{AnswerHigh, ItemHigh, schedule-high, choose-high}
 use Rattle.terms.specs.Decoded.{Decoded}
 use Rattle.rules.specs.declared.Reply.{Reply}
 use Rattle.rules.specs.declared.Reply.the-variants.{Moved, Refused}

@@ -8,7 +8,7 @@ use mathlib.Core.List.{List, [], _∷_}
 use Rattle.semantics.specs.Definitions.Moves.{Entry}
 use Rattle.semantics.specs.Definitions.Calls.{Verdict, ok, rejected, checkTable, checkHall, OpenAnswer, opened, notOpened, openHall, openVerdict, Admission, admitted, notAdmitted, admission, SuggestAnswer, suggested, still, notSuggested, SuggestAdmitted, SuggestAllowed}
 use Rattle.semantics.specs.Checks.Conditions.{RefusalNumbers}
-use Rattle.semantics.proofs.Theorems.{refusal-numbers}
+use Rattle.theorems.proofs.Theorems.{refusal-numbers}
 use Rattle.ruonfidd.specs.Answered.{VerdictAnswered, OpeningAnswered, choiceWords, SuggestionAnswered}
 
 zero-ok : (v : Verdict) → ((n p : ℕ) → v ≡ rejected n p → 1 ≤ n) → (set : ℕ) → VerdictAnswered v 0 set → v ≡ ok

@@ -1,14 +1,11 @@
--- What a caller is told, case by case; and the number 0.
+-- What a caller is told, case by case, by computation; and that different suggestions are told by different values.
 -- Assumes nothing.
-use Prim.Native.Nat.{ℕ, _≤_}
-use native.Mathlib.Omega.{arith}
-use mathlib.Core.Path.{_≡_, refl, ap}
-use mathlib.Core.Logic.{_↔_}
-use mathlib.Core.List.{List}
-use Rattle.semantics.specs.Definitions.Calls.{Verdict, ok, rejected, verdictNumber, checkTable, checkHall, opened, Opening, openHall, openVerdict}
-use Rattle.semantics.specs.Checks.Conditions.{Opens, not-opened, is-opened, OpenNumbers, RefusalNumbers}
-use Rattle.semantics.specs.Checks.Answers.{VerdictTold, OpeningTold, SuggestionTold, ChoiceTold, AnswersTold, ZeroIsAccepted}
-use Rattle.semantics.proofs.HallConditions.{open-numbers, refusal-numbers}
+use mathlib.Core.Path.{_≡_, refl, sym, ap, _∙_}
+use mathlib.Core.List.{List, [], _∷_}
+use Rattle.semantics.specs.Definitions.Moves.{Entry, act, inside}
+use Rattle.semantics.specs.Definitions.Run.{schedule, entries, entryBytes}
+use Rattle.semantics.specs.Definitions.Calls.{SuggestAnswer, suggested, still, notSuggested}
+use Rattle.semantics.specs.Checks.Answers.{VerdictTold, OpeningTold, SuggestionTold, ChoiceTold, AnswersTold, SuggestValues, choiceSaid, stillSaid, refusalSaid, suggestValues, AnswersDiffer}
 
 verdict-told : VerdictTold
 unfolding VerdictTold
@@ -30,28 +27,27 @@ pub answers-told : AnswersTold
 unfolding AnswersTold
 answers-told = (verdict-told, opening-told, suggestion-told, choice-told)
 
--- a verdict that never refuses with 0 is told as 0 exactly where it is ok
-zero-verdict : (v : Verdict) → ((n p : ℕ) → v ≡ rejected n p → 1 ≤ n) → (verdictNumber v ≡ 0) ↔ (v ≡ ok)
-zero-verdict ok positive = (λ e. refl, λ e. refl)
-zero-verdict (rejected n p) positive = (
-  λ e. absurd (let z = positive n p refl in omega arith),
-  λ e. absurd (let z : _≡_ {A = ℕ} 0 1 = cc in omega arith),
-)
+-- ---- the values of an answer
 
--- an opening's answer
-zero-opening : (table hall : List ℕ) (o : Opening) → openHall table hall ≡ o → Opens table hall o →
-    (verdictNumber (openVerdict (o .answer)) ≡ 0) ↔ (o .answer ≡ opened (record { commits = 0; failed = 0; retries = 0 }))
-unfolding openVerdict RefusalNumbers
-zero-opening table hall o e (not-opened {n} {p} c) = (
-  λ z. absurd (let y = refusal-numbers table hall n p .1 (ap (λ x. x .answer) e) in omega arith),
-  λ z. absurd (let y : _≡_ {A = ℕ} 0 1 = cc in omega arith),
-)
-zero-opening table hall o e (is-opened t c l) = (λ z. refl, λ z. refl)
+-- the answer is read back from its values: a choice is the one that its bytes make as a schedule
+firstOfAll : List Entry → SuggestAnswer
+firstOfAll [] = still
+firstOfAll (e ∷ es) = suggested e
 
-pub zero-is-accepted : ZeroIsAccepted
-unfolding ZeroIsAccepted RefusalNumbers OpenNumbers
-zero-is-accepted table hall = (
-  zero-verdict (checkTable table) (λ n p e. (refusal-numbers table hall n p .0 e) .0),
-  zero-verdict (checkHall table hall) (λ n p e. (refusal-numbers table hall n p .2 e) .0),
-  zero-opening table hall (openHall table hall) refl (open-numbers table hall (openHall table hall) .0 refl),
-)
+answerWith : SuggestValues → SuggestAnswer
+unfolding firstOfAll entries schedule
+answerWith (choiceSaid bs) = firstOfAll (entries (schedule bs))
+answerWith stillSaid = still
+answerWith (refusalSaid n p) = notSuggested n p
+
+answer-back : (a : SuggestAnswer) → answerWith (suggestValues a) ≡ a
+unfolding answerWith suggestValues firstOfAll entries schedule entryBytes
+answer-back (suggested (act p)) = refl
+answer-back (suggested (inside p k)) = refl
+answer-back still = refl
+answer-back (notSuggested n p) = refl
+
+-- so different answers have different values
+pub answers-differ : AnswersDiffer
+unfolding AnswersDiffer
+answers-differ a b e = sym (answer-back a) ∙ ap answerWith e ∙ answer-back b

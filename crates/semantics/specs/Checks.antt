@@ -15,3 +15,5 @@ pub mod PrintedSuggestions
 pub mod EdgeExamples
 pub mod SuggestionExamples
 pub mod StepExamples
+pub mod ConverseExamples
+pub mod DenotationExamples

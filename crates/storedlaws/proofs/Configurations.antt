@@ -16,9 +16,9 @@ use Rattle.semantics.specs.Definitions.Terms.{Expression, Term}
 use Rattle.semantics.specs.Definitions.Configuration.{Tree, Component, transaction, Configuration, branchesOf}
 use Rattle.semantics.specs.Definitions.Stored.{hallBytes, treeBytes, componentBytes, bytesOf, TreeOk, ComponentOk, WellFormed}
 use Rattle.semantics.specs.Checks.AcceptedTables.{GoodTable}
-use Rattle.semantics.proofs.Lists.{all-at}
-use Rattle.semantics.proofs.Trees.{length-padded, padded-of}
-use Rattle.semantics.proofs.RoundTrip.{stored-fits}
+use Rattle.theorems.proofs.Lists.{all-at}
+use Rattle.theorems.proofs.Trees.{length-padded, padded-of}
+use Rattle.theorems.proofs.RoundTrip.{stored-fits}
 use Rattle.buffer.specs.Splice.{written, spliced, Room}
 use Rattle.buffer.proofs.Spliced.{getD-padded, spliced-length, spliced-mid}
 use Rattle.stored.specs.declared.Place.the-variants.{At, Nowhere}

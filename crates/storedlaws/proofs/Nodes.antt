@@ -15,8 +15,8 @@ use Rattle.semantics.specs.Definitions.Logs.{readable}
 use Rattle.semantics.specs.Definitions.Configuration.{Tree, leaf, fork, branchesOf, nodes}
 use Rattle.semantics.specs.Definitions.Stored.{actionByte, treeBytes, TreeOk}
 use Rattle.semantics.specs.Definitions.Moves.{Inner, evolves, noRule, outOfRange, inner, inLeft, inRight, reads, atLeaf, atFork}
-use Rattle.semantics.proofs.Measures.{branches-positive}
-use Rattle.semantics.proofs.Trees.{length-padded}
+use Rattle.theorems.proofs.Measures.{branches-positive}
+use Rattle.theorems.proofs.Trees.{length-padded}
 use Rattle.stored.specs.declared.Place.the-variants.{At, Nowhere}
 use Rattle.stored.specs.declared.Walk.{Walk}
 use Rattle.stored.specs.Layout.{forkKind, leafKind, leafSize, maxActions, maxBranches, maxNodes, forkSize}

@@ -16,8 +16,8 @@ use Rattle.semantics.specs.Definitions.Terms.{Term}
 use Rattle.semantics.specs.Checks.AcceptedTables.{GoodTable}
 use Rattle.semantics.specs.Definitions.Configuration.{Idle, taking, repeating, block, output, Tree, Component, idle, transaction, branchesOf}
 use Rattle.semantics.specs.Definitions.Stored.{channels, treeBytes, componentBytes, splitBytes, treeFrom, waitingComponent, transactionOn, ComponentKind, waitingC, outputC, transactionC, otherC, componentKind, componentFrom, componentsFrom, configurationOf}
-use Rattle.semantics.proofs.Reading.{given-some, provided-some}
-use Rattle.semantics.proofs.Trees.{cut-back, tree-back}
+use Rattle.theorems.proofs.Reading.{given-some, provided-some}
+use Rattle.theorems.proofs.Trees.{cut-back, tree-back}
 use Rattle.stored.specs.Layout as layout
 use Rattle.storedlaws.specs.Reading.{firstComponent, configured}
 use Rattle.storedlaws.proofs.Cursors.{here}

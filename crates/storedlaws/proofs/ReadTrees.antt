@@ -13,11 +13,11 @@ use mathlib.Core.Option.{bind}
 use Rattle.semantics.specs.Definitions.Terms.{Term}
 use Rattle.semantics.specs.Definitions.Configuration.{Tree, fork, branchesOf}
 use Rattle.semantics.specs.Definitions.Stored.{splitBytes, leafFrom, NodeKind, forkN, leafN, otherN, nodeKind, nodeFrom, treeFrom}
-use Rattle.semantics.proofs.Reading.{given-some}
-use Rattle.semantics.proofs.Trees.{cut-back}
+use Rattle.theorems.proofs.Reading.{given-some}
+use Rattle.theorems.proofs.Trees.{cut-back}
 use Rattle.stored.specs.Layout.{forkKind, leafKind, leafSize, leafBody}
 use Rattle.storedlaws.specs.Reading.{treesFrom}
-use Rattle.semantics.proofs.Measures.{tree-branches-positive}
+use Rattle.theorems.proofs.Measures.{tree-branches-positive}
 
 -- ---- what is cut off behind an offset
 

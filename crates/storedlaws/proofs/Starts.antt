@@ -10,7 +10,7 @@ use lib.Seq.{length-take-le, take-all, take-append-le, take-append-add}
 use Rattle.semantics.specs.Definitions.Basics.{replaceAt}
 use Rattle.semantics.specs.Definitions.Configuration.{Idle, taking, repeating, block, output, Component, idle}
 use Rattle.semantics.specs.Definitions.Stored.{componentBytes}
-use Rattle.semantics.proofs.Lists.{found-below}
+use Rattle.theorems.proofs.Lists.{found-below}
 use Rattle.stored.specs.Layout.{channels, idleSize}
 use Rattle.storedlaws.specs.Positions.{allBytes, usedOf, startOf}
 use Rattle.storedlaws.proofs.Configurations.{all-bytes-append, entry-split, replace-split}

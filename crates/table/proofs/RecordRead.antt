@@ -12,7 +12,7 @@ use borrow.Author.Tests.{lt-ltb, le-ltb, ltb-true, ltb-false}
 use Rattle.semantics.specs.Definitions.Layout.{channels, maxTerms}
 use Rattle.semantics.specs.Definitions.Terms.{Term}
 use Rattle.semantics.specs.Definitions.Table.{Kind, tokensK, startK, fields, Reading, refusedAt, Content, termRecord, tokensRecord, overLimit, badTokens, stop, tableEnd, recordPassed}
-use Rattle.semantics.proofs.GoodTable.{good-snoc, within-limits}
+use Rattle.theorems.proofs.GoodTable.{good-snoc, within-limits}
 use Rattle.records.specs.declared.Record.{Record}
 use Rattle.records.specs.declared.Parsed.{Parsed}
 use Rattle.records.specs.declared.Parsed.the-variants.{End, UnknownKind, CutShort, Whole}

@@ -14,7 +14,7 @@ use borrow.Author.Tests.{leb-false, ne-eqb}
 use Rattle.semantics.specs.Definitions.Layout.{channels, maxTerms}
 use Rattle.semantics.specs.Definitions.Terms.{Term, process, expression}
 use Rattle.semantics.specs.Definitions.Table.{putK, takeK, repeatK, parK, atomK, rdK, wtK, orElseK, tokensK, startK, Field, programF, amountF, fields, Content, termRecord, tokensRecord, startRecord, isProgram, isExpression, anyField, tooManyTerms, channelOutOfRange, forwardReference, classMismatch, badTokens}
-use Rattle.semantics.proofs.Lists.{found-at}
+use Rattle.theorems.proofs.Lists.{found-at}
 use Rattle.records.specs.declared.Record.{Record}
 use Rattle.records.specs.Shapes.{kindByte, bodyOf, fieldNumber, fieldFrom, failsAt, termClass, contentClass, classOf}
 use Rattle.records.specs.Parsing.{IsKind}

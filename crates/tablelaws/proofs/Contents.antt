@@ -15,8 +15,8 @@ use Rattle.semantics.specs.Definitions.Layout.{channels}
 use Rattle.semantics.specs.Definitions.Terms.{Program, Term, process, expression}
 use Rattle.semantics.specs.Checks.AcceptedTables.{programNumber, termNumber, GoodTable}
 use Rattle.semantics.specs.Definitions.Table.{Kind, nilK, putK, takeK, repeatK, parK, atomK, endK, retryK, rdK, wtK, orElseK, tokensK, startK, Field, fields, Content, termRecord, tokensRecord, startRecord, recordContent, programIn, expressionIn, isProgram, isExpression, asProgram, asExpression, anyField, tooManyTerms, channelOutOfRange, forwardReference, classMismatch}
-use Rattle.semantics.proofs.Lists.{found-below, all-every}
-use Rattle.semantics.proofs.GoodTable.{NextTerm, Sound, sound, first-fails, second-fails, channel-below}
+use Rattle.theorems.proofs.Lists.{found-below, all-every}
+use Rattle.theorems.proofs.GoodTable.{NextTerm, Sound, sound, first-fails, second-fails, channel-below}
 use Rattle.records.specs.Shapes.{kindByte, classOf}
 use Rattle.terms.specs.Decoded.{RecordOf}
 use Rattle.terms.proofs.TermKinds.{record-class}

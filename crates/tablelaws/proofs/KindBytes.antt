@@ -5,7 +5,7 @@ use native.Mathlib.Omega.{arith}
 use mathlib.Core.Path.{refl}
 use lib.ListN.{getD}
 use Rattle.semantics.specs.Definitions.Table.{nilK, kinds, kindOf}
-use Rattle.semantics.proofs.Lists.{found-at, found-getD}
+use Rattle.theorems.proofs.Lists.{found-at, found-getD}
 use Rattle.records.specs.Shapes.{kindByte}
 use Rattle.records.specs.Parsing.{IsKind}
 use Rattle.records.proofs.Shapes.{same-at}

@@ -12,8 +12,8 @@ use Rattle.semantics.specs.Definitions.Terms.{Term}
 use Rattle.semantics.specs.Checks.AcceptedTables.{SubtermsIn, GoodTable}
 use Rattle.terms.specs.Decoded.{tokensIn, placeOf, kindAt, firstAt, secondAt, withRecord, withMeasures, RecordOf, RecordAt, breadth, termLength, MeasuresAt, Decoded, decodedBytes, termBytes, kindPlace, firstPlace, secondPlace, breadthPlace, lengthPlace}
 use Rattle.terms.specs.TermMeasures.{TermAt}
-use Rattle.semantics.proofs.Lists.{none-found, found-below}
-use Rattle.semantics.proofs.GoodTable.{each-snoc, empty-good}
+use Rattle.theorems.proofs.Lists.{none-found, found-below}
+use Rattle.theorems.proofs.GoodTable.{each-snoc, empty-good}
 use Rattle.semantics.specs.Definitions.Layout.{channels, maxTerms}
 
 -- ---- no term yet

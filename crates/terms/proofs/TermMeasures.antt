@@ -12,7 +12,7 @@ use Rattle.semantics.specs.Definitions.Terms.{endT, retryT, rdT, wtT, orElseT, 
 use Rattle.semantics.specs.Checks.AcceptedTables.{SubtermsIn, MeasuresWithinLimits}
 use Rattle.terms.specs.Decoded.{kindAt, firstAt, secondAt, breadthAt, lengthAt, RecordOf, breadth, termLength}
 use Rattle.terms.specs.TermMeasures.{TermAt, Measurable, MeasuresOf}
-use Rattle.semantics.proofs.Lists.{found-below}
+use Rattle.theorems.proofs.Lists.{found-below}
 use Rattle.semantics.specs.Definitions.Layout.{maxTerms, maxComponents, maxActions}
 use Rattle.semantics.specs.Definitions.Table.{parK, rdK, orElseK}
 use Rattle.records.specs.Shapes.{kindByte}

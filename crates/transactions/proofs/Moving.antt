@@ -17,8 +17,8 @@ use Rattle.semantics.specs.Definitions.Logs.{readable}
 use Rattle.semantics.specs.Definitions.Configuration.{Tree, leaf, fork, Component, idle, transaction, Configuration}
 use Rattle.semantics.specs.Definitions.Stored.{WellFormed}
 use Rattle.semantics.specs.Definitions.Moves.{moves, Inner, evolves, noRule, outOfRange, reads, atLeaf, atFork, inner, innerLocal, actsInside, inside, Answer, moved, refused, answerTo, effectOf, ruleNumber, movedBy, replyOf}
-use Rattle.semantics.proofs.Moves.{positionOf, localMove, accepted-inverts}
-use Rattle.semantics.proofs.WellFormedKept.{well-formed-step}
+use Rattle.theorems.proofs.Moves.{positionOf, localMove, accepted-inverts}
+use Rattle.theorems.proofs.WellFormedKept.{well-formed-step}
 use Rattle.stored.specs.Layout.{noRecord}
 use Rattle.storedlaws.specs.Positions.{Context, plug, around}
 use Rattle.storedlaws.proofs.Nodes.{inner-node}

@@ -10,8 +10,8 @@ use Rattle.calculus.specs.Syntax.{State}
 use Rattle.semantics.specs.Definitions.Terms.{Expression, Term}
 use Rattle.semantics.specs.Definitions.Configuration.{Tree, transaction, Configuration}
 use Rattle.semantics.specs.Definitions.Moves.{Inner, evolves, noRule, outOfRange, inner, innerLocal, actsInside, inside, applyAt, answerTo, replyOf}
-use Rattle.semantics.proofs.Lists.{found-below, length-replaceAt}
-use Rattle.semantics.proofs.Moves.{positionOf, localMove, chosen-at, accepted-made}
+use Rattle.theorems.proofs.Lists.{found-below, length-replaceAt}
+use Rattle.theorems.proofs.Moves.{positionOf, localMove, chosen-at, accepted-made}
 use Rattle.rules.specs.Replies.{replyIs}
 use Rattle.stored.specs.declared.Place.{Place}
 use Rattle.stored.specs.declared.Place.the-variants.{At, Nowhere}

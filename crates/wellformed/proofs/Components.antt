@@ -15,7 +15,7 @@ use mathlib.Core.Option.{bind}
 use Rattle.semantics.specs.Definitions.Terms.{Term}
 use Rattle.semantics.specs.Definitions.Configuration.{Idle, Tree, Component, idle, branchesOf}
 use Rattle.semantics.specs.Definitions.Stored.{channels, splitBytes, treeFrom, waitingComponent, transactionOn, transactionC, componentKind, componentFrom}
-use Rattle.semantics.proofs.Lists.{found-below, none-past}
+use Rattle.theorems.proofs.Lists.{found-below, none-past}
 use Rattle.terms.specs.Decoded.{kindAt, Decoded}
 use Rattle.stored.specs.Layout as layout
 use Rattle.storedlaws.specs.Reading.{there, firstComponent, kindIn, waits}

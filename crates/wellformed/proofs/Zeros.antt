@@ -12,7 +12,7 @@ use lib.Seq.{getD-drop}
 use lib.Dec.{eqb}
 use borrow.Author.Tests.{eqb-true, eq-eqb, ne-eqb}
 use Rattle.semantics.specs.Definitions.Basics.{allOf, zeros}
-use Rattle.semantics.proofs.Reading.{and-true}
+use Rattle.theorems.proofs.Reading.{and-true}
 
 -- ---- zeros, byte by byte
 

@@ -1,0 +1,149 @@
+-- A communication is two moves: an output that puts a token on the name, then a move that takes exactly that token
+-- away. The labels are found by what a reduction does to the counts.
+-- Assumes nothing.
+use Prim.Native.Nat.{ℕ, suc, _+_, _≤_}
+use native.Mathlib.Omega.{arith}
+use native.Mathlib.Decide.{ℕ-discrete}
+use mathlib.Core.Path.{_≡_, refl, sym, ap, _∙_}
+use mathlib.Core.List.{List, [], _∷_}
+use Rattle.calculus.specs.Syntax.{Name, State, Ongoing, Process, par}
+use Rattle.calculus.specs.State.{count, same, occurrences, Included, Plus, without}
+use Rattle.calculus.specs.Log.{RD}
+use Rattle.calculus.specs.Reduction.{Rule, OUT, IN, REP, ATOK, Label, by, COM, Evolves, ardok, ardf, awr, aoi, aof, aoe, aol, aor, Reduces, OUTr, INr, REPr, COMl, COMr, PARL, PARR, ATSTr, ATPASS, ATREr, ATFAILr, ATOKr}
+use Rattle.calculus.proofs.States.{same-self, same-other, count-plus, count-without}
+use Rattle.semantics.specs.Definitions.Logs.{takeToken}
+use Rattle.semantics.specs.Definitions.Moves.{effectOf}
+use Rattle.semantics.specs.Claims.Correspondence.{TakesOne}
+use Rattle.theorems.proofs.Soundness.{spent-plus}
+
+-- ---- names by their occurrences
+
+-- two names that count as the same are the same
+same-name : (a b : Name) → 1 ≤ same a b → a ≡ b
+same-name a b h = elim (ℕ-discrete a b) [ yes e ↦ e | no e ↦ absurd (let z = same-other a b e in omega arith) ]
+
+-- a list in which no name occurs is empty
+pub none-occurs : (bs : List Name) → ((b : Name) → occurrences b bs ≡ 0) → bs ≡ []
+unfolding occurrences
+none-occurs [] h = refl
+none-occurs (b ∷ bs) h = absurd (let z = h b in let w = same-self b in omega arith)
+
+-- a list in which one name occurs once and no other occurs is that name alone
+one-occurs : (a : Name) (bs : List Name) → ((b : Name) → occurrences b bs ≡ same b a) → bs ≡ a ∷ []
+unfolding occurrences
+one-occurs a [] h = absurd (let z = h a in let w = same-self a in omega arith)
+one-occurs a (b ∷ bs) h =
+    let e : b ≡ a = same-name b a (let z = h b in let w = same-self b in omega arith) in
+    let rest : bs ≡ [] = none-occurs bs (λ c. let z = h c in let w : same c b ≡ same c a = rw e in omega arith) in cc
+
+-- ---- what the labels do to the counts
+
+-- one token more of a raises its count by one
+pub grown : (σ : State) (a : Name) (σ′ : State) → Plus σ a σ′ → count σ′ a ≡ suc (count σ a)
+grown σ a σ′ p = let z = count-plus σ a a σ′ p in let w = same-self a in omega arith
+
+-- so no state is itself with one token more
+not-itself : (σ : State) (a : Name) → Plus σ a σ → ⊥
+not-itself σ a p = let z = grown σ a σ p in omega arith
+
+-- one name is not none
+none-is-one : (a : Name) → [] ≡ a ∷ [] → ⊥
+none-is-one a e = let z : _≡_ {A = ℕ} 0 1 = cc in omega arith
+
+-- a reduction of Table 3 takes nothing from the counts
+nothing-taken-inside : {r : Rule} {A A′ : Ongoing} → Evolves r A A′ → (effectOf r) .taken ≡ []
+unfolding effectOf
+nothing-taken-inside (ardok i) = refl
+nothing-taken-inside (ardf i) = refl
+nothing-taken-inside awr = refl
+nothing-taken-inside aoi = refl
+nothing-taken-inside aof = refl
+nothing-taken-inside aoe = refl
+nothing-taken-inside (aol d) = nothing-taken-inside d
+nothing-taken-inside (aor d) = nothing-taken-inside d
+
+module _ (Order : List Name → List Name → Type 0) where
+  -- a reduction that adds a token of a to the counts is OUT of a
+  pub adding-is-out : {l : Label} {P P′ : Process} {σ σ′ : State} (a : Name) → Plus σ a σ′ → Reduces Order l P σ P′ σ′ → l ≡ by (OUT a)
+  adding-is-out a p (OUTr {a = b} {σ = σ} {σ′ = σ′} q) =
+      let e : a ≡ b = same-name a b (let y = grown σ a σ′ p in let z = count-plus σ b a σ′ q in omega arith) in rw e
+  adding-is-out a p (INr {a = b} {σ = σ} {σ′ = σ′} q) = absurd (let y = grown σ a σ′ p in let z = count-plus σ′ b a σ q in omega arith)
+  adding-is-out a p (REPr {a = b} {σ = σ} {σ′ = σ′} q) = absurd (let y = grown σ a σ′ p in let z = count-plus σ′ b a σ q in omega arith)
+  adding-is-out a p (COMl {σ = σ} q d e) = absurd (not-itself σ a p)
+  adding-is-out a p (COMr {σ = σ} q d e) = absurd (not-itself σ a p)
+  adding-is-out a p (PARL d) = adding-is-out a p d
+  adding-is-out a p (PARR d) = adding-is-out a p d
+  adding-is-out a p (ATSTr {σ = σ}) = absurd (not-itself σ a p)
+  adding-is-out a p (ATPASS {σ = σ} d) = absurd (not-itself σ a p)
+  adding-is-out a p (ATREr {σ = σ}) = absurd (not-itself σ a p)
+  adding-is-out a p (ATFAILr {σ = σ} d) = absurd (not-itself σ a p)
+  adding-is-out a p (ATOKr {σ = σ} {δ = δ} d o) =
+      absurd (let y = grown σ a (without σ (RD δ)) p in let z = count-without (RD δ) σ a in omega arith)
+
+  -- a reduction that takes one token of a from the counts and changes no other count is IN or REP of a, or an ATOK that
+  -- reads a alone
+  pub taking-is-one : {k : Label} {P P′ : Process} {σ σ′ : State} (a : Name) → Plus σ′ a σ → Reduces Order k P σ P′ σ′ →
+      (r : Rule) × (k ≡ by r) × TakesOne a r
+  unfolding TakesOne Included
+  taking-is-one a p (OUTr {a = b} {σ = σ} {σ′ = σ′} q) = absurd (let y = grown σ′ a σ p in let z = count-plus σ b a σ′ q in omega arith)
+  taking-is-one a p (INr {a = b} {σ = σ} {σ′ = σ′} q) =
+      let e : a ≡ b = same-name a b (let y = grown σ′ a σ p in let z = count-plus σ′ b a σ q in omega arith) in (IN b, refl, cc)
+  taking-is-one a p (REPr {a = b} {σ = σ} {σ′ = σ′} q) =
+      let e : a ≡ b = same-name a b (let y = grown σ′ a σ p in let z = count-plus σ′ b a σ q in omega arith) in (REP b, refl, cc)
+  taking-is-one a p (COMl {σ = σ} q d e) = absurd (not-itself σ a p)
+  taking-is-one a p (COMr {σ = σ} q d e) = absurd (not-itself σ a p)
+  taking-is-one a p (PARL d) = taking-is-one a p d
+  taking-is-one a p (PARR d) = taking-is-one a p d
+  taking-is-one a p (ATSTr {σ = σ}) = absurd (not-itself σ a p)
+  taking-is-one a p (ATPASS {σ = σ} d) = absurd (not-itself σ a p)
+  taking-is-one a p (ATREr {σ = σ}) = absurd (not-itself σ a p)
+  taking-is-one a p (ATFAILr {σ = σ} d) = absurd (not-itself σ a p)
+  taking-is-one a p (ATOKr {σ = σ} {δ = δ} d o) =
+      (ATOK δ, refl, one-occurs a (RD δ) (λ b. let y = count-plus (without σ (RD δ)) a b σ p in let z = count-without (RD δ) σ b in let i = d b in omega arith))
+
+  -- and back: such a rule takes one token of a from the counts and changes no other count
+  pub one-is-taken : {r : Rule} {P P′ : Process} {σ σ′ : State} (a : Name) → TakesOne a r → Reduces Order (by r) P σ P′ σ′ → Plus σ′ a σ
+  unfolding TakesOne Included occurrences without takeToken
+  one-is-taken a t (OUTr q) = absurd (none-is-one a t)
+  one-is-taken a t (INr {a = b} q) = let e : b ≡ a = cc in rw (← e) q
+  one-is-taken a t (REPr {a = b} q) = let e : b ≡ a = cc in rw (← e) q
+  one-is-taken a t (PARL d) = one-is-taken a t d
+  one-is-taken a t (PARR d) = one-is-taken a t d
+  one-is-taken a t ATSTr = absurd (none-is-one a t)
+  one-is-taken a t (ATPASS d) = absurd (none-is-one a (sym (nothing-taken-inside d) ∙ t))
+  one-is-taken a t ATREr = absurd (none-is-one a t)
+  one-is-taken a t (ATFAILr i) = absurd (none-is-one a t)
+  one-is-taken a t (ATOKr {σ = σ} {δ = δ} i o) =
+      let there : occurrences a (RD δ) ≤ count σ a = i a in
+      rw t (spent-plus σ a (λ e. let z : occurrences a (RD δ) ≡ same a a + 0 = ap (occurrences a) t in let w = same-self a in omega arith))
+
+  -- ---- a communication as two moves
+
+  -- from P and σ to P′: an OUT of a to a process and a state between, and from there a move that takes a away
+  pub record TwoMoves (a : Name) (P : Process) (σ : State) (P′ : Process) : Type 0 where
+    pub between : Process
+    pub gaining : State
+    pub second : Rule
+    pub adds : Plus σ a gaining
+    pub puts : Reduces Order (by (OUT a)) P σ between gaining
+    pub takes : Reduces Order (by second) between gaining P′ σ
+    pub one : TakesOne a second
+
+  -- every communication is two such moves, and leaves the state as it was
+  pub communication : {a : Name} {P P′ : Process} {σ σ′ : State} → Reduces Order (COM a) P σ P′ σ′ → TwoMoves a P σ P′ × (σ′ ≡ σ)
+  communication (COMl {l} {k} {a} {P} {P′} {Q} {Q′} {σ} {σ′} q d e) =
+      let two = taking-is-one a q e in
+      let put : Reduces Order (by (OUT a)) P σ P′ σ′ = rw (adding-is-out a q d) at d in
+      let take : Reduces Order (by (two .0)) Q σ′ Q′ σ = rw (two .1) at e in
+      (record { between = par P′ Q; gaining = σ′; second = two .0; adds = q; puts = PARL put; takes = PARR take; one = two .2 }, refl)
+  communication (COMr {l} {k} {a} {P} {P′} {Q} {Q′} {σ} {σ′} q d e) =
+      let two = taking-is-one a q e in
+      let put : Reduces Order (by (OUT a)) Q σ Q′ σ′ = rw (adding-is-out a q d) at d in
+      let take : Reduces Order (by (two .0)) P σ′ P′ σ = rw (two .1) at e in
+      (record { between = par P Q′; gaining = σ′; second = two .0; adds = q; puts = PARR put; takes = PARL take; one = two .2 }, refl)
+  communication (PARL {Q = Q} d) =
+      let (t, e) = communication d in
+      (record { between = par (t .between) Q; gaining = t .gaining; second = t .second; adds = t .adds; puts = PARL (t .puts); takes = PARL (t .takes); one = t .one }, e)
+  communication (PARR {P = P} d) =
+      let (t, e) = communication d in
+      (record { between = par P (t .between); gaining = t .gaining; second = t .second; adds = t .adds; puts = PARR (t .puts); takes = PARR (t .takes); one = t .one }, e)

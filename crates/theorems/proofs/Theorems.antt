@@ -1,0 +1,284 @@
+-- The claims of specs/, each as one named theorem.
+-- Assumes nothing.
+use Rattle.semantics.specs.Claims.Correspondence.{Soundness, RunSoundness, EveryHallDenotes, AcceptedIsWithinLimits, Completeness, CompletenessAnyOrder, StillIsStill, KeepsWellFormed, OpeningDenotes, Located, LogOrderAsPrinted, HandoverIsCOM}
+use Rattle.semantics.specs.Claims.Accounts.{RunAccounts, CallsAccounts}
+use Rattle.semantics.specs.Checks.ConverseSteps.{StartIsOpening, StepsAreMoves, ReadableBlocksStep, StepsGoOn}
+use Rattle.semantics.specs.Claims.InnerMoves.{MovesLowerWeight, MovesGoOn, SettledRests, MovesSettleFirstPath, OneOutcome}
+use Rattle.semantics.specs.Checks.PrintedMoves.{OpensAsPrinted, MovesAsPrinted, MovesWorked}
+use Rattle.semantics.specs.Checks.PrintedSuggestions.{AllowedAsPrinted}
+use Rattle.semantics.specs.Claims.Suggestions.{SuggestionExists, SuggestedRuns, StillRunsNone}
+use Rattle.semantics.specs.Claims.Atomicity.{AtomicityOfCalls, initialBuffers, finalBuffers, allDone, doneWithoutAborted, atomic}
+use Rattle.semantics.specs.Checks.Conditions.{ReadAsPrinted, TableNumbers, MissingAtLength, HallNumbers, CheckNumbers, OpenNumbers, RefusalNumbers, ChoiceNumbers, RunNumbers, OneReason, RunCallNumbers, RunCallZero}
+use Rattle.semantics.specs.Checks.Answers.{AnswersTold, AnswersDiffer, ZeroIsAccepted}
+use Rattle.semantics.specs.Checks.CallLists.{CallBytes, CallsInTurn, CallsCut}
+use Rattle.semantics.specs.Checks.Steps.{StepsAsPrinted, StepNumbers, NodeOfKind1, StepIsCall}
+use mathlib.Core.Path.{refl, sym, ap, _∙_}
+use mathlib.Core.List.{map}
+use Rattle.semantics.specs.Definitions.Stored.{bytesOf, configurationOf}
+use Rattle.semantics.specs.Claims.NumberedRun.{NumberedIsAtomic}
+use Rattle.semantics.specs.Checks.PrintedRun.{TableFound, AcceptedIsFound, PrintedLong, PrintedRefused, PrintedAsCalls}
+use Rattle.theorems.proofs.WellFormedKept as Kept
+use Rattle.theorems.proofs.Soundness as Sound
+use Rattle.theorems.proofs.Accounts as Counting
+use Rattle.theorems.proofs.Completeness as Complete
+use Rattle.theorems.proofs.Handover as Together
+use Rattle.theorems.proofs.AnyOrder as Any
+use Rattle.theorems.proofs.InnerMoves as Inside
+use Rattle.theorems.proofs.PrintedMoves as Printing
+use Rattle.semantics.proofs.MovesWorked as WorkedMoves
+use Rattle.theorems.proofs.CallsAsOne.{firstBuffers, opened-calls}
+use Rattle.theorems.proofs.Abandoned.{kept-runs}
+use Rattle.theorems.proofs.GoodTable.{accepted-is-good}
+use Rattle.theorems.proofs.RoundTrip.{read-back}
+use Rattle.theorems.proofs.Runs.{runs-steps}
+use Rattle.theorems.proofs.Simulation as Pace
+use Rattle.theorems.proofs.Simulation.{atomic-of-runs, unbegun-stations, each-choice}
+use Rattle.theorems.proofs.PathClause.{commits-ok, attempts-ok}
+use Rattle.theorems.proofs.Converse.{converse-holds}
+use Rattle.theorems.proofs.ConverseSteps as Steps
+use Rattle.theorems.proofs.TableConditions as OnTables
+use Rattle.theorems.proofs.HallConditions as OnHalls
+use Rattle.theorems.proofs.ChoiceConditions as OnChoices
+use Rattle.semantics.proofs.Answers as Telling
+use Rattle.theorems.proofs.ZeroNumbers as Zero
+use Rattle.theorems.proofs.RunConditions as OnRuns
+use Rattle.theorems.proofs.CallConditions as OnCalls
+use Rattle.theorems.proofs.CallLists as Turns
+use Rattle.theorems.proofs.Steps as OnSteps
+use Rattle.theorems.proofs.Suggestions as Suggesting
+use Rattle.theorems.proofs.RecordShapes as Shapes
+use Rattle.theorems.proofs.Limits as Bounds
+use Rattle.theorems.proofs.PrintedRun as Prints
+
+-- ---- demand 2
+
+pub opening-denotes : OpeningDenotes
+opening-denotes = Sound.opening-denotes
+
+pub every-hall-denotes : EveryHallDenotes
+every-hall-denotes = Bounds.every-hall-denotes
+
+pub soundness : Soundness
+soundness = Sound.soundness
+
+pub located : Located
+located = Sound.located
+
+pub log-order-as-printed : LogOrderAsPrinted
+log-order-as-printed = Any.log-order-as-printed
+
+pub accepted-is-within-limits : AcceptedIsWithinLimits
+accepted-is-within-limits = Bounds.accepted-is-within-limits
+
+pub handover-is-com : HandoverIsCOM
+handover-is-com = Together.handover-is-com
+
+pub run-soundness : RunSoundness
+run-soundness = Sound.run-soundness
+
+pub keeps-well-formed : KeepsWellFormed
+keeps-well-formed = Kept.keeps-well-formed
+
+pub completeness : Completeness
+completeness = Complete.completeness
+
+pub completeness-any-order : CompletenessAnyOrder
+completeness-any-order = Any.completeness-any-order
+
+pub still-is-still : StillIsStill
+still-is-still = Any.still-is-still
+
+-- ---- suggestions
+
+pub allowed-as-printed : AllowedAsPrinted
+allowed-as-printed = Suggesting.allowed-as-printed
+
+pub suggestion-exists : SuggestionExists
+suggestion-exists = Suggesting.suggestion-exists
+
+pub suggested-runs : SuggestedRuns
+suggested-runs = Suggesting.suggested-runs
+
+pub still-runs-none : StillRunsNone
+still-runs-none = Suggesting.still-runs-none
+
+pub answers-differ : AnswersDiffer
+answers-differ = Telling.answers-differ
+
+-- ---- the moves as the scope prints them
+
+pub opens-as-printed : OpensAsPrinted
+opens-as-printed = Printing.opens-as-printed
+
+pub moves-as-printed : MovesAsPrinted
+moves-as-printed = Printing.moves-as-printed
+
+pub moves-worked : MovesWorked
+moves-worked = WorkedMoves.moves-worked
+
+-- ---- the counts after a run
+
+pub run-accounts : RunAccounts
+run-accounts = Counting.run-accounts
+
+pub calls-accounts : CallsAccounts
+calls-accounts = Counting.calls-accounts
+
+-- ---- the moves inside an attempt
+
+pub moves-lower-weight : MovesLowerWeight
+moves-lower-weight = Inside.moves-lower-weight
+
+pub moves-go-on : MovesGoOn
+moves-go-on = Inside.moves-go-on
+
+pub settled-rests : SettledRests
+settled-rests = Inside.settled-rests
+
+pub one-outcome : OneOutcome
+one-outcome = Inside.one-outcome
+
+pub moves-settle-first-path : MovesSettleFirstPath
+moves-settle-first-path = Inside.moves-settle-first-path
+
+-- ---- demand 3
+
+pub numbered-is-atomic : NumberedIsAtomic
+numbered-is-atomic = Pace.numbered-is-atomic
+
+pub atomicity-of-calls : AtomicityOfCalls
+unfolding AtomicityOfCalls initialBuffers finalBuffers allDone doneWithoutAborted atomic firstBuffers
+atomicity-of-calls table t accepts buffer size first cs =
+    let all = opened-calls table t accepts buffer size first cs in
+    let led = runs-steps (all .runs) in
+    let run = atomic-of-runs t first (all .runs) in
+    let spared = kept-runs t first (all .runs) in
+    let kept-led = runs-steps (spared .runs) in
+    let kept-run = atomic-of-runs t first (spared .runs) in
+    let told = spared .counters first first refl in
+    record {
+      never-rejected = all .numbers;
+      whole = led .0;
+      hall = all .hall ∙ ap bytesOf (sym (led .1));
+      after = all .after;
+      read =
+          ap (configurationOf (t .terms)) (all .hall)
+          ∙ read-back (t .terms) (all .after) (accepted-is-good table t (accepts .1)) (all .well-formed);
+      counts = ap (λ a. a .counts) (sym run);
+      stations = unbegun-stations (all .after .components) ∙ ap (λ a. map (λ x. x .station) (a .stations)) (sym run);
+      tally = all .tally ∙ ap (λ a. a .counters) (sym run);
+      each-choice = each-choice t first (all .runs);
+      unaborted-whole = kept-led .0;
+      unaborted-hall = ap bytesOf (kept-led .1) ∙ sym (all .hall);
+      unaborted-atomic =
+          kept-run
+          ∙ λ i. record {
+            counts = sym run i .counts;
+            stations = sym run i .stations;
+            counters =
+                (told
+                ∙ ap (λ a. record { commits = a .counters .commits; failed = first .failed; retries = first .retries }) (sym run)) i;
+          };
+      unaborted-effects = spared .same-effects;
+      unaborted-none = spared .none-abandoned;
+      paths = commits-ok t first (allDone table t buffer first cs);
+      attempts = λ j h. attempts-ok t first (allDone table t buffer first cs) j (rw (led .0) h);
+      converse = converse-holds table t accepts buffer size first cs;
+    }
+
+pub start-is-opening : StartIsOpening
+start-is-opening = Steps.start-is-opening
+
+pub steps-are-moves : StepsAreMoves
+steps-are-moves = Steps.steps-are-moves
+
+pub readable-blocks-step : ReadableBlocksStep
+readable-blocks-step = Steps.readable-blocks-step
+
+pub steps-go-on : StepsGoOn
+steps-go-on = Steps.steps-go-on
+
+-- ---- the numbered conditions
+
+pub read-as-printed : ReadAsPrinted
+read-as-printed = Shapes.read-as-printed
+
+pub table-numbers : TableNumbers
+table-numbers = OnTables.table-numbers
+
+pub missing-at-length : MissingAtLength
+unfolding MissingAtLength
+missing-at-length = OnTables.missing-at-length
+
+pub hall-numbers : HallNumbers
+hall-numbers = OnHalls.hall-numbers
+
+pub check-numbers : CheckNumbers
+check-numbers = OnHalls.check-numbers
+
+pub open-numbers : OpenNumbers
+open-numbers = OnHalls.open-numbers
+
+pub refusal-numbers : RefusalNumbers
+refusal-numbers = OnHalls.refusal-numbers
+
+pub answers-told : AnswersTold
+answers-told = Telling.answers-told
+
+pub zero-is-accepted : ZeroIsAccepted
+zero-is-accepted = Zero.zero-is-accepted
+
+pub choice-numbers : ChoiceNumbers
+choice-numbers = OnChoices.choice-numbers
+
+pub run-numbers : RunNumbers
+run-numbers = OnRuns.run-numbers
+
+pub one-reason : OneReason
+one-reason = OnRuns.one-reason
+
+pub run-call-numbers : RunCallNumbers
+run-call-numbers = OnCalls.run-call-numbers
+
+pub run-call-zero : RunCallZero
+run-call-zero = OnCalls.run-call-zero
+
+-- ---- a step, and lists of calls
+
+pub steps-as-printed : StepsAsPrinted
+steps-as-printed = OnSteps.steps-as-printed
+
+pub step-numbers : StepNumbers
+step-numbers = OnSteps.step-numbers
+
+pub node-of-kind-1 : NodeOfKind1
+node-of-kind-1 = OnSteps.node-of-kind-1
+
+pub step-is-call : StepIsCall
+step-is-call = OnSteps.step-is-call
+
+pub call-bytes : CallBytes
+call-bytes = Turns.call-bytes
+
+pub calls-in-turn : CallsInTurn
+calls-in-turn = Turns.calls-in-turn
+
+pub calls-cut : CallsCut
+calls-cut = Turns.calls-cut
+
+-- ---- the printed run
+
+pub table-found : TableFound
+table-found = Prints.table-found
+
+pub accepted-is-found : AcceptedIsFound
+accepted-is-found = Prints.accepted-is-found
+
+pub printed-long : PrintedLong
+printed-long = Prints.printed-long
+
+pub printed-refused : PrintedRefused
+printed-refused = Prints.printed-refused
+
+pub printed-as-calls : PrintedAsCalls
+printed-as-calls = Prints.printed-as-calls
