@@ -203,7 +203,7 @@ fn apply_term(at: usize, terms: usize, parsed: Record, decoded: &mut [u8; DECODE
     ensures { λ x. ⌜ TermRead (now (decoded .entry)) at terms parsed x (now (decoded .exit)) ⌝ }
 {
     terms::put_record(decoded, terms, parsed);
-    let measures = terms::new_measures(decoded, terms);
+    let measures = terms::measures_of(decoded, terms, terms);
     if terms::over_limit(parsed.kind, measures) {
         return AfterRecord::Answer(Read::Refused {
             number: OVER_LIMIT,

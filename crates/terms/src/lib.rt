@@ -188,25 +188,6 @@ pub fn measures_of(decoded: &[u8; DECODED], kept: usize, at: usize) -> Measures
     }
 }
 
-// The same of the term behind all that are kept, as each is while a table is read: no walk.
-pub fn new_measures(decoded: &[u8; DECODED], at: usize) -> Measures
-    requires { ⌜ Measurable (now decoded) at at ⌝ }
-    ensures { λ m. ⌜ MeasuresOf (now (decoded .entry)) at at (m .breadth) (m .length) ⌝ }
-{
-    match kind_of(decoded, at) {
-        PAR | OR_ELSE => {
-            let left = kept_measures(decoded, wide(first_of(decoded, at)));
-            let right = kept_measures(decoded, wide(second_of(decoded, at)));
-            of_both(left, right)
-        }
-        RD | WT => of_longer(kept_measures(decoded, wide(second_of(decoded, at)))),
-        _ => Measures {
-            breadth: 1,
-            length: 0,
-        },
-    }
-}
-
 // 7: a process's width, or an expression's branches or length, is over its limit.
 pub fn over_limit(kind: u8, m: Measures) -> bool
     ensures { λ r. ⌜ LimitTested kind (m .breadth) (m .length) r ⌝ }

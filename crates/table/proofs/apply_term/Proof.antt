@@ -8,8 +8,8 @@ use Rattle.table.proofs.apply_term.Tie as tie
 put-record-requires : tie.Need-put-record-requires
 put-record-requires c κs = search needs
 
-new-measures-requires : tie.Need-new-measures-requires
-new-measures-requires c κs = search ready-measurable
+measures-of-requires : tie.Need-measures-of-requires
+measures-of-requires c κs = search ready-measurable
 
 over-limit-requires : tie.Need-over-limit-requires
 over-limit-requires c κs = search needs
@@ -31,7 +31,7 @@ apply-term-spec =
     tie.close
     (tie.spec
     put-record-requires
-    new-measures-requires
+    measures-of-requires
     over-limit-requires
     returns
     put-measures-requires
