@@ -1,7 +1,11 @@
-// The records of a rule table: their kinds, the body and the class of each kind, parsing one at an offset, and the tests
-// on one field that need no earlier term.
+// The records of a rule table: their kinds, the body and the class of each kind, the record at an offset, the reader that
+// draws it, and the tests on one field that need no earlier term.
+mod reader;
+
 use buffer::byte_at;
 use buffer::wide;
+pub use reader::Reader;
+pub use reader::parse;
 ghost use mathlib.Core.Path.{_≡_};
 ghost use mathlib.Core.List.{List};
 ghost use Prim.Native.Nat.{_<_};
@@ -101,7 +105,8 @@ fn body_length(kind: u8) -> usize
     (BODY_LENGTHS >> (2 * wide(kind))) & 3
 }
 
-pub fn parse(table: &[u8], at: usize) -> Parsed
+// What stands at an offset: the work beneath the reader.
+fn record_at(table: &[u8], at: usize) -> Parsed
     ensures { λ r. ⌜ ParsedAs (now (table .entry)) at r ⌝ }
 {
     if table.len() <= at {

@@ -1,11 +1,11 @@
--- `records::parse` meets its contract: the tests on the way to each return say what stands at the offset.
+-- `records::record_at` meets its contract: the tests on the way to each return say what stands at the offset.
 -- Assumes nothing.
 use native.Mathlib.Omega.{arith}
 use mathlib.Core.Logic.{inl, inr}
 use Rattle.records.proofs.Shapes.{body-few}
 use borrow.Author.Needs.{needs}
-use Rattle.records.proofs.parse.Statement.{statement}
-use Rattle.records.proofs.parse.Tie as tie
+use Rattle.records.proofs.record_at.Statement.{statement}
+use Rattle.records.proofs.record_at.Tie as tie
 
 returns : tie.Need-returns
 returns c = search needs
@@ -46,8 +46,8 @@ byte-at-requires-2 c κs = search needs
 returns-5 : tie.Need-returns-5
 returns-5 c = search needs
 
-pub parse-spec : {M : Type 1} → statement M
-parse-spec =
+pub record-at-spec : {M : Type 1} → statement M
+record-at-spec =
     tie.close
     (tie.spec
     returns

@@ -1,0 +1,49 @@
+// The reader that draws a table's records. Its functions are thin: each takes it apart or puts it together, and the work
+// is done on a slice and an offset.
+use crate::Parsed;
+use crate::record_at;
+ghost use mathlib.Core.Path.{_≡_};
+ghost use Rattle.records.specs.Parsing.{ParsedAs};
+
+// The offset of a table's first record.
+const FIRST: usize = 0;
+
+// A lent table and the offset of the next record.
+pub struct Reader<'a> {
+    table: &'a [u8],
+    at: usize,
+}
+
+impl<'a> Reader<'a> {
+    // At the first record.
+    pub fn new(table: &'a [u8]) -> Reader<'a>
+        ensures { λ r. ⌜ r ≡ record { table = table .entry; at = 0 } ⌝ }
+    {
+        Reader { table, at: FIRST }
+    }
+
+    // At another offset of the same table, as that behind a record.
+    pub fn seek(self, at: usize) -> Reader<'a>
+        ensures { λ r. ⌜ r ≡ record { table = self .entry .table; at = at } ⌝ }
+    {
+        Reader {
+            table: self.table,
+            at,
+        }
+    }
+
+    // What stands at the reader's offset. A whole record has the offset behind it, for `seek`.
+    pub fn draw(self) -> Parsed
+        ensures { λ r. ⌜ ParsedAs (now (self .entry .table)) (self .entry .at) r ⌝ }
+    {
+        record_at(self.table, self.at)
+    }
+}
+
+// What stands at an offset of a table, drawn by a reader. Callers keep a slice and an offset: a function that holds a
+// reader is proved step by step by hand, and one that calls this is not.
+pub fn parse(table: &[u8], at: usize) -> Parsed
+    ensures { λ r. ⌜ ParsedAs (now (table .entry)) at r ⌝ }
+{
+    Reader::new(table).seek(at).draw()
+}
