@@ -7,21 +7,21 @@ use mathlib.Core.Path.{ap}
 use mathlib.Core.List.{List}
 
 -- log order is one of the orders that Table 2 allows
-pub as-printed : {l : Label} {P P′ : Process} {σ σ′ : State} → Reduces LogOrder l P σ P′ σ′ →
+pub as-stated : {l : Label} {P P′ : Process} {σ σ′ : State} → Reduces LogOrder l P σ P′ σ′ →
     Reduces AnyOrder l P σ P′ σ′
 unfolding SameNames
-as-printed (OUTr p) = OUTr p
-as-printed (INr p) = INr p
-as-printed (REPr p) = REPr p
-as-printed (COMl p d e) = COMl p (as-printed d) (as-printed e)
-as-printed (COMr p d e) = COMr p (as-printed d) (as-printed e)
-as-printed (PARL d) = PARL (as-printed d)
-as-printed (PARR d) = PARR (as-printed d)
-as-printed ATSTr = ATSTr
-as-printed (ATPASS d) = ATPASS d
-as-printed ATREr = ATREr
-as-printed (ATFAILr n) = ATFAILr n
-as-printed (ATOKr i o) = ATOKr i (λ a. ap (occurrences a) o)
+as-stated (OUTr p) = OUTr p
+as-stated (INr p) = INr p
+as-stated (REPr p) = REPr p
+as-stated (COMl p d e) = COMl p (as-stated d) (as-stated e)
+as-stated (COMr p d e) = COMr p (as-stated d) (as-stated e)
+as-stated (PARL d) = PARL (as-stated d)
+as-stated (PARR d) = PARR (as-stated d)
+as-stated ATSTr = ATSTr
+as-stated (ATPASS d) = ATPASS d
+as-stated ATREr = ATREr
+as-stated (ATFAILr n) = ATFAILr n
+as-stated (ATOKr i o) = ATOKr i (λ a. ap (occurrences a) o)
 
 -- no reduction of Table 3 is an output
 pub no-output-inside : {a : Name} {A A′ : Ongoing} → Evolves (OUT a) A A′ → ⊥

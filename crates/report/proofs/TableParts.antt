@@ -13,7 +13,7 @@ use borrow.Author.Tests.{eqb-true, eqb-false}
 use Rattle.theorems.proofs.Lists.{found-below}
 use lib.Seq.{drop-cons, drop-drop, take-all, take-length}
 use Rattle.semantics.specs.Definitions.Table.{Kind, kindOf, kinds, fields}
-use Rattle.semantics.specs.Checks.PrintedRun.{TableEnds, at-start, past-record, up-to-start, all-of-it}
+use Rattle.semantics.specs.Checks.PrintedRun.{TableEnds, at-start, after-record, up-to-start, all-of-it}
 use Rattle.records.specs.declared.Record.{Record}
 use Rattle.records.specs.declared.Parsed.{Parsed}
 use Rattle.records.specs.declared.Parsed.the-variants.{End, UnknownKind, CutShort, Whole}
@@ -32,7 +32,7 @@ no-end n x = elim x [ ]
 ends-behind : (bs : List ℕ) (n : ℕ) → TableEnds bs n → (k : ℕ) (rest : List ℕ) → bs ≡ k ∷ rest → (k ≡ 13 → ⊥) →
     (K : Kind) × (kindOf k ≡ some K) × (m : ℕ) × TableEnds (drop (length (fields K)) rest) m
 ends-behind bs n at-start k rest e ne = absurd (ne (cc))
-ends-behind bs n (past-record {k = j} {n = m} {bs = others} K named other x) k rest e ne =
+ends-behind bs n (after-record {k = j} {n = m} {bs = others} K named other x) k rest e ne =
     let p : j ≡ k = cc in
     let q : others ≡ rest = cc in (K, rw p at named, m, rw q at x)
 
@@ -91,7 +91,7 @@ module _ (s : List ℕ) (at : ℕ) (x : SteppedTo s at) where
           inside = let i = w .inside in omega arith;
           onwards = λ n y.
               let z : at + (suc size + n) ≡ r .next + n = omega arith in
-              let over = past-record {n = n} {bs = drop (suc at) s} (K .kind) (K .named) other (rw rest y) in
+              let over = after-record {n = n} {bs = drop (suc at) s} (K .kind) (K .named) other (rw rest y) in
               rw (← z) (x .onwards (suc size + n) (rw first-byte over));
           only = λ n y.
               let m = x .only n y in

@@ -5,27 +5,27 @@ use mathlib.Core.List.{List, [], _∷_}
 use Rattle.semantics.specs.Definitions.Moves.{Entry, act, inside}
 use Rattle.semantics.specs.Definitions.Run.{schedule, entries, entryBytes}
 use Rattle.semantics.specs.Definitions.Calls.{SuggestAnswer, suggested, still, notSuggested}
-use Rattle.semantics.specs.Checks.Answers.{VerdictTold, OpeningTold, SuggestionTold, ChoiceTold, AnswersTold, SuggestValues, choiceSaid, stillSaid, refusalSaid, suggestValues, AnswersDiffer}
+use Rattle.semantics.specs.Checks.Answers.{VerdictReported, OpeningReported, SuggestionReported, ChoiceReported, AnswersReported, SuggestValues, choiceValue, stillValue, refusalValue, suggestValues, AnswersDiffer}
 
-verdict-told : VerdictTold
-unfolding VerdictTold
-verdict-told n p = (refl, refl, refl, refl)
+verdict-reported : VerdictReported
+unfolding VerdictReported
+verdict-reported n p = (refl, refl, refl, refl)
 
-opening-told : OpeningTold
-unfolding OpeningTold
-opening-told c n p = (refl, refl)
+opening-reported : OpeningReported
+unfolding OpeningReported
+opening-reported c n p = (refl, refl)
 
-suggestion-told : SuggestionTold
-unfolding SuggestionTold
-suggestion-told n p k = (refl, refl, refl, refl)
+suggestion-reported : SuggestionReported
+unfolding SuggestionReported
+suggestion-reported n p k = (refl, refl, refl, refl)
 
-choice-told : ChoiceTold
-unfolding ChoiceTold
-choice-told r h n = (refl, refl)
+choice-reported : ChoiceReported
+unfolding ChoiceReported
+choice-reported r h n = (refl, refl)
 
-pub answers-told : AnswersTold
-unfolding AnswersTold
-answers-told = (verdict-told, opening-told, suggestion-told, choice-told)
+pub answers-reported : AnswersReported
+unfolding AnswersReported
+answers-reported = (verdict-reported, opening-reported, suggestion-reported, choice-reported)
 
 -- ---- the values of an answer
 
@@ -36,9 +36,9 @@ firstOfAll (e ∷ es) = suggested e
 
 answerWith : SuggestValues → SuggestAnswer
 unfolding firstOfAll entries schedule
-answerWith (choiceSaid bs) = firstOfAll (entries (schedule bs))
-answerWith stillSaid = still
-answerWith (refusalSaid n p) = notSuggested n p
+answerWith (choiceValue bs) = firstOfAll (entries (schedule bs))
+answerWith stillValue = still
+answerWith (refusalValue n p) = notSuggested n p
 
 answer-back : (a : SuggestAnswer) → answerWith (suggestValues a) ≡ a
 unfolding answerWith suggestValues firstOfAll entries schedule entryBytes

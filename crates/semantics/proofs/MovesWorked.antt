@@ -2,7 +2,7 @@
 -- Assumes nothing.
 use mathlib.Core.Path.{refl}
 use Rattle.semantics.specs.Definitions.Moves.{answerTo}
-use Rattle.semantics.specs.Checks.PrintedMoves.{tried, both, Gives, GivesInside, MovesWorked}
+use Rattle.semantics.specs.Checks.StatedMoves.{tried, both, Gives, GivesInside, MovesWorked}
 
 pub moves-worked : MovesWorked
 unfolding Gives GivesInside tried both answerTo

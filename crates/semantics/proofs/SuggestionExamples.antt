@@ -21,9 +21,9 @@ only-on : (table hall : List ℕ) (d : Admission) (a : SuggestAnswer) → admiss
 unfolding SuggestAllowed OnlyOn
 only-on table hall d a e x = rw e x
 
-turned-only : (n p : ℕ) → OnlyOn (notAdmitted n p) (notSuggested n p)
+rejected-only : (n p : ℕ) → OnlyOn (notAdmitted n p) (notSuggested n p)
 unfolding SuggestAdmitted OnlyOn
-turned-only n p = ((refl, refl), only)
+rejected-only n p = ((refl, refl), only)
   where
     only : (a : SuggestAnswer) → SuggestAdmitted (notAdmitted n p) a → a ≡ notSuggested n p
     only (suggested d) h = absurd h
@@ -87,7 +87,7 @@ suggestion-examples = record {
   reads =
       only-on blockTable (hallOf (trays "1") (attempt 3 "1" (leafOf 2 0 ""))) (admitted _ _) (suggested (inside 0 0)) refl (reads-only _);
   nil-is-still = only-on nilTable ((openHall nilTable noise) .hall) (admitted _ _) still refl (still-only _ _);
-  malformed = only-on blockTable noise (notAdmitted 11 0) (notSuggested 11 0) refl (turned-only 11 0);
-  wrong-size = only-on blockTable [] (notAdmitted 10 0) (notSuggested 10 0) refl (turned-only 10 0);
-  refused = only-on [] noise (notAdmitted 9 0) (notSuggested 9 0) refl (turned-only 9 0);
+  malformed = only-on blockTable noise (notAdmitted 11 0) (notSuggested 11 0) refl (rejected-only 11 0);
+  size-mismatch = only-on blockTable [] (notAdmitted 10 0) (notSuggested 10 0) refl (rejected-only 10 0);
+  refused = only-on [] noise (notAdmitted 9 0) (notSuggested 9 0) refl (rejected-only 9 0);
 }

@@ -1,6 +1,6 @@
 -- The definitions compared with document 01, piece by piece: its tables, moves, refusals, answers, stored form, printed
 -- run and worked examples. Assumes nothing.
-pub mod PrintedMoves
+pub mod StatedMoves
 pub mod AcceptedTables
 pub mod StoredForm
 pub mod Conditions
@@ -11,7 +11,7 @@ pub mod PrintedRun
 pub mod Examples
 pub mod GainExamples
 pub mod ConverseSteps
-pub mod PrintedSuggestions
+pub mod StatedSuggestions
 pub mod EdgeExamples
 pub mod SuggestionExamples
 pub mod StepExamples

@@ -52,7 +52,7 @@ data Trace : ℕ → Configuration → List Live → List Member → Configurati
       Trace j h zs (record { step = record { chosen = e; rule = r; before = h; result = f }; attempt = attempt j z } ∷ ms) g ws
 
 -- the attempt is the one of the note
-note-number : (j : ℕ) (z : Live) → Option·elim ((noted z) .note) j (λ m. m .opened) ≡ attempt j z
+note-number : (j : ℕ) (z : Live) → Option·elim ((noted z) .note) j (λ m. m .begun) ≡ attempt j z
 unfolding Option·elim
 note-number j (rests c) = refl
 note-number j (tries i n M s u) = refl
@@ -60,8 +60,8 @@ note-number j (tries i n M s u) = refl
 attempt-of : (a : Numbered) (e : Entry) (z : Live) → getElem? (a .run .stations) (positionOf e) ≡ some (noted z) →
     attemptOf a e ≡ attempt (a .next) z
 unfolding attemptOf positionOf bind
-attempt-of a (act p) z f = ap (λ o. Option·elim (bind o (λ x. x .note)) (a .next) (λ m. m .opened)) f ∙ note-number (a .next) z
-attempt-of a (inside p k) z f = ap (λ o. Option·elim (bind o (λ x. x .note)) (a .next) (λ m. m .opened)) f ∙ note-number (a .next) z
+attempt-of a (act p) z f = ap (λ o. Option·elim (bind o (λ x. x .note)) (a .next) (λ m. m .begun)) f ∙ note-number (a .next) z
+attempt-of a (inside p k) z f = ap (λ o. Option·elim (bind o (λ x. x .note)) (a .next) (λ m. m .begun)) f ∙ note-number (a .next) z
 
 -- accepted choices are such a run
 trace : {h g : Configuration} {es : List Entry} → Runs h es g → (a : Numbered) (zs : List Live) → Paced h a zs →

@@ -12,11 +12,11 @@ use Rattle.calculus.specs.Syntax.{Name, State, Process, par}
 use Rattle.calculus.specs.State.{occurrences, SameNames}
 use Rattle.calculus.specs.Log.{WT}
 use Rattle.calculus.specs.Reduction.{Label, by, COM, Reduces, OUTr, INr, REPr, COMl, COMr, PARL, PARR, ATSTr, ATPASS, ATREr, ATFAILr, ATOKr, LogOrder, AnyOrder, outputs}
-use Rattle.calculus.proofs.Reductions.{as-printed}
+use Rattle.calculus.proofs.Reductions.{as-stated}
 use Rattle.calculus.proofs.States.{same-self, same-other, occurrences-append}
 use Rattle.semantics.specs.Definitions.Configuration.{Configuration}
 use Rattle.semantics.specs.Definitions.Calls.{Quiescent}
-use Rattle.semantics.specs.Claims.Correspondence.{LogOrderAsPrinted, HasChoices, Completeness, Reordered, unchanged, shuffled, within, CompletenessAnyOrder, StillIsStill}
+use Rattle.semantics.specs.Claims.Correspondence.{LogOrderAsStated, HasChoices, Completeness, Reordered, unchanged, shuffled, within, CompletenessAnyOrder, StillIsStill}
 use Rattle.semantics.specs.Claims.Denotation.{parallel, WithinLimits}
 use Rattle.theorems.proofs.Communication.{none-occurs}
 use Rattle.theorems.proofs.Completeness.{completeness}
@@ -89,9 +89,9 @@ in-log-order (ATOKr {δ = δ} {bs = bs} d o) = (outputs (WT δ), shuffled bs (WT
 
 -- ---- the claims
 
-pub log-order-as-printed : LogOrderAsPrinted
-unfolding LogOrderAsPrinted
-log-order-as-printed l P P′ σ σ′ d = as-printed d
+pub log-order-as-stated : LogOrderAsStated
+unfolding LogOrderAsStated
+log-order-as-stated l P P′ σ σ′ d = as-stated d
 
 -- completeness with ATOK's outputs in any order, up to the order of those outputs
 pub completeness-any-order : CompletenessAnyOrder

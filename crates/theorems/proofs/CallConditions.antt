@@ -11,7 +11,7 @@ use Rattle.semantics.specs.Definitions.Configuration.{Configuration}
 use Rattle.semantics.specs.Definitions.Moves.{Entry, act, inside}
 use Rattle.semantics.specs.Definitions.Run.{RunAnswer, run}
 use Rattle.semantics.specs.Definitions.Calls.{Admission, admitted, notAdmitted, admission, runResult, runAdmitted, runCall}
-use Rattle.semantics.specs.Checks.Conditions.{HallAccepted, HallNumbers, RefusalNumbers, ChoiceCondition, no-station, no-station-inside, unsettled, no-attempt, no-node, at-rest, in-empty, rep-empty, in-many, rep-many, commit-many, out-full, Stops, at-end, kind-neither, act-short, inside-short, node-short, act-refused, inside-refused, RunStops, RunNumbers, OneReason, RunCallNumbers, RunCallZero}
+use Rattle.semantics.specs.Checks.Conditions.{HallAccepted, HallNumbers, RefusalNumbers, ChoiceCondition, no-station, no-station-inside, unsettled, no-attempt, no-node, no-rule-there, in-empty, rep-empty, in-many, rep-many, commit-many, out-full, Stops, at-end, kind-neither, act-short, inside-short, node-short, act-refused, inside-refused, RunStops, RunNumbers, OneReason, RunCallNumbers, RunCallZero}
 use Rattle.theorems.proofs.HallConditions.{accepted-read, hall-numbers, refusal-numbers}
 use Rattle.theorems.proofs.RunConditions.{run-numbers, one-reason}
 
@@ -35,7 +35,7 @@ choice-range h n e (no-station-inside a) = (omega arith, omega arith)
 choice-range h n e (unsettled m M s t a b) = (omega arith, omega arith)
 choice-range h n e (no-attempt c a) = (omega arith, omega arith)
 choice-range h n e (no-node m M s t a b) = (omega arith, omega arith)
-choice-range h n e (at-rest m M s t u a b c) = (omega arith, omega arith)
+choice-range h n e (no-rule-there m M s t u a b c) = (omega arith, omega arith)
 choice-range h n e (in-empty m a P b c) = (omega arith, omega arith)
 choice-range h n e (rep-empty m a P b c) = (omega arith, omega arith)
 choice-range h n e (in-many m a P b c) = (omega arith, omega arith)

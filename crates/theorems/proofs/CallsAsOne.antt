@@ -24,7 +24,7 @@ use Rattle.semantics.specs.Definitions.Stored.{WellFormed, hallBytes, bytesOf}
 use Rattle.semantics.specs.Definitions.Moves.{Entry, act, inside, Answer, moved, refused, applyAt, atPosition, answerTo, LocalAnswer, moves, blocked, takes, puts, ends, acts, actsInside, Inner, evolves, noRule, outOfRange, inner, innerLocal}
 use Rattle.semantics.specs.Definitions.Run.{ScheduleItem, entry, malformed, schedule, entries, Counters, counted, RunAnswer, continueRun, runFrom, run, steps}
 use Rattle.semantics.specs.Definitions.Calls.{admitted, formTested, sizeTested, tableTested, admission, openSized, openTested, openHall, Buffers, RunCall, runResult, runAdmitted, runCall, Call, callBytes, callAnswer, afterCalls, callEntries, entriesDone}
-use Rattle.semantics.specs.Claims.Correspondence.{Accepts}
+use Rattle.semantics.specs.Claims.Correspondence.{AcceptsTable}
 use Rattle.semantics.specs.Claims.Atomicity.{answers}
 use Rattle.semantics.specs.Checks.AcceptedTables.{GoodTable}
 use Rattle.theorems.proofs.GoodTable.{accepted-is-good}
@@ -266,7 +266,7 @@ opened-hall table t reads buffer size first =
     ap (λ b. (openSized t buffer b) .hall) (ap (λ n. eqb n hallBytes) size ∙ eq-eqb hallBytes hallBytes refl)
 
 -- the calls on it are one run of the choices done
-pub opened-calls : (table : List ℕ) (t : Table) (accepts : Accepts table t) (buffer : List ℕ) → length buffer ≡ hallBytes → (first : Counters) (cs : List Call) →
+pub opened-calls : (table : List ℕ) (t : Table) (accepts : AcceptsTable table t) (buffer : List ℕ) → length buffer ≡ hallBytes → (first : Counters) (cs : List Call) →
     CallsTell table t (accepts .1) (firstBuffers table buffer first) (opening t) cs
 opened-calls table t accepts buffer size first cs =
     calls-tell table t (accepts .1) (firstBuffers table buffer first) (opening t) (opened-hall table t (accepts .1) buffer size first)

@@ -23,7 +23,7 @@ use Rattle.semantics.specs.Definitions.Moves.{Entry, act, inside, moves, blocke
 use Rattle.semantics.specs.Definitions.Calls.{IsMoved}
 use Rattle.semantics.specs.Claims.ConverseRuns.{EmptyChannel, TooManyComponents, FullChannel}
 use Rattle.semantics.specs.Claims.InnerMoves.{Settled}
-use Rattle.semantics.specs.Checks.Conditions.{FirstCondition, preorder, NoRuleAtNode, ChoiceCondition, no-station, no-station-inside, unsettled, no-attempt, no-node, at-rest, in-empty, rep-empty, in-many, rep-many, commit-many, out-full, ChoiceNumbers}
+use Rattle.semantics.specs.Checks.Conditions.{FirstCondition, preorder, NoRuleAtNode, ChoiceCondition, no-station, no-station-inside, unsettled, no-attempt, no-node, no-rule-there, in-empty, rep-empty, in-many, rep-many, commit-many, out-full, ChoiceNumbers}
 use Rattle.theorems.proofs.Lists.{none-past, found-below, found-left, found-right, length-replaceAt}
 use Rattle.theorems.proofs.Readable.{readable-included, unreadable-not-included}
 use Rattle.theorems.proofs.Reading.{by-cases}
@@ -266,7 +266,7 @@ module _ (h : Configuration) (p k : ℕ) where
   barred-inside c e m (no-station-inside z) = absurd (let q = found-below (h .components) p c e in omega arith)
   barred-inside c e m (no-attempt d f) = subst (λ d. BarsInside d 15) (same-component e f) refl
   barred-inside c e m (no-node n M s t f z) = subst (λ d. BarsInside d 16) (same-component e f) (inl (refl, z))
-  barred-inside c e m (at-rest n M s t u f g z) = subst (λ d. BarsInside d 17) (same-component e f) (inr (refl, (u, g, z)))
+  barred-inside c e m (no-rule-there n M s t u f g z) = subst (λ d. BarsInside d 17) (same-component e f) (inr (refl, (u, g, z)))
 
   module _ (few : length (h .components) ≤ 64) where
     -- at an attempt: past its nodes 16, at a node at rest 17, else a move
@@ -278,7 +278,7 @@ module _ (h : Configuration) (p k : ℕ) where
         (found-below (h .components) p (transaction n M s t) e)
         (λ m c. elim (barred-inside (transaction n M s t) e m c) [ inl b ↦ omega arith | inr b ↦ q .1 (b .1 .0) (b .1 .1) (b .1 .2) ])
     inner-local-reason n M s t e noRule q =
-        (at-rest n M s t (q .0) e (q .1) (q .2), λ m l c. elim (barred-inside (transaction n M s t) e m c) [ inl b ↦ below (b .1) | inr b ↦ omega arith ])
+        (no-rule-there n M s t (q .0) e (q .1) (q .2), λ m l c. elim (barred-inside (transaction n M s t) e m c) [ inl b ↦ below (b .1) | inr b ↦ omega arith ])
       where
         below : nodes t ≤ k → ⊥
         below z = let y = found-below (preorder t) k (q .0) (q .1) in let w = length-preorder t in omega arith
@@ -316,7 +316,7 @@ no-station-inside-first h p k z = (no-station-inside z, λ m l c. before m l c)
     before m l (no-station-inside y) = omega arith
     before m l (no-attempt d f) = omega arith
     before m l (no-node n M s t f y) = omega arith
-    before m l (at-rest n M s t u f g y) = omega arith
+    before m l (no-rule-there n M s t u f g y) = omega arith
 
 -- every answer to a choice has its reason
 pub choice-reason : (h : Configuration) → length (h .components) ≤ 64 → (e : Entry) → Reason (λ m. ChoiceCondition h m e) (answerTo h e)

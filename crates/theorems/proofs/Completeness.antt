@@ -25,7 +25,7 @@ use Rattle.semantics.specs.Definitions.Logs.{emptyLog, addToken, takeToken}
 use Rattle.semantics.specs.Definitions.Configuration.{Idle, taking, repeating, block, output, Tree, leaf, fork, Component, idle, transaction, Configuration, branchesOf, nodes, opens}
 use Rattle.semantics.specs.Definitions.Stored.{ComponentOk, WellFormed}
 use Rattle.semantics.specs.Definitions.Moves.{Entry, act, inside, moves, takes, puts, acts, evolves, outOfRange, inner}
-use Rattle.semantics.specs.Claims.Correspondence.{Accepts, HasChoices, Completeness}
+use Rattle.semantics.specs.Claims.Correspondence.{AcceptsTable, HasChoices, Completeness}
 use Rattle.semantics.specs.Claims.Denotation.{expr, proc, ongoingOf, componentProcess, Denotes, nothing, alone, beside, parallel, Bounded, WithinLimits}
 use Rattle.theorems.proofs.Lists.{found-below, found-left, found-right, replaceAt-left, replaceAt-right, all-at, all-getD}
 use Rattle.theorems.proofs.Readable.{included-readable, not-included-unreadable}
@@ -377,7 +377,7 @@ out-leaves-fewer (PARR d) = let h = out-leaves-fewer d in omega arith
 out-leaves-fewer (ATPASS d) = absurd (no-output-inside d)
 
 -- a communication within the limits has its two choices; the configuration between them is well formed
-two-moves : (bs : List ℕ) (t : Table) → Accepts bs t → (h : Configuration) → WellFormed (t .terms) h →
+two-moves : (bs : List ℕ) (t : Table) → AcceptsTable bs t → (h : Configuration) → WellFormed (t .terms) h →
     (P : Process) → Denotes P (h .components) → (a : Name) (P′ : Process) → TwoMoves LogOrder a P (h .counts) P′ → Bounded P′ (h .counts) → All (λ c. c ≤ 255) (addToken (h .counts) a) →
     HasChoices (COM a) h P′ (h .counts)
 unfolding HasChoices Bounded addToken

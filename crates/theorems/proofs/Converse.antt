@@ -26,7 +26,7 @@ use Rattle.semantics.specs.Checks.AcceptedTables.{GoodTable}
 use Rattle.semantics.specs.Definitions.Stored.{hallBytes, ComponentOk, WellFormed, bytesOf}
 use Rattle.semantics.specs.Definitions.Calls.{Call, runResult, runCall}
 use Rattle.semantics.specs.Claims.Atomicity.{initialBuffers}
-use Rattle.semantics.specs.Claims.Correspondence.{Accepts}
+use Rattle.semantics.specs.Claims.Correspondence.{AcceptsTable}
 use Rattle.semantics.specs.Claims.ConverseRuns.{PlainState, plainStart, replacing, ConverseStep, stepOut, stepIn, stepRep, stepCommit, ConverseSteps, noStep, stepThen, idleConfiguration}
 use Rattle.theorems.proofs.Lists.{found-below, found-map, length-replaceAt, map-replaceAt, all-append, all-at, replaced-here, replaceAt-twice}
 use Rattle.theorems.proofs.Moves.{positionOf, localMove, accepted-inverts, accepted-made}
@@ -251,7 +251,7 @@ module _ (ts : List Term) (good : GoodTable ts) where
 
 -- ---- on an opened hall
 
-module _ (table : List ℕ) (t : Table) (accepts : Accepts table t) (buffer : List ℕ) (size : length buffer ≡ hallBytes) (first : Counters) (cs : List Call) where
+module _ (table : List ℕ) (t : Table) (accepts : AcceptsTable table t) (buffer : List ℕ) (size : length buffer ≡ hallBytes) (first : Counters) (cs : List Call) where
   -- a run on a hall just opened is a run from the opening
   opened-runs : (choices : List ℕ) → runCall table (initialBuffers table t buffer first cs) choices ≡ runResult (run (opening t) first choices)
   unfolding initialBuffers firstBuffers

@@ -22,7 +22,7 @@ use Rattle.semantics.specs.Definitions.Configuration.{Idle, taking, repeating, 
 use Rattle.semantics.specs.Definitions.Moves.{act, inside, LocalAnswer, moves, blocked, takes, puts, commits, ends, acts, actsInside, moved, answerTo, ruleNumber}
 use Rattle.semantics.specs.Claims.InnerMoves.{Moves, unmoved, MovesSettleFirstPath}
 use Rattle.semantics.specs.Claims.ConverseRuns.{PlainState, replacing, ConverseStep, stepOut, stepIn, stepRep, stepCommit, ConverseSteps, noStep, stepThen, idleConfiguration}
-use Rattle.semantics.specs.Checks.ConverseSteps.{StartIsOpening, DoneAt, StepsAreMoves, ReadableBlocksStep, StepsGoOn}
+use Rattle.semantics.specs.Checks.ConverseSteps.{StartIsOpening, DoneAt, ConverseStepsAreMoves, ReadableBlocksCommit, ConverseStepsGoOn}
 use Rattle.theorems.proofs.Lists.{found-below, found-at, found-map, map-replaceAt, replaced-here, replaceAt-twice}
 use Rattle.theorems.proofs.Reading.{by-cases}
 use Rattle.theorems.proofs.Readable.{included-readable, not-included-unreadable}
@@ -207,9 +207,9 @@ pub start-is-opening : StartIsOpening
 unfolding StartIsOpening
 start-is-opening t = refl
 
-pub steps-are-moves : StepsAreMoves
-unfolding StepsAreMoves DoneAt StepDone OwnMove ruleNumber
-steps-are-moves s p few = (λ u step. done u (step-done s p few step), made)
+pub converse-steps-are-moves : ConverseStepsAreMoves
+unfolding ConverseStepsAreMoves DoneAt StepDone OwnMove ruleNumber
+converse-steps-are-moves s p few = (λ u step. done u (step-done s p few step), made)
   where
     done : (u : PlainState) → StepDone s p u → DoneAt s p (idleConfiguration u)
     done u (inl h) = inl h
@@ -225,9 +225,9 @@ unfolding firstOf
 first-is p [] ys x none-passes passes = rw passes
 first-is p (y ∷ xs) ys x none-passes passes = rw (none-passes .0) (first-is p xs ys x (none-passes .1) passes)
 
-pub readable-blocks-step : ReadableBlocksStep
-unfolding ReadableBlocksStep firstReadable
-readable-blocks-step s p n M found earlier later δ split none-before readable-there fits =
+pub readable-blocks-commit : ReadableBlocksCommit
+unfolding ReadableBlocksCommit firstReadable
+readable-blocks-commit s p n M found earlier later δ split none-before readable-there fits =
     let first : firstOf (readable (s .counts)) (paths M) ≡ some δ =
     rw split
     (first-is (readable (s .counts)) earlier later δ (unreadable earlier none-before) (included-readable (s .counts) δ readable-there)) in
@@ -242,6 +242,6 @@ step-behind : {s u v : PlainState} (p : ℕ) → ConverseSteps s u → ConverseS
 step-behind p noStep one = stepThen p one noStep
 step-behind p (stepThen q first more) one = stepThen q first (step-behind p more one)
 
-pub steps-go-on : StepsGoOn
-unfolding StepsGoOn
-steps-go-on = (λ s. noStep, λ s u v p. step-behind p)
+pub converse-steps-go-on : ConverseStepsGoOn
+unfolding ConverseStepsGoOn
+converse-steps-go-on = (λ s. noStep, λ s u v p. step-behind p)

@@ -17,7 +17,7 @@ use Rattle.semantics.specs.Definitions.Configuration.{Configuration}
 use Rattle.semantics.specs.Definitions.Stored.{hallBytes, WellFormed, bytesOf, configurationOf}
 use Rattle.semantics.specs.Definitions.Run.{freshCounters}
 use Rattle.semantics.specs.Definitions.Calls.{Verdict, ok, rejected, tableVerdict, checkTable, Admission, admitted, notAdmitted, formTested, sizeTested, tableTested, admission, admissionVerdict, checkHall, notOpened, Opening, openSized, openTested, openHall}
-use Rattle.semantics.specs.Checks.Conditions.{TableRefused, TableAccepted, TableNumbers, OpenCondition, by-table, size-wrong, HallCondition, as-opening, form-wrong, HallAccepted, HallNumbers, TableChecked, HallChecked, CheckNumbers, Opens, not-opened, is-opened, OpenNumbers, RefusalNumbers}
+use Rattle.semantics.specs.Checks.Conditions.{TableRefused, TableAccepted, TableNumbers, OpenCondition, by-table, size-mismatch, HallCondition, as-opening, not-well-formed, HallAccepted, HallNumbers, TableChecked, HallChecked, CheckNumbers, OpenAnswered, not-opened, is-opened, OpenNumbers, RefusalNumbers}
 use Rattle.theorems.proofs.GoodTable.{accepted-is-good}
 use Rattle.theorems.proofs.RoundTrip.{read-back, read-is-well-formed, stored-fits}
 use Rattle.theorems.proofs.TableConditions.{condition-number, table-numbers}
@@ -54,7 +54,7 @@ module _ (table hall : List ℕ) where
         configurationOf (t .terms) hall ≡ o →
         AdmissionReason (formTested t o)
     unfolding formTested
-    form-reason t e l none f = form-wrong t (read-accepted table t e) l (λ w. lost (w .0) (w .1) (w .2))
+    form-reason t e l none f = not-well-formed t (read-accepted table t e) l (λ w. lost (w .0) (w .1) (w .2))
       where
         lost : (h : Configuration) → WellFormed (t .terms) h → bytesOf h ≡ hall → ⊥
         lost h w q = let r = rw q at (read-back (t .terms) h (accepted-is-good table t e) w) in
@@ -67,7 +67,7 @@ module _ (table hall : List ℕ) where
         AdmissionReason (sizeTested t hall b)
     unfolding sizeTested
     size-reason t e true f = form-reason t e (eqb-true (length hall) 11344 f) (configurationOf (t .terms) hall) refl
-    size-reason t e false f = as-opening (size-wrong t (read-accepted table t e) (eqb-false (length hall) 11344 f))
+    size-reason t e false f = as-opening (size-mismatch t (read-accepted table t e) (eqb-false (length hall) 11344 f))
 
     table-reason : (o : TableAnswer) → readTable table ≡ o → AdmissionReason (tableTested hall o)
     unfolding tableTested
@@ -101,8 +101,8 @@ module _ (table hall : List ℕ) where
     turned-down : (n p : ℕ) → HallCondition table hall n p → admission table hall ≡ notAdmitted n p
     unfolding admission tableTested
     turned-down n p (as-opening (by-table c)) = rw (refused-read table n p c)
-    turned-down n p (as-opening (size-wrong t c l)) = size-refuses t (accepted-read table t c) l
-    turned-down n p (form-wrong t c l w) =
+    turned-down n p (as-opening (size-mismatch t c l)) = size-refuses t (accepted-read table t c) l
+    turned-down n p (not-well-formed t c l w) =
         let e =
         accepted-read table t c in size-passes t e l ∙ form-refuses t e l w (configurationOf (t .terms) hall) refl
 
@@ -158,29 +158,29 @@ check-numbers = (table-checked, hall-checked)
 
 module _ (table hall : List ℕ) where
   sized-opens : (t : Table) → TableAccepted table t → (b : Bool) → eqb (length hall) 11344 ≡ b →
-      Opens table hall (openSized t hall b)
+      OpenAnswered table hall (openSized t hall b)
   unfolding openSized freshCounters
   sized-opens t c true f = is-opened t c (eqb-true (length hall) 11344 f)
-  sized-opens t c false f = not-opened (size-wrong t c (eqb-false (length hall) 11344 f))
+  sized-opens t c false f = not-opened (size-mismatch t c (eqb-false (length hall) 11344 f))
 
-  answer-opens : (o : TableAnswer) → readTable table ≡ o → Opens table hall (openTested hall o)
+  answer-opens : (o : TableAnswer) → readTable table ≡ o → OpenAnswered table hall (openTested hall o)
   unfolding openTested
   answer-opens (refusedAt n p) e = not-opened (by-table (read-refused table n p e))
   answer-opens (accepted t) e = sized-opens t (read-accepted table t e) (eqb (length hall) 11344) refl
 
-  opens-as : Opens table hall (openHall table hall)
+  opens-as : OpenAnswered table hall (openHall table hall)
   unfolding openHall
   opens-as = answer-opens (readTable table) refl
 
-  opens-so : (o : Opening) → Opens table hall o → openHall table hall ≡ o
+  opens-so : (o : Opening) → OpenAnswered table hall o → openHall table hall ≡ o
   unfolding openHall openTested openSized freshCounters
   opens-so o (not-opened {n} {p} (by-table c)) = rw (refused-read table n p c)
-  opens-so o (not-opened (size-wrong t c l)) = rw (accepted-read table t c, ne-eqb (length hall) 11344 l)
+  opens-so o (not-opened (size-mismatch t c l)) = rw (accepted-read table t c, ne-eqb (length hall) 11344 l)
   opens-so o (is-opened t c l) = rw (accepted-read table t c, eq-eqb (length hall) 11344 l)
 
 pub open-numbers : OpenNumbers
 unfolding OpenNumbers
-open-numbers table hall o = (λ e. subst (Opens table hall) e (opens-as table hall), opens-so table hall o)
+open-numbers table hall o = (λ e. subst (OpenAnswered table hall) e (opens-as table hall), opens-so table hall o)
 
 -- ---- the numbers of refusals
 
@@ -194,12 +194,12 @@ refused-range table n p (at, r, o, reached, c, _, _) = condition-number r n o (d
 
 open-range : (table hall : List ℕ) (n p : ℕ) → OpenCondition table hall n p → UpTo 10 n
 open-range table hall n p (by-table c) = let z = refused-range table n p c in omega arith
-open-range table hall n p (size-wrong t c l) = omega arith
+open-range table hall n p (size-mismatch t c l) = omega arith
 
 opened-range : (table hall : List ℕ) (n p : ℕ) → (openHall table hall) .answer ≡ notOpened n p → UpTo 10 n
 opened-range table hall n p = go (openHall table hall) (opens-as table hall)
   where
-    go : (o : Opening) → Opens table hall o → o .answer ≡ notOpened n p → UpTo 10 n
+    go : (o : Opening) → OpenAnswered table hall o → o .answer ≡ notOpened n p → UpTo 10 n
     go o (not-opened {n = m} {p = q} c) e = let z : m ≡ n = cc in subst (UpTo 10) z (open-range table hall m q c)
     go o (is-opened t c l) e = absurd (let z : _≡_ {A = ℕ} 0 1 = cc in omega arith)
 

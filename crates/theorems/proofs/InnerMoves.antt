@@ -17,7 +17,7 @@ use Rattle.semantics.specs.Definitions.Logs.{readable}
 use Rattle.semantics.specs.Definitions.Configuration.{Tree, leaf, fork, Component, transaction, Configuration, branchesOf}
 use Rattle.semantics.specs.Definitions.Stored.{ComponentOk}
 use Rattle.semantics.specs.Definitions.Moves.{inside, moved, moves, answerTo, Inner, evolves, noRule, outOfRange, inner, innerLocal, ruleNumber}
-use Rattle.semantics.specs.Claims.InnerMoves.{weight, Settled, Moves, unmoved, movedOn, MovesLowerWeight, MovesGoOn, SettledRests, OneOutcome, MovesSettleFirstPath}
+use Rattle.semantics.specs.Claims.InnerMoves.{weight, Settled, Moves, unmoved, movedOn, MovesLowerWeight, MovesGoOn, SettledHasNoRule, OneOutcome, MovesSettleFirstPath}
 use Rattle.theorems.proofs.Measures.{tree-branches-positive}
 use Rattle.theorems.proofs.Lists.{found-below, length-replaceAt, all-at}
 use Rattle.theorems.proofs.Moves.{positionOf, localMove, accepted-inverts, Moving, inner-induction}
@@ -75,16 +75,16 @@ mover s (fork (leaf (orElseT n M N) δ) r) h = left-mover s (leaf (orElseT n M N
 mover s (fork (fork l m) r) h = left-mover s (fork l m) r (mover s (fork l m) (λ x. x))
 
 -- and a single end or retry leaf has none
-pub settled-rests : SettledRests
-unfolding SettledRests inner
-settled-rests s (leaf (endT n) δ) h zero r v e = let z : _≡_ {A = ℕ} 0 1 = cc in omega arith
-settled-rests s (leaf (endT n) δ) h (suc k) r v e = let z : _≡_ {A = ℕ} 0 1 = cc in omega arith
-settled-rests s (leaf (retryT n) δ) h zero r v e = let z : _≡_ {A = ℕ} 0 1 = cc in omega arith
-settled-rests s (leaf (retryT n) δ) h (suc k) r v e = let z : _≡_ {A = ℕ} 0 1 = cc in omega arith
-settled-rests s (leaf (rdT n a M) δ) h k r v e = h
-settled-rests s (leaf (wtT n a M) δ) h k r v e = h
-settled-rests s (leaf (orElseT n M N) δ) h k r v e = h
-settled-rests s (fork l m) h k r v e = h
+pub settled-has-no-rule : SettledHasNoRule
+unfolding SettledHasNoRule inner
+settled-has-no-rule s (leaf (endT n) δ) h zero r v e = let z : _≡_ {A = ℕ} 0 1 = cc in omega arith
+settled-has-no-rule s (leaf (endT n) δ) h (suc k) r v e = let z : _≡_ {A = ℕ} 0 1 = cc in omega arith
+settled-has-no-rule s (leaf (retryT n) δ) h zero r v e = let z : _≡_ {A = ℕ} 0 1 = cc in omega arith
+settled-has-no-rule s (leaf (retryT n) δ) h (suc k) r v e = let z : _≡_ {A = ℕ} 0 1 = cc in omega arith
+settled-has-no-rule s (leaf (rdT n a M) δ) h k r v e = h
+settled-has-no-rule s (leaf (wtT n a M) δ) h k r v e = h
+settled-has-no-rule s (leaf (orElseT n M N) δ) h k r v e = h
+settled-has-no-rule s (fork l m) h k r v e = h
 
 -- ---- the one end
 

@@ -17,7 +17,7 @@ pub mod AnyOrder
 pub mod Limits
 pub mod Outcome
 pub mod InnerMoves
-pub mod PrintedMoves
+pub mod StatedMoves
 pub mod Simulation
 pub mod PathClause
 pub mod Runs

@@ -24,7 +24,7 @@ use Rattle.semantics.specs.Definitions.Moves.{Entry, moved, answerTo, effectOf,
 use Rattle.semantics.specs.Definitions.Run.{Counters, Step, steps, finalConfiguration}
 use Rattle.semantics.specs.Claims.NumberedRun.{Numbered, numberedStart, numberedStep, numberedRun, gainedSince}
 use Rattle.semantics.specs.Claims.InnerMoves.{Moves, MovesSettleFirstPath}
-use Rattle.semantics.specs.Claims.Atomicity.{AttemptOpened, CommitOk, AttemptsOk}
+use Rattle.semantics.specs.Claims.Atomicity.{AttemptBegun, CommitOk, AttemptsOk}
 use Rattle.theorems.proofs.Readable.{readable-included, included-readable}
 use Rattle.theorems.proofs.InnerMoves.{moves-settle-first-path}
 use Rattle.theorems.proofs.Lists.{none-found, found-at, found-below, found-map, found-back, all-at, all-every, all-weaken, all-map, all-replaceAt}
@@ -265,7 +265,7 @@ module _ (t : Table) (first : Counters) (es : List Entry) where
   -- an attempt on the list was opened by the choice whose number its note has
   opened-at : (j : ℕ) (k : Standing H j (at j) (runAt j)) (q i n : ℕ) (M : Expression) (s : State) (u : Tree) →
       getElem? (k .live) q ≡ some (tries i n M s u) →
-      (o : AttemptOpened t first es j q n M) × (o .step .before .counts ≡ s) × Moves s (leaf M emptyLog) u ×
+      (o : AttemptBegun t first es j q n M) × (o .step .before .counts ≡ s) × Moves s (leaf M emptyLog) u ×
       (gainedSince (o .opener) (map (λ u. u .rule) (take j H)) ≡ [] → NoMore (at j .counts) s)
   opened-at j k q i n M s u f =
       let own : Known H j (at j .counts) i s = all-at (KnownLive H j (at j .counts)) (k .live) q (tries i n M s u) (k .known) f in
@@ -277,7 +277,7 @@ module _ (t : Table) (first : Counters) (es : List Entry) where
           step = own .step;
           found = own .found;
           starts = own .starts;
-          noted = rw (own .met) there;
+          note-made = rw (own .met) there;
         },
         own .met,
         all-at Evolved (k .live) q (tries i n M s u) (k .paced .each) f,

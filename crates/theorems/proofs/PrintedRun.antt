@@ -21,8 +21,8 @@ use Rattle.semantics.specs.Definitions.Stored.{WellFormed, hallBytes, bytesOf, 
 use Rattle.semantics.specs.Definitions.Run.{freshCounters, run}
 use Rattle.semantics.specs.Definitions.Calls.{opened, openSized, openTested, openHall, runResult}
 use Rattle.semantics.specs.Definitions.Report.{report, tableSize, splitReport, sizedReport, printedRun}
-use Rattle.semantics.specs.Claims.Correspondence.{Accepts}
-use Rattle.semantics.specs.Checks.PrintedRun.{TableEnds, at-start, past-record, TablePart, up-to-start, all-of-it, TableFound, AcceptedIsFound, PrintedLong, PrintedRefused, PrintedAsCalls}
+use Rattle.semantics.specs.Claims.Correspondence.{AcceptsTable}
+use Rattle.semantics.specs.Checks.PrintedRun.{TableEnds, at-start, after-record, TablePart, up-to-start, all-of-it, TableFound, AcceptedIsFound, PrintedLong, PrintedRefused, PrintedAsCalls}
 use Rattle.theorems.proofs.GoodTable.{accepted-is-good}
 use Rattle.semantics.specs.Checks.AcceptedTables.{kindByte}
 use Rattle.theorems.proofs.RecordShapes.{kind-number, ContentReason, said-reason}
@@ -38,7 +38,7 @@ size-of : (f : ℕ) (bs : List ℕ) (n : ℕ) → TableEnds bs n → length bs <
 unfolding tableSize bind
 size-of zero bs n x h = absurd (omega arith)
 size-of (suc f) bs n at-start h = refl
-size-of (suc f) bs n (past-record {k = k} {n = m} {bs = rest} K e ne x) h =
+size-of (suc f) bs n (after-record {k = k} {n = m} {bs = rest} K e ne x) h =
     rw (ne-eqb k 13 ne, e, size-of f (drop (length (fields K)) rest) m x (simp length-drop (omega arith))) refl
 
 -- and where they go, the relation says so
@@ -57,7 +57,7 @@ ends-at (suc f) (k ∷ bs) n e = from (eqb k 13) refl e (λ size m. ends-at f (d
     over K named ne none p q later = let z : _≡_ {A = ℕ} 0 1 = cc in absurd (omega arith)
     over K named ne (some m) p q later =
         let z : suc (length (fields K)) + m ≡ n = cc in
-        rw (← z) (past-record K named ne (later (length (fields K)) m p))
+        rw (← z) (after-record K named ne (later (length (fields K)) m p))
 
     by-kind : (o : Option Kind) → kindOf k ≡ o → k ≢ 13 → bind o (λ K. rest (length (fields K))) ≡ some n →
         ((size m : ℕ) → tableSize f (drop size bs) ≡ some m → TableEnds (drop size bs) m) → TableEnds (k ∷ bs) n
@@ -126,7 +126,7 @@ module _ (cs : List ℕ) where
       let size = length (fields K) in
       let n : suc size + length (drop size rest) ≡ suc (length rest) = simp length-drop (omega arith) in
       rw (← n)
-      (past-record {n = length (drop size rest)} {bs = rest ++ cs} K named ne
+      (after-record {n = length (drop size rest)} {bs = rest ++ cs} K named ne
       (rw (drop-append-le size rest cs whole) x))
 
   closed-ends : (r : Reading) (P : Program) (k at : ℕ) (rest : List ℕ) → k ≡ 13 → 1 ≤ length rest →

@@ -10,7 +10,7 @@ use lib.ListN.{length, getD, getElem?}
 use Rattle.semantics.specs.Definitions.Terms.{Expression, Program, Term, process, expression}
 use Rattle.semantics.specs.Definitions.Table.{Kind, nilK, putK, takeK, repeatK, parK, atomK, endK, retryK, rdK, wtK, orElseK, tokensK, startK, kinds, kindOf, Field, channelF, programF, expressionF, amountF, fields, asProgram, asExpression, Content, termRecord, tokensRecord, startRecord, recordContent}
 use Rattle.semantics.specs.Checks.AcceptedTables.{kindByte}
-use Rattle.semantics.specs.Checks.Conditions.{printedBodies, Body, RecordAsPrinted, nil1, put2, take3, repeat4, par5, atom6, end7, retry8, rd9, wt10, orElse11, tokens12, start13, ReadAsPrinted}
+use Rattle.semantics.specs.Checks.Conditions.{statedBodies, Body, RecordAsStated, nil1, put2, take3, repeat4, par5, atom6, end7, retry8, rd9, wt10, orElse11, tokens12, start13, ReadAsStated}
 use Rattle.theorems.proofs.Lists.{none-found, found-below, found-at, none-past, found-map}
 
 -- ---- kinds and their numbers
@@ -79,24 +79,24 @@ said-reason ts bs startK = (refl, refl)
 -- ---- the printed bodies
 
 -- the fields of each kind are the body that is printed for its number
-bodies-as-printed : map (λ K. (kindByte K, fields K)) kinds ≡ printedBodies
-unfolding kinds fields printedBodies
-bodies-as-printed = refl
+bodies-as-stated : map (λ K. (kindByte K, fields K)) kinds ≡ statedBodies
+unfolding kinds fields statedBodies
+bodies-as-stated = refl
 
 pub body-of : (k : ℕ) (K : Kind) → kindOf k ≡ some K → Body k (fields K)
 unfolding kindOf
 body-of zero K e = absurd (let z : _≡_ {A = ℕ} 0 1 = cc in omega arith)
 body-of (suc j) K e =
-    (j, rw (kind-number (suc j) K e, ← bodies-as-printed) (found-map (λ L. (kindByte L, fields L)) kinds j K e))
+    (j, rw (kind-number (suc j) K e, ← bodies-as-stated) (found-map (λ L. (kindByte L, fields L)) kinds j K e))
 
 pub body-is : (k : ℕ) (K : Kind) → kindOf k ≡ some K → (fs : List Field) → Body k fs → fs ≡ fields K
-unfolding kindOf kinds printedBodies
-body-is k K e fs (i, g) = go (found-at kinds i (found-below printedBodies i (k, fs) g))
+unfolding kindOf kinds statedBodies
+body-is k K e fs (i, g) = go (found-at kinds i (found-below statedBodies i (k, fs) g))
   where
     go : (L : Kind) × (getElem? kinds i ≡ some L) → fs ≡ fields K
     go (L, q) =
         let row : _≡_ {A = Option (ℕ × List Field)} (some (kindByte L, fields L)) (some (k, fs)) =
-        sym (found-map (λ J. (kindByte J, fields J)) kinds i L q) ∙ ap (λ rows. getElem? rows i) bodies-as-printed ∙
+        sym (found-map (λ J. (kindByte J, fields J)) kinds i L q) ∙ ap (λ rows. getElem? rows i) bodies-as-stated ∙
         g in
         let same : _≡_ {A = ℕ × List Field} (kindByte L, fields L) (k, fs) = cc in
         let number : suc i ≡ k = kind-number (suc i) L q ∙ ap (λ x. x .0) same in
@@ -105,21 +105,21 @@ body-is k K e fs (i, g) = go (found-at kinds i (found-below printedBodies i (k, 
 
 -- ---- what a record says
 
-pub read-as-printed : ReadAsPrinted
-unfolding ReadAsPrinted
-read-as-printed ts k bs w c nil1 = (nilK, refl, refl, refl)
-read-as-printed ts k bs w c put2 = (putK, refl, refl, refl)
-read-as-printed ts k bs w c (take3 e) = (takeK, refl, refl, rw e refl)
-read-as-printed ts k bs w c (repeat4 e) = (repeatK, refl, refl, rw e refl)
-read-as-printed ts k bs w c (par5 e f) = (parK, refl, refl, rw (e, f) refl)
-read-as-printed ts k bs w c (atom6 e) = (atomK, refl, refl, rw e refl)
-read-as-printed ts k bs w c end7 = (endK, refl, refl, refl)
-read-as-printed ts k bs w c retry8 = (retryK, refl, refl, refl)
-read-as-printed ts k bs w c (rd9 e) = (rdK, refl, refl, rw e refl)
-read-as-printed ts k bs w c (wt10 e) = (wtK, refl, refl, rw e refl)
-read-as-printed ts k bs w c (orElse11 e f) = (orElseK, refl, refl, rw (e, f) refl)
-read-as-printed ts k bs w c tokens12 = (tokensK, refl, refl, refl)
-read-as-printed ts k bs w c (start13 e) = (startK, refl, refl, rw e refl)
+pub read-as-stated : ReadAsStated
+unfolding ReadAsStated
+read-as-stated ts k bs w c nil1 = (nilK, refl, refl, refl)
+read-as-stated ts k bs w c put2 = (putK, refl, refl, refl)
+read-as-stated ts k bs w c (take3 e) = (takeK, refl, refl, rw e refl)
+read-as-stated ts k bs w c (repeat4 e) = (repeatK, refl, refl, rw e refl)
+read-as-stated ts k bs w c (par5 e f) = (parK, refl, refl, rw (e, f) refl)
+read-as-stated ts k bs w c (atom6 e) = (atomK, refl, refl, rw e refl)
+read-as-stated ts k bs w c end7 = (endK, refl, refl, refl)
+read-as-stated ts k bs w c retry8 = (retryK, refl, refl, refl)
+read-as-stated ts k bs w c (rd9 e) = (rdK, refl, refl, rw e refl)
+read-as-stated ts k bs w c (wt10 e) = (wtK, refl, refl, rw e refl)
+read-as-stated ts k bs w c (orElse11 e f) = (orElseK, refl, refl, rw (e, f) refl)
+read-as-stated ts k bs w c tokens12 = (tokensK, refl, refl, refl)
+read-as-stated ts k bs w c (start13 e) = (startK, refl, refl, rw e refl)
 
 -- bytes for these fields, with the terms that they refer to
 pub data Fits (ts : List Term) : List Field → List ℕ → Type 0 where
@@ -134,7 +134,7 @@ pub data Fits (ts : List Term) : List Field → List ℕ → Type 0 where
 
 -- a record with such a body is printed as it is read
 pub printed-as-read : (ts : List Term) (K : Kind) (bs : List ℕ) → Fits ts (fields K) bs →
-    RecordAsPrinted ts (kindByte K ∷ bs) (suc (length (fields K))) (recordContent ts bs K)
+    RecordAsStated ts (kindByte K ∷ bs) (suc (length (fields K))) (recordContent ts bs K)
 unfolding fields recordContent asProgram asExpression
 printed-as-read ts nilK bs no-field = nil1
 printed-as-read ts putK bs (a-channel no-field) = put2

@@ -48,7 +48,7 @@ component (tries i n M s u) = transaction n M s u
 -- its station in the numbered run
 abbrev pub noted : Live → WithNote Note
 noted (rests c) = record { station = c; note = none }
-noted (tries i n M s u) = record { station = block n M; note = some (record { counts = s; opened = i }) }
+noted (tries i n M s u) = record { station = block n M; note = some (record { counts = s; begun = i }) }
 
 -- a transaction has come from its block by moves inside it
 abbrev pub Evolved : Live → Type 0
@@ -318,14 +318,14 @@ unnumbered-putting a p σ cs c =
 
 -- kind 1 at a component with its note, by number j
 unnumbered-station : (j : ℕ) (a : Atomic Note) (p : ℕ) (c : Idle) (o : Option Note) →
-    unnumbered (stepComponent (λ m. m .counts) (λ σ. record { counts = σ; opened = j }) a p c o)
+    unnumbered (stepComponent (λ m. m .counts) (λ σ. record { counts = σ; begun = j }) a p c o)
     ≡ stepComponent (λ σ. σ) (λ σ. σ) (unnumbered a) p c (Option·map (λ m. m .counts) o)
 unfolding unnumbered stepComponent
 unnumbered-station j a p (output b) o = unnumbered-putting a p _ [] _
 unnumbered-station j a p (taking n b P) o = unnumbered-putting a p _ (opens P) _
 unnumbered-station j a p (repeating n b P) o = unnumbered-putting a p _ (opens P ++ (repeating n b P ∷ [])) _
 unnumbered-station j a p (block n M) none =
-    let begun : WithNote Note = record { station = block n M; note = some (record { counts = a .counts; opened = j }) } in
+    let begun : WithNote Note = record { station = block n M; note = some (record { counts = a .counts; begun = j }) } in
     λ i. record { counts = a .counts; stations = map-replaceAt unnumber (a .stations) (begun ∷ []) p i; counters = a .counters }
 unnumbered-station j a p (block n M) (some m) = go (firstReadable (m .counts) M)
   where
@@ -350,7 +350,7 @@ unnumbered-fed a (act p) = rw (found-map? unnumber (a .run .stations) p) (go (ge
         (Option·elim
         o
         (a .run)
-        (λ x. stepComponent (λ m. m .counts) (λ σ. record { counts = σ; opened = a .next }) (a .run) p (x .station) (x .note)))
+        (λ x. stepComponent (λ m. m .counts) (λ σ. record { counts = σ; begun = a .next }) (a .run) p (x .station) (x .note)))
         ≡ Option·elim
         (Option·map unnumber o)
         (unnumbered (a .run))

@@ -16,7 +16,7 @@ use Rattle.calculus.specs.Syntax.{Name, rd, Log, State, Process, nil, rep, par,
 use Rattle.calculus.specs.State.{count, Plus}
 use Rattle.calculus.specs.Log.{WT}
 use Rattle.calculus.specs.Reduction.{Rule, Label, by, ardok, ardf, awr, aoi, aof, aoe, aol, aor, nodesOf, nodeOf, EvolvesAt, outputs, LogOrder, AnyOrder, Reduces, OUTr, INr, REPr, PARL, PARR, ATSTr, ATPASS, ATREr, ATFAILr, ATOKr}
-use Rattle.calculus.proofs.Reductions.{as-printed}
+use Rattle.calculus.proofs.Reductions.{as-stated}
 use Rattle.semantics.specs.Definitions.Basics.{replaceAt}
 use Rattle.semantics.specs.Definitions.Terms.{Expression, endT, retryT, rdT, wtT, orElseT, Program, nilT, putT, takeT, repeatT, parT, atomT, Term}
 use Rattle.semantics.specs.Definitions.Logs.{emptyLog, readable, addToken, takeToken}
@@ -269,7 +269,7 @@ chosen-reduces h (act p) r g x =
       after = Q;
       laid = ds;
       found = found;
-      reduces = as-printed d;
+      reduces = as-stated d;
       stands = s;
       placed = placed;
     }

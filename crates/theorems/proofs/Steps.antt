@@ -14,7 +14,7 @@ use Rattle.semantics.specs.Definitions.Moves.{Entry, act, inside, Answer, moved
 use Rattle.semantics.specs.Definitions.Run.{Counters, counted, entry, schedule, continueRun, runFrom, run}
 use Rattle.semantics.specs.Definitions.Calls.{Admission, admitted, notAdmitted, admission, Buffers, RunCall, runResult, runAdmitted, runCall, StepCall, stepBytes, firstRule, stepCall, stepChoice, callAnswer}
 use Rattle.semantics.specs.Checks.Conditions.{HallNumbers, ChoiceNumbers, RefusalNumbers}
-use Rattle.semantics.specs.Checks.Steps.{Names, names-act, names-inside, StepAsPrinted, not-admitted, kind-unknown, is-refused, has-moved, StepsAsPrinted, StepNumbers, NodeOfKind1, StepIsCall}
+use Rattle.semantics.specs.Checks.Steps.{Names, names-act, names-inside, StepCallAsStated, not-admitted, kind-unknown, is-refused, has-moved, StepCallsAsStated, StepCallNumbers, NodeOfKind1, StepIsCall}
 use Rattle.theorems.proofs.HallConditions.{hall-numbers, refusal-numbers}
 use Rattle.theorems.proofs.ChoiceConditions.{choice-numbers}
 use Rattle.theorems.proofs.CallConditions.{choice-range}
@@ -85,7 +85,7 @@ module _ (table : List ℕ) (l : Buffers) (table-bytes : Bytes table) (hall-byte
       let same = same-buffers t h e in λ i. record { number = n; place = 0; rule = 0; buffers = same i }
 
   module _ (kind p k : ℕ) where
-    printed-so : (a : StepCall) → StepAsPrinted table l kind p k a → stepCall table l kind p k ≡ a
+    printed-so : (a : StepCall) → StepCallAsStated table l kind p k a → stepCall table l kind p k ≡ a
     unfolding answered
     printed-so a (not-admitted {n} {p = q} e) = step-turned-down table l n q kind p k e
     printed-so a (kind-unknown {t} {h} e one two) =
@@ -96,24 +96,24 @@ module _ (table : List ℕ) (l : Buffers) (table-bytes : Bytes table) (hall-byte
         step-answered table l t h e named ∙ ap (answered h l w) q
 
     named-printed : (t : Table) (h : Configuration) → admission table (l .hall) ≡ admitted t h → (d : Entry) (w : ℕ) →
-        Names kind p k d w → StepAsPrinted table l kind p k (stepCall table l kind p k)
+        Names kind p k d w → StepCallAsStated table l kind p k (stepCall table l kind p k)
     unfolding answered
     named-printed t h e d w named = rw (step-answered table l t h e named) (go (answerTo h d) refl)
       where
-        go : (a : Answer) → answerTo h d ≡ a → StepAsPrinted table l kind p k (answered h l w a)
+        go : (a : Answer) → answerTo h d ≡ a → StepCallAsStated table l kind p k (answered h l w a)
         go (moved r g) q = has-moved e named q
         go (refused n) q = rw (refused-as t h e w n) (is-refused e named q)
 
   -- every step has one of the printed answers
   unknown-printed : (kind p k : ℕ) (t : Table) (h : Configuration) → admission table (l .hall) ≡ admitted t h → kind ≢ 1 → kind ≢ 2 →
-      StepAsPrinted table l kind p k (stepCall table l kind p k)
+      StepCallAsStated table l kind p k (stepCall table l kind p k)
   unknown-printed kind p k t h e one two =
       rw (step-unknown table l t h e kind p k one two ∙ refused-as t h e 0 12) (kind-unknown e one two)
 
-  printed : (kind p k : ℕ) → StepAsPrinted table l kind p k (stepCall table l kind p k)
+  printed : (kind p k : ℕ) → StepCallAsStated table l kind p k (stepCall table l kind p k)
   printed kind p k = go (admission table (l .hall)) refl kind
     where
-      go : (a : Admission) → admission table (l .hall) ≡ a → (kind : ℕ) → StepAsPrinted table l kind p k (stepCall table l kind p k)
+      go : (a : Admission) → admission table (l .hall) ≡ a → (kind : ℕ) → StepCallAsStated table l kind p k (stepCall table l kind p k)
       go (notAdmitted n q) e kind = rw (step-turned-down table l n q kind p k e) (not-admitted e)
       go (admitted t h) e zero = unknown-printed 0 p k t h e (λ x. omega arith) (λ x. omega arith)
       go (admitted t h) e (suc zero) = named-printed 1 p k t h e (act p) 2 names-act
@@ -121,10 +121,10 @@ module _ (table : List ℕ) (l : Buffers) (table-bytes : Bytes table) (hall-byte
       go (admitted t h) e (suc (suc (suc n))) =
           unknown-printed (suc (suc (suc n))) p k t h e (λ x. omega arith) (λ x. omega arith)
 
-pub steps-as-printed : StepsAsPrinted
-unfolding StepsAsPrinted
-steps-as-printed table l table-bytes hall-bytes kind p k a = (
-  λ e. subst (StepAsPrinted table l kind p k) e (printed table l table-bytes hall-bytes kind p k),
+pub step-calls-as-stated : StepCallsAsStated
+unfolding StepCallsAsStated
+step-calls-as-stated table l table-bytes hall-bytes kind p k a = (
+  λ e. subst (StepCallAsStated table l kind p k) e (printed table l table-bytes hall-bytes kind p k),
   printed-so table l table-bytes hall-bytes kind p k a,
 )
 
@@ -161,7 +161,7 @@ Numbered l kind a =
     (1 ≤ a .rule) × (a .rule ≤ 13) × (((kind ≡ 1) × (a .place ≡ 2)) ⊎ ((kind ≡ 2) × (a .place ≡ 3))))
 
 printed-numbered : (table : List ℕ) (l : Buffers) → Bytes table → Bytes (l .hall) → (kind p k : ℕ) (a : StepCall) →
-    StepAsPrinted table l kind p k a → Numbered l kind a
+    StepCallAsStated table l kind p k a → Numbered l kind a
 unfolding RefusalNumbers HallNumbers ChoiceNumbers
 printed-numbered table l tb hb kind p k a (not-admitted {n} {p = q} e) =
     let range = refusal-numbers table (l .hall) n q .3 e in
@@ -175,9 +175,9 @@ printed-numbered table l tb hb kind p k a (is-refused {t} {h} {e = d} {n = n} e 
 printed-numbered table l tb hb kind p k a (has-moved {r = r} e named q) =
     ((λ ne. absurd (ne refl), λ late. absurd (omega arith)), λ z. (rule-range r .0, rule-range r .1, place-of named))
 
-pub step-numbers : StepNumbers
-unfolding StepNumbers
-step-numbers table l tb hb kind p k =
+pub step-call-numbers : StepCallNumbers
+unfolding StepCallNumbers
+step-call-numbers table l tb hb kind p k =
     printed-numbered table l tb hb kind p k (stepCall table l kind p k) (printed table l tb hb kind p k)
 
 pub node-of-kind-1 : NodeOfKind1

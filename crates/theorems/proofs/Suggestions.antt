@@ -15,7 +15,7 @@ use Rattle.semantics.specs.Definitions.Configuration.{Configuration}
 use Rattle.semantics.specs.Definitions.Moves.{Entry, act, inside, Answer, moved, refused, answerTo}
 use Rattle.semantics.specs.Definitions.Run.{Counters, schedule, entries, entryBytes, InBytes, RunAnswer, continueRun, runFrom, run}
 use Rattle.semantics.specs.Definitions.Calls.{Admission, admitted, notAdmitted, admission, runResult, runAdmitted, runCall, SuggestAnswer, suggested, still, notSuggested, IsMoved, IsRefused, Quiescent, Suggestable, SuggestAdmitted, SuggestAllowed}
-use Rattle.semantics.specs.Checks.PrintedSuggestions.{AnswerAsPrinted, act-accepted, inside-accepted, none-accepted, turned-down, AllowedAsPrinted}
+use Rattle.semantics.specs.Checks.StatedSuggestions.{AnswerAsStated, act-accepted, inside-accepted, none-accepted, not-admitted, AllowedAsStated}
 use Rattle.semantics.specs.Claims.Suggestions.{SuggestionExists, SuggestedRuns, StillRunsNone}
 
 -- ---- what is allowed
@@ -37,35 +37,35 @@ never-moved (refused n) m = tt
 module _ (table hall : List ℕ) where
   -- on an admitted hall: an accepted choice, and still where none is
   choice-printed : {t : Table} {h : Configuration} → admission table hall ≡ admitted t h → (d : Entry) →
-      InBytes d × IsMoved (answerTo h d) → AnswerAsPrinted table hall (suggested d)
+      InBytes d × IsMoved (answerTo h d) → AnswerAsStated table hall (suggested d)
   unfolding InBytes
   choice-printed {h = h} e (act p) s = is-moved (answerTo h (act p)) (s .1) (λ r g q. act-accepted e (s .0) q)
   choice-printed {h = h} e (inside p k) s =
       is-moved (answerTo h (inside p k)) (s .1) (λ r g q. inside-accepted e (s .0 .0) (s .0 .1) q)
 
   still-printed : {t : Table} {h : Configuration} → admission table hall ≡ admitted t h →
-      ((d : Entry) → InBytes d → IsRefused (answerTo h d)) → AnswerAsPrinted table hall still
+      ((d : Entry) → InBytes d → IsRefused (answerTo h d)) → AnswerAsStated table hall still
   unfolding InBytes
   still-printed {h = h} e s =
       none-accepted e (λ p r g b q. not-moved (answerTo h (act p)) r g (s (act p) b) q)
       (λ p k r g b c q. not-moved (answerTo h (inside p k)) r g (s (inside p k) (b, c)) q)
 
   -- what the definition allows is as printed
-  allowed-printed : (a : SuggestAnswer) → SuggestAllowed table hall a → AnswerAsPrinted table hall a
+  allowed-printed : (a : SuggestAnswer) → SuggestAllowed table hall a → AnswerAsStated table hall a
   unfolding SuggestAllowed SuggestAdmitted Suggestable Quiescent
   allowed-printed a s = go (admission table hall) refl a s
     where
       go : (d : Admission) → admission table hall ≡ d → (a : SuggestAnswer) → SuggestAdmitted d a →
-          AnswerAsPrinted table hall a
+          AnswerAsStated table hall a
       go (admitted t h) e (suggested d) s = choice-printed e d s
       go (admitted t h) e still s = still-printed e s
       go (admitted t h) e (notSuggested n p) s = absurd s
       go (notAdmitted n p) e (suggested d) s = absurd s
       go (notAdmitted n p) e still s = absurd s
-      go (notAdmitted n p) e (notSuggested m q) s = rw (s .0, s .1) (turned-down e)
+      go (notAdmitted n p) e (notSuggested m q) s = rw (s .0, s .1) (not-admitted e)
 
   -- and back
-  printed-allowed : {a : SuggestAnswer} → AnswerAsPrinted table hall a → SuggestAllowed table hall a
+  printed-allowed : {a : SuggestAnswer} → AnswerAsStated table hall a → SuggestAllowed table hall a
   unfolding SuggestAllowed SuggestAdmitted Suggestable Quiescent InBytes
   printed-allowed (act-accepted e b q) = rw (e, q) (b, tt)
   printed-allowed (inside-accepted e b c q) = rw (e, q) ((b, c), tt)
@@ -74,11 +74,11 @@ module _ (table hall : List ℕ) where
       at : (d : Entry) → InBytes d → IsRefused (answerTo h d)
       at (act p) b = never-moved (answerTo h (act p)) (λ r k q. f p r k b q)
       at (inside p k) b = never-moved (answerTo h (inside p k)) (λ r c q. g p k r c (b .0) (b .1) q)
-  printed-allowed (turned-down e) = rw e (refl, refl)
+  printed-allowed (not-admitted e) = rw e (refl, refl)
 
-pub allowed-as-printed : AllowedAsPrinted
-unfolding AllowedAsPrinted
-allowed-as-printed table hall a = (allowed-printed table hall a, printed-allowed table hall)
+pub allowed-as-stated : AllowedAsStated
+unfolding AllowedAsStated
+allowed-as-stated table hall a = (allowed-printed table hall a, printed-allowed table hall)
 
 -- ---- a search over numbers
 
@@ -202,11 +202,11 @@ firstAnswer none = still
 firstAnswer (some e) = suggested e
 
 pub first-printed : (table hall : List ℕ) (t : Table) (h : Configuration) → admission table hall ≡ admitted t h →
-    AnswerAsPrinted table hall (firstAnswer (firstAccepted h))
+    AnswerAsStated table hall (firstAnswer (firstAccepted h))
 unfolding firstAnswer firstAccepted
 first-printed table hall t h e = go (firstAccepted h) refl
   where
-    go : (o : Option Entry) → firstAccepted h ≡ o → AnswerAsPrinted table hall (firstAnswer o)
+    go : (o : Option Entry) → firstAccepted h ≡ o → AnswerAsStated table hall (firstAnswer o)
     go none q = still-printed table hall e (none-anywhere h q)
     go (some d) q =
         let (p, l, f) = found-somewhere (acceptedAt h) 0 256 d q in
@@ -219,7 +219,7 @@ suggestion-exists table hall = go (admission table hall) refl
   where
     go : (a : Admission) → admission table hall ≡ a → (x : SuggestAnswer) × SuggestAllowed table hall x
     go (admitted t h) e = (firstAnswer (firstAccepted h), printed-allowed table hall (first-printed table hall t h e))
-    go (notAdmitted n p) e = (notSuggested n p, printed-allowed table hall (turned-down e))
+    go (notAdmitted n p) e = (notSuggested n p, printed-allowed table hall (not-admitted e))
 
 -- ---- what runs
 

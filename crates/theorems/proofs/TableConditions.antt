@@ -19,10 +19,10 @@ use Rattle.calculus.specs.State.{count}
 use Rattle.semantics.specs.Definitions.Basics.{firstOf}
 use Rattle.semantics.specs.Definitions.Terms.{Program, Term, process, expression, width, branches, pathLength}
 use Rattle.semantics.specs.Definitions.Table.{Kind, kindOf, Field, channelF, programF, expressionF, amountF, fields, Reading, Table, TableAnswer, accepted, refusedAt, isProgram, isExpression, Content, termRecord, tokensRecord, startRecord, recordContent, anyField, tooManyTerms, channelOutOfRange, forwardReference, classMismatch, overLimit, badTokens, Test, tests, RecordOutcome, stop, more, tableEnd, recordPassed, recordTested, recordOfKind, readRecord, thenRead, readFrom, emptyReading, readTable}
-use Rattle.semantics.specs.Checks.Conditions.{Body, BodyByte, RecordAsPrinted, start13, ReadAsPrinted, TableCondition, kind-unknown, body-short, terms-many, channel-over, reference-later, class-expression, class-process, width-over, paths-over, tokens-none, tokens-again, byte-follows, start-missing, NoCondition, Reached, at-first, past-term, past-tokens, TableRefused, TableAccepted, TableNumbers}
+use Rattle.semantics.specs.Checks.Conditions.{Body, BodyByte, RecordAsStated, start13, ReadAsStated, TableCondition, kind-unknown, body-short, terms-many, channel-over, forward-reference, class-expression, class-process, width-over, paths-over, tokens-none, tokens-again, byte-follows, start-missing, NoCondition, Reached, at-first, after-term, after-tokens, TableRefused, TableAccepted, TableNumbers}
 use Rattle.theorems.proofs.Lists.{none-found, found-below, none-past}
 use Rattle.semantics.specs.Checks.AcceptedTables.{kindByte}
-use Rattle.theorems.proofs.RecordShapes.{kind-number, kind-within, kind-positive, kind-without, ContentReason, said-reason, body-of, body-is, read-as-printed, Fits, no-field, a-channel, a-program, an-expression, an-amount, printed-as-read}
+use Rattle.theorems.proofs.RecordShapes.{kind-number, kind-within, kind-positive, kind-without, ContentReason, said-reason, body-of, body-is, read-as-stated, Fits, no-field, a-channel, a-program, an-expression, an-amount, printed-as-read}
 
 -- ---- a test on all fields
 
@@ -58,7 +58,7 @@ condition-number r n o bs (kind-unknown e) = omega arith
 condition-number r n o bs (body-short fs e f) = omega arith
 condition-number r n o bs (terms-many e f g) = omega arith
 condition-number r n o bs (channel-over b e f) = omega arith
-condition-number r n o bs (reference-later b e f) = omega arith
+condition-number r n o bs (forward-reference b e f) = omega arith
 condition-number r n o bs (class-expression b M e f) = omega arith
 condition-number r n o bs (class-process b P e f) = omega arith
 condition-number r n o bs (width-over e f) = omega arith
@@ -79,7 +79,7 @@ condition-offset r n o bs (kind-unknown e) = refl
 condition-offset r n o bs (body-short fs e f) = refl
 condition-offset r n o bs (terms-many e f g) = refl
 condition-offset r n o bs (channel-over b e f) = refl
-condition-offset r n o bs (reference-later b e f) = refl
+condition-offset r n o bs (forward-reference b e f) = refl
 condition-offset r n o bs (class-expression b M e f) = refl
 condition-offset r n o bs (class-process b P e f) = refl
 condition-offset r n o bs (width-over e f) = refl
@@ -224,17 +224,17 @@ module _ (r : Reading) (k : ℕ) (bs : List ℕ) (K : Kind) (named : kindOf k �
   unfolding forwardReference
   reference-fails i channelF b e f g = absurd (false-true g)
   reference-fails i programF b e f g =
-      reference-later b (inl (field-byte programF b i e f)) (leb-true (length (r .terms)) b g)
+      forward-reference b (inl (field-byte programF b i e f)) (leb-true (length (r .terms)) b g)
   reference-fails i expressionF b e f g =
-      reference-later b (inr (field-byte expressionF b i e f)) (leb-true (length (r .terms)) b g)
+      forward-reference b (inr (field-byte expressionF b i e f)) (leb-true (length (r .terms)) b g)
   reference-fails i amountF b e f g = absurd (false-true g)
 
   reference-fine : FieldFails (forwardReference (r .terms)) (fields K) bs false → (o : ℕ) → TableCondition r 5 o (k ∷ bs) → ⊥
   unfolding forwardReference
-  reference-fine h o (reference-later b (inl e) l) =
+  reference-fine h o (forward-reference b (inl e) l) =
       let (i, f, g) =
       byte-field programF b e in let z = leb-false (length (r .terms)) b (h i programF b f g) in omega arith
-  reference-fine h o (reference-later b (inr e) l) =
+  reference-fine h o (forward-reference b (inr e) l) =
       let (i, f, g) =
       byte-field expressionF b e in let z = leb-false (length (r .terms)) b (h i expressionF b f g) in omega arith
 
@@ -253,7 +253,7 @@ module _ (r : Reading) (k : ℕ) (bs : List ℕ) (K : Kind) (named : kindOf k �
     where
       go : (t : Option Term) → getElem? (r .terms) b ≡ t → not (isProgram t) ≡ true → TableCondition r 6 0 (k ∷ bs)
       go none q p =
-          let later = reference-later b (inl (field-byte programF b i e f)) (none-past (r .terms) b q) in
+          let later = forward-reference b (inl (field-byte programF b i e f)) (none-past (r .terms) b q) in
           absurd (clear 5 0 (omega arith) later)
       go (some (process P)) q p = absurd (false-true p)
       go (some (expression M)) q p = class-expression b M (field-byte programF b i e f) q
@@ -261,7 +261,7 @@ module _ (r : Reading) (k : ℕ) (bs : List ℕ) (K : Kind) (named : kindOf k �
     where
       go : (t : Option Term) → getElem? (r .terms) b ≡ t → not (isExpression t) ≡ true → TableCondition r 6 0 (k ∷ bs)
       go none q p =
-          let later = reference-later b (inr (field-byte expressionF b i e f)) (none-past (r .terms) b q) in
+          let later = forward-reference b (inr (field-byte expressionF b i e f)) (none-past (r .terms) b q) in
           absurd (clear 5 0 (omega arith) later)
       go (some (process P)) q p = class-process b P (field-byte expressionF b i e f) q
       go (some (expression M)) q p = absurd (false-true p)
@@ -292,7 +292,7 @@ module _ (r : Reading) (k : ℕ) (bs : List ℕ) (K : Kind) (named : kindOf k �
           Fits (r .terms) (programF ∷ fs) (b ∷ cs)
       go none q f =
           absurd
-          (clear 5 0 (omega arith) (reference-later b (inl (h 0 programF b refl refl)) (none-past (r .terms) b q)))
+          (clear 5 0 (omega arith) (forward-reference b (inl (h 0 programF b refl refl)) (none-past (r .terms) b q)))
       go (some (process P)) q f = a-program q f
       go (some (expression M)) q f =
           absurd (clear 6 0 (omega arith) (class-expression b M (h 0 programF b refl refl) q))
@@ -303,7 +303,7 @@ module _ (r : Reading) (k : ℕ) (bs : List ℕ) (K : Kind) (named : kindOf k �
           Fits (r .terms) (expressionF ∷ fs) (b ∷ cs)
       go none q f =
           absurd
-          (clear 5 0 (omega arith) (reference-later b (inr (h 0 expressionF b refl refl)) (none-past (r .terms) b q)))
+          (clear 5 0 (omega arith) (forward-reference b (inr (h 0 expressionF b refl refl)) (none-past (r .terms) b q)))
       go (some (process P)) q f = absurd (clear 6 0 (omega arith) (class-process b P (h 0 expressionF b refl refl) q))
       go (some (expression M)) q f = an-expression q f
   fitting clear (amountF ∷ fs) (b ∷ cs) l h = an-amount (fitting clear fs cs (omega arith) (λ i. h (suc i)))
@@ -315,15 +315,15 @@ module _ (r : Reading) (k : ℕ) (bs : List ℕ) (K : Kind) (named : kindOf k �
     | no q ↦ omega arith
   ]
 
-  as-printed : Clear r k bs 7 → RecordAsPrinted (r .terms) (k ∷ bs) (suc (length (fields K))) (recordContent (r .terms) bs K)
-  as-printed clear =
+  as-stated : Clear r k bs 7 → RecordAsStated (r .terms) (k ∷ bs) (suc (length (fields K))) (recordContent (r .terms) bs K)
+  as-stated clear =
       rw (kind-number k K named)
       (printed-as-read (r .terms) K bs (fitting clear (fields K) bs (whole clear) (λ i F b e f. field-byte F b i e f)))
 
   -- 7: the measures of the term that the record makes
-  says-printed : (w : ℕ) (c : Content) → RecordAsPrinted (r .terms) (k ∷ bs) w c → c ≡ recordContent (r .terms) bs K
-  unfolding ReadAsPrinted
-  says-printed w c p = let (L, e, _, f) = read-as-printed (r .terms) k bs w c p in let same : L ≡ K = cc in sym f ∙
+  says-printed : (w : ℕ) (c : Content) → RecordAsStated (r .terms) (k ∷ bs) w c → c ≡ recordContent (r .terms) bs K
+  unfolding ReadAsStated
+  says-printed w c p = let (L, e, _, f) = read-as-stated (r .terms) k bs w c p in let same : L ≡ K = cc in sym f ∙
       ap (recordContent (r .terms) bs) same
 
   over-means : (o : ℕ) → TableCondition r 7 o (k ∷ bs) → OverLimit (recordContent (r .terms) bs K)
@@ -333,14 +333,14 @@ module _ (r : Reading) (k : ℕ) (bs : List ℕ) (K : Kind) (named : kindOf k �
   test-seven : Clear r k bs 7 → (c : Content) → recordContent (r .terms) bs K ≡ c → Decides 7 (overLimit c)
   unfolding overLimit
   test-seven clear (termRecord (process P)) f =
-      by-test 7 (ltb 64 (width P)) (λ e. width-over (rw f at (as-printed clear)) (leb-true 65 (width P) e))
+      by-test 7 (ltb 64 (width P)) (λ e. width-over (rw f at (as-stated clear)) (leb-true 65 (width P) e))
       (λ e o c. let z : 64 < width P = subst OverLimit f (over-means o c) in let y = leb-false 65 (width P) e in
       omega arith)
   test-seven clear (termRecord (expression M)) f = go (ltb 8 (branches M)) refl (ltb 16 (pathLength M)) refl
     where
       go : (a : Bool) → ltb 8 (branches M) ≡ a → (b : Bool) → ltb 16 (pathLength M) ≡ b → Decides 7 (a || b)
-      go true e b g = paths-over (rw f at (as-printed clear)) (inl (leb-true 9 (branches M) e))
-      go false e true g = paths-over (rw f at (as-printed clear)) (inr (leb-true 17 (pathLength M) g))
+      go true e b g = paths-over (rw f at (as-stated clear)) (inl (leb-true 9 (branches M) e))
+      go false e true g = paths-over (rw f at (as-stated clear)) (inr (leb-true 17 (pathLength M) g))
       go false e false g = λ o c. within (subst OverLimit f (over-means o c))
         where
           within : (8 < branches M) ⊎ (16 < pathLength M) → ⊥
@@ -444,10 +444,10 @@ TurnReason r p bs (stop (refusedAt n q)) =
 TurnReason r p bs (stop (accepted t)) =
     NoCondition r bs × (b : ℕ) × (P : Program) × (bs ≡ 13 ∷ b ∷ []) × (getElem? (r .terms) b ≡ some (process P)) ×
     (t ≡ record { terms = r .terms; tokens = r .tokens; start = P })
-TurnReason r p bs (more s w) = NoCondition r bs × (c : Content) × RecordAsPrinted (r .terms) bs w c × After r c s
+TurnReason r p bs (more s w) = NoCondition r bs × (c : Content) × RecordAsStated (r .terms) bs w c × After r c s
 
 -- a start record: the table ends there, or 9 holds
-closed-reason : (r : Reading) (p : ℕ) (bs : List ℕ) (w : ℕ) (P : Program) → RecordAsPrinted (r .terms) bs w (startRecord P) →
+closed-reason : (r : Reading) (p : ℕ) (bs : List ℕ) (w : ℕ) (P : Program) → RecordAsStated (r .terms) bs w (startRecord P) →
     ((m i : ℕ) → m < 9 → TableCondition r m i bs → ⊥) → TurnReason r p bs (stop (tableEnd r P (p + w) (drop w bs)))
 unfolding tableEnd
 closed-reason r p bs w P (start13 {r = b} {bs = rest} e) clear = go rest clear
@@ -469,7 +469,7 @@ module _ (r : Reading) (p k : ℕ) (rest : List ℕ) where
 
   -- a record that passed its tests
   passed-reason : (K : Kind) → kindOf k ≡ some K → Clear r k rest 9 → (c : Content) →
-      RecordAsPrinted (r .terms) (k ∷ rest) (suc (length (fields K))) c → ContentReason K rest c →
+      RecordAsStated (r .terms) (k ∷ rest) (suc (length (fields K))) c → ContentReason K rest c →
       TurnReason r p (k ∷ rest)
       (recordPassed r c (suc (length (fields K))) (p + suc (length (fields K))) (drop (length (fields K)) rest))
   unfolding recordPassed
@@ -485,7 +485,7 @@ module _ (r : Reading) (p k : ℕ) (rest : List ℕ) where
   unfolding recordTested
   tested-reason K named (some t) f = (0, f .0, f .1, omega arith)
   tested-reason K named none f =
-      passed-reason K named f (recordContent (r .terms) rest K) (as-printed r k rest K named (λ m o l. f m o (omega arith)))
+      passed-reason K named f (recordContent (r .terms) rest K) (as-stated r k rest K named (λ m o l. f m o (omega arith)))
       (said-reason (r .terms) rest K)
 
   kind-reason : (o : Option Kind) → kindOf k ≡ o → TurnReason r p (k ∷ rest) (recordOfKind r p rest o)
@@ -529,11 +529,11 @@ turn-refuses r p bs n o c before = go (readRecord r p bs) (turn-reason r p bs)
     go (more s w) h = absurd (h .0 n o c)
 
 -- a record as printed that passes is passed
-turn-passes : (r : Reading) (p : ℕ) (bs : List ℕ) (w : ℕ) (c : Content) → NoCondition r bs → RecordAsPrinted (r .terms) bs w c →
+turn-passes : (r : Reading) (p : ℕ) (bs : List ℕ) (w : ℕ) (c : Content) → NoCondition r bs → RecordAsStated (r .terms) bs w c →
     readRecord r p bs ≡ recordPassed r c w (p + w) (drop w bs)
-unfolding ReadAsPrinted readRecord recordOfKind recordTested
+unfolding ReadAsStated readRecord recordOfKind recordTested
 turn-passes r p [] w c passes prints = absurd (elim prints [ ])
-turn-passes r p (k ∷ rest) w c passes prints = go (read-as-printed (r .terms) k rest w c prints)
+turn-passes r p (k ∷ rest) w c passes prints = go (read-as-stated (r .terms) k rest w c prints)
   where
     go : (K : Kind) × (kindOf k ≡ some K) × (suc (length (fields K)) ≡ w) × (recordContent (r .terms) rest K ≡ c) →
         readRecord r p (k ∷ rest) ≡ recordPassed r c w (p + w) (drop w (k ∷ rest))
@@ -567,11 +567,11 @@ unfolding readFrom thenRead
 read-stop f r p bs a e = rw e
 
 -- a record as printed has a byte at least, and lies within its bytes
-printed-within : (r : Reading) (bs : List ℕ) (w : ℕ) (c : Content) → NoCondition r bs → RecordAsPrinted (r .terms) bs w c → (1 ≤ w) ×
+printed-within : (r : Reading) (bs : List ℕ) (w : ℕ) (c : Content) → NoCondition r bs → RecordAsStated (r .terms) bs w c → (1 ≤ w) ×
     (w ≤ length bs)
-unfolding ReadAsPrinted
+unfolding ReadAsStated
 printed-within r [] w c passes prints = absurd (elim prints [ ])
-printed-within r (k ∷ rest) w c passes prints = go (read-as-printed (r .terms) k rest w c prints)
+printed-within r (k ∷ rest) w c passes prints = go (read-as-stated (r .terms) k rest w c prints)
   where
     go : (K : Kind) × (kindOf k ≡ some K) × (suc (length (fields K)) ≡ w) × (recordContent (r .terms) rest K ≡ c) → (1 ≤ w) ×
         (w ≤ suc (length rest))
@@ -581,8 +581,8 @@ module _ (bs : List ℕ) where
   -- a record that is passed leads to the next one
   reached-next : (p : ℕ) (r : Reading) → Reached bs p r → (s : Reading) (w : ℕ) →
       TurnReason r p (drop p bs) (more s w) → Reached bs (p + w) s
-  reached-next p r reached s w (passes, termRecord t, prints, is) = rw is (past-term reached passes prints)
-  reached-next p r reached s w (passes, tokensRecord a n, prints, is) = rw is (past-tokens reached passes prints)
+  reached-next p r reached s w (passes, termRecord t, prints, is) = rw is (after-term reached passes prints)
+  reached-next p r reached s w (passes, tokensRecord a n, prints, is) = rw is (after-tokens reached passes prints)
   reached-next p r reached s w (passes, startRecord P, prints, is) = absurd is
 
   abbrev AnswerReason : TableAnswer → Type 0
@@ -598,7 +598,7 @@ module _ (bs : List ℕ) where
 
   -- what is left behind a record that is passed is less
   left-less : (p : ℕ) (r : Reading) (w : ℕ) (c : Content) (f : ℕ) → NoCondition r (drop p bs) →
-      RecordAsPrinted (r .terms) (drop p bs) w c →
+      RecordAsStated (r .terms) (drop p bs) w c →
       length (drop p bs) ≤ suc f → length (drop (p + w) bs) ≤ f
   left-less p r w c f passes prints l =
       let z = printed-within r (drop p bs) w c passes prints in let a = length-drop p bs in let b =
@@ -630,7 +630,7 @@ module _ (bs : List ℕ) where
   readingFrom r p = (f : ℕ) × (readTable bs ≡ readFrom (suc f) r p (drop p bs)) × (length (drop p bs) ≤ f)
 
   reading-next : (r : Reading) (p : ℕ) (s : Reading) (w : ℕ) (c : Content) → NoCondition r (drop p bs) →
-      RecordAsPrinted (r .terms) (drop p bs) w c →
+      RecordAsStated (r .terms) (drop p bs) w c →
       recordPassed r c w (p + w) (drop w (drop p bs)) ≡ more s w → readingFrom r p → readingFrom s (p + w)
   unfolding readingFrom
   reading-next r p s w c passes prints t (zero, says, l) =
@@ -645,9 +645,9 @@ module _ (bs : List ℕ) where
   reading-from : (p : ℕ) (r : Reading) → Reached bs p r → readingFrom r p
   unfolding readingFrom readTable emptyReading recordPassed
   reading-from p r at-first = (length bs, refl, omega arith)
-  reading-from q s (past-term {p} {w} {r} {t} reached passes prints) =
+  reading-from q s (after-term {p} {w} {r} {t} reached passes prints) =
       reading-next r p s w (termRecord t) passes prints refl (reading-from p r reached)
-  reading-from q s (past-tokens {p} {w} {r} {a} {n} reached passes prints) =
+  reading-from q s (after-tokens {p} {w} {r} {a} {n} reached passes prints) =
       reading-next r p s w (tokensRecord a n) passes prints refl (reading-from p r reached)
 
   -- what the conditions decide is what reading answers
@@ -664,7 +664,7 @@ module _ (bs : List ℕ) where
       let from = reading-from p r reached in
       from .1 ∙ read-stop (from .0) r p (drop p bs) (accepted t) (ap (readRecord r p) e ∙ turn-closes r p b P at ∙ rw is refl)
 
-  further : (p w : ℕ) (r : Reading) (c : Content) → NoCondition r (drop p bs) → RecordAsPrinted (r .terms) (drop p bs) w c →
+  further : (p w : ℕ) (r : Reading) (c : Content) → NoCondition r (drop p bs) → RecordAsStated (r .terms) (drop p bs) w c →
       p ≤ length bs → p + w ≤ length bs
   further p w r c passes prints h =
       let z = printed-within r (drop p bs) w c passes prints in let l = length-drop p bs in omega arith
@@ -673,9 +673,9 @@ module _ (bs : List ℕ) where
   -- table's length
   reached-within : (p : ℕ) (r : Reading) → Reached bs p r → p ≤ length bs
   reached-within p r at-first = omega arith
-  reached-within q s (past-term {p} {w} {r} {t} reached passes prints) =
+  reached-within q s (after-term {p} {w} {r} {t} reached passes prints) =
       further p w r (termRecord t) passes prints (reached-within p r reached)
-  reached-within q s (past-tokens {p} {w} {r} {a} {n} reached passes prints) =
+  reached-within q s (after-tokens {p} {w} {r} {a} {n} reached passes prints) =
       further p w r (tokensRecord a n) passes prints (reached-within p r reached)
 
   pub missing-at-length : (p : ℕ) (r : Reading) → Reached bs p r → drop p bs ≡ [] → p ≡ length bs

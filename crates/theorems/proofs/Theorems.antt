@@ -1,17 +1,17 @@
 -- The claims of specs/, each as one named theorem.
 -- Assumes nothing.
-use Rattle.semantics.specs.Claims.Correspondence.{Soundness, RunSoundness, EveryHallDenotes, AcceptedIsWithinLimits, Completeness, CompletenessAnyOrder, StillIsStill, KeepsWellFormed, OpeningDenotes, Located, LogOrderAsPrinted, HandoverIsCOM}
+use Rattle.semantics.specs.Claims.Correspondence.{Soundness, RunSoundness, EveryHallDenotes, AcceptedIsWithinLimits, Completeness, CompletenessAnyOrder, StillIsStill, KeepsWellFormed, OpeningDenotes, Located, LogOrderAsStated, HandoverIsCOM}
 use Rattle.semantics.specs.Claims.Accounts.{RunAccounts, CallsAccounts}
-use Rattle.semantics.specs.Checks.ConverseSteps.{StartIsOpening, StepsAreMoves, ReadableBlocksStep, StepsGoOn}
-use Rattle.semantics.specs.Claims.InnerMoves.{MovesLowerWeight, MovesGoOn, SettledRests, MovesSettleFirstPath, OneOutcome}
-use Rattle.semantics.specs.Checks.PrintedMoves.{OpensAsPrinted, MovesAsPrinted, MovesWorked}
-use Rattle.semantics.specs.Checks.PrintedSuggestions.{AllowedAsPrinted}
+use Rattle.semantics.specs.Checks.ConverseSteps.{StartIsOpening, ConverseStepsAreMoves, ReadableBlocksCommit, ConverseStepsGoOn}
+use Rattle.semantics.specs.Claims.InnerMoves.{MovesLowerWeight, MovesGoOn, SettledHasNoRule, MovesSettleFirstPath, OneOutcome}
+use Rattle.semantics.specs.Checks.StatedMoves.{OpensAsStated, MovesAsStated, MovesWorked}
+use Rattle.semantics.specs.Checks.StatedSuggestions.{AllowedAsStated}
 use Rattle.semantics.specs.Claims.Suggestions.{SuggestionExists, SuggestedRuns, StillRunsNone}
 use Rattle.semantics.specs.Claims.Atomicity.{AtomicityOfCalls, initialBuffers, finalBuffers, allDone, doneWithoutAborted, atomic}
-use Rattle.semantics.specs.Checks.Conditions.{ReadAsPrinted, TableNumbers, MissingAtLength, HallNumbers, CheckNumbers, OpenNumbers, RefusalNumbers, ChoiceNumbers, RunNumbers, OneReason, RunCallNumbers, RunCallZero}
-use Rattle.semantics.specs.Checks.Answers.{AnswersTold, AnswersDiffer, ZeroIsAccepted}
+use Rattle.semantics.specs.Checks.Conditions.{ReadAsStated, TableNumbers, MissingAtLength, HallNumbers, CheckNumbers, OpenNumbers, RefusalNumbers, ChoiceNumbers, RunNumbers, OneReason, RunCallNumbers, RunCallZero}
+use Rattle.semantics.specs.Checks.Answers.{AnswersReported, AnswersDiffer, ZeroIsAccepted}
 use Rattle.semantics.specs.Checks.CallLists.{CallBytes, CallsInTurn, CallsCut}
-use Rattle.semantics.specs.Checks.Steps.{StepsAsPrinted, StepNumbers, NodeOfKind1, StepIsCall}
+use Rattle.semantics.specs.Checks.Steps.{StepCallsAsStated, StepCallNumbers, NodeOfKind1, StepIsCall}
 use mathlib.Core.Path.{refl, sym, ap, _∙_}
 use mathlib.Core.List.{map}
 use Rattle.semantics.specs.Definitions.Stored.{bytesOf, configurationOf}
@@ -24,7 +24,7 @@ use Rattle.theorems.proofs.Completeness as Complete
 use Rattle.theorems.proofs.Handover as Together
 use Rattle.theorems.proofs.AnyOrder as Any
 use Rattle.theorems.proofs.InnerMoves as Inside
-use Rattle.theorems.proofs.PrintedMoves as Printing
+use Rattle.theorems.proofs.StatedMoves as Printing
 use Rattle.semantics.proofs.MovesWorked as WorkedMoves
 use Rattle.theorems.proofs.CallsAsOne.{firstBuffers, opened-calls}
 use Rattle.theorems.proofs.Abandoned.{kept-runs}
@@ -64,8 +64,8 @@ soundness = Sound.soundness
 pub located : Located
 located = Sound.located
 
-pub log-order-as-printed : LogOrderAsPrinted
-log-order-as-printed = Any.log-order-as-printed
+pub log-order-as-stated : LogOrderAsStated
+log-order-as-stated = Any.log-order-as-stated
 
 pub accepted-is-within-limits : AcceptedIsWithinLimits
 accepted-is-within-limits = Bounds.accepted-is-within-limits
@@ -90,8 +90,8 @@ still-is-still = Any.still-is-still
 
 -- ---- suggestions
 
-pub allowed-as-printed : AllowedAsPrinted
-allowed-as-printed = Suggesting.allowed-as-printed
+pub allowed-as-stated : AllowedAsStated
+allowed-as-stated = Suggesting.allowed-as-stated
 
 pub suggestion-exists : SuggestionExists
 suggestion-exists = Suggesting.suggestion-exists
@@ -107,11 +107,11 @@ answers-differ = Telling.answers-differ
 
 -- ---- the moves as the scope prints them
 
-pub opens-as-printed : OpensAsPrinted
-opens-as-printed = Printing.opens-as-printed
+pub opens-as-stated : OpensAsStated
+opens-as-stated = Printing.opens-as-stated
 
-pub moves-as-printed : MovesAsPrinted
-moves-as-printed = Printing.moves-as-printed
+pub moves-as-stated : MovesAsStated
+moves-as-stated = Printing.moves-as-stated
 
 pub moves-worked : MovesWorked
 moves-worked = WorkedMoves.moves-worked
@@ -132,8 +132,8 @@ moves-lower-weight = Inside.moves-lower-weight
 pub moves-go-on : MovesGoOn
 moves-go-on = Inside.moves-go-on
 
-pub settled-rests : SettledRests
-settled-rests = Inside.settled-rests
+pub settled-has-no-rule : SettledHasNoRule
+settled-has-no-rule = Inside.settled-has-no-rule
 
 pub one-outcome : OneOutcome
 one-outcome = Inside.one-outcome
@@ -189,19 +189,19 @@ atomicity-of-calls table t accepts buffer size first cs =
 pub start-is-opening : StartIsOpening
 start-is-opening = Steps.start-is-opening
 
-pub steps-are-moves : StepsAreMoves
-steps-are-moves = Steps.steps-are-moves
+pub converse-steps-are-moves : ConverseStepsAreMoves
+converse-steps-are-moves = Steps.converse-steps-are-moves
 
-pub readable-blocks-step : ReadableBlocksStep
-readable-blocks-step = Steps.readable-blocks-step
+pub readable-blocks-commit : ReadableBlocksCommit
+readable-blocks-commit = Steps.readable-blocks-commit
 
-pub steps-go-on : StepsGoOn
-steps-go-on = Steps.steps-go-on
+pub converse-steps-go-on : ConverseStepsGoOn
+converse-steps-go-on = Steps.converse-steps-go-on
 
 -- ---- the numbered conditions
 
-pub read-as-printed : ReadAsPrinted
-read-as-printed = Shapes.read-as-printed
+pub read-as-stated : ReadAsStated
+read-as-stated = Shapes.read-as-stated
 
 pub table-numbers : TableNumbers
 table-numbers = OnTables.table-numbers
@@ -222,8 +222,8 @@ open-numbers = OnHalls.open-numbers
 pub refusal-numbers : RefusalNumbers
 refusal-numbers = OnHalls.refusal-numbers
 
-pub answers-told : AnswersTold
-answers-told = Telling.answers-told
+pub answers-reported : AnswersReported
+answers-reported = Telling.answers-reported
 
 pub zero-is-accepted : ZeroIsAccepted
 zero-is-accepted = Zero.zero-is-accepted
@@ -245,11 +245,11 @@ run-call-zero = OnCalls.run-call-zero
 
 -- ---- a step, and lists of calls
 
-pub steps-as-printed : StepsAsPrinted
-steps-as-printed = OnSteps.steps-as-printed
+pub step-calls-as-stated : StepCallsAsStated
+step-calls-as-stated = OnSteps.step-calls-as-stated
 
-pub step-numbers : StepNumbers
-step-numbers = OnSteps.step-numbers
+pub step-call-numbers : StepCallNumbers
+step-call-numbers = OnSteps.step-call-numbers
 
 pub node-of-kind-1 : NodeOfKind1
 node-of-kind-1 = OnSteps.node-of-kind-1

@@ -6,7 +6,7 @@ use mathlib.Core.Path.{_≡_, refl, ap}
 use mathlib.Core.Logic.{_↔_}
 use mathlib.Core.List.{List}
 use Rattle.semantics.specs.Definitions.Calls.{Verdict, ok, rejected, verdictNumber, checkTable, checkHall, opened, Opening, openHall, openVerdict}
-use Rattle.semantics.specs.Checks.Conditions.{Opens, not-opened, is-opened, OpenNumbers, RefusalNumbers}
+use Rattle.semantics.specs.Checks.Conditions.{OpenAnswered, not-opened, is-opened, OpenNumbers, RefusalNumbers}
 use Rattle.semantics.specs.Checks.Answers.{ZeroIsAccepted}
 use Rattle.theorems.proofs.HallConditions.{open-numbers, refusal-numbers}
 
@@ -19,7 +19,7 @@ zero-verdict (rejected n p) positive = (
 )
 
 -- an opening's answer
-zero-opening : (table hall : List ℕ) (o : Opening) → openHall table hall ≡ o → Opens table hall o →
+zero-opening : (table hall : List ℕ) (o : Opening) → openHall table hall ≡ o → OpenAnswered table hall o →
     (verdictNumber (openVerdict (o .answer)) ≡ 0) ↔ (o .answer ≡ opened (record { commits = 0; failed = 0; retries = 0 }))
 unfolding openVerdict RefusalNumbers
 zero-opening table hall o e (not-opened {n} {p} c) = (

@@ -12,35 +12,35 @@ use Rattle.semantics.specs.Definitions.Run.{Counters, entryBytes}
 use Rattle.semantics.specs.Definitions.Calls.{ok, rejected, verdictNumber, verdictPlace, checkTable, checkHall, opened, notOpened, openHall, openVerdict, SuggestAnswer, suggested, still, notSuggested}
 
 -- a check: number and place, both 0 where nothing is refused
-unfoldable pub VerdictTold : Type 0
-VerdictTold =
+unfoldable pub VerdictReported : Type 0
+VerdictReported =
     (n p : ℕ) → (verdictNumber ok ≡ 0) × (verdictPlace ok ≡ 0) ×
     (verdictNumber (rejected n p) ≡ n) × (verdictPlace (rejected n p) ≡ p)
 
 -- an opening is told as a check is
-unfoldable pub OpeningTold : Type 0
+unfoldable pub OpeningReported : Type 0
 unfolding openVerdict
-OpeningTold = (c : Counters) (n p : ℕ) → (openVerdict (opened c) ≡ ok) × (openVerdict (notOpened n p) ≡ rejected n p)
+OpeningReported = (c : Counters) (n p : ℕ) → (openVerdict (opened c) ≡ ok) × (openVerdict (notOpened n p) ≡ rejected n p)
 
 -- what each case of a suggestion says: the bytes of a choice, nothing, or a number with its place
 pub data SuggestValues : Type 0 where
-  choiceSaid : (bytes : List ℕ) → SuggestValues
-  stillSaid : SuggestValues
-  refusalSaid : (number place : ℕ) → SuggestValues
+  choiceValue : (bytes : List ℕ) → SuggestValues
+  stillValue : SuggestValues
+  refusalValue : (number place : ℕ) → SuggestValues
 
 unfoldable pub suggestValues : SuggestAnswer → SuggestValues
 unfolding entryBytes
-suggestValues (suggested e) = choiceSaid (entryBytes e)
-suggestValues still = stillSaid
-suggestValues (notSuggested n p) = refusalSaid n p
+suggestValues (suggested e) = choiceValue (entryBytes e)
+suggestValues still = stillValue
+suggestValues (notSuggested n p) = refusalValue n p
 
 -- written out: the bytes of a choice are those of kind 1 or 2
-unfoldable pub SuggestionTold : Type 0
+unfoldable pub SuggestionReported : Type 0
 unfolding suggestValues
-SuggestionTold =
-    (n p k : ℕ) → (suggestValues (suggested (act p)) ≡ choiceSaid (1 ∷ p ∷ [])) ×
-    (suggestValues (suggested (inside p k)) ≡ choiceSaid (2 ∷ p ∷ k ∷ [])) ×
-    (suggestValues still ≡ stillSaid) × (suggestValues (notSuggested n p) ≡ refusalSaid n p)
+SuggestionReported =
+    (n p k : ℕ) → (suggestValues (suggested (act p)) ≡ choiceValue (1 ∷ p ∷ [])) ×
+    (suggestValues (suggested (inside p k)) ≡ choiceValue (2 ∷ p ∷ k ∷ [])) ×
+    (suggestValues still ≡ stillValue) × (suggestValues (notSuggested n p) ≡ refusalValue n p)
 
 -- different answers have different values
 unfoldable pub AnswersDiffer : Type 0
@@ -48,15 +48,15 @@ unfolding suggestValues
 AnswersDiffer = (a b : SuggestAnswer) → suggestValues a ≡ suggestValues b → a ≡ b
 
 -- a choice: the number of the rule done, or that of the refusal
-unfoldable pub ChoiceTold : Type 0
+unfoldable pub ChoiceReported : Type 0
 unfolding replyOf ruleNumber
-ChoiceTold =
+ChoiceReported =
     (r : Rule) (h : Configuration) (n : ℕ) →
     (replyOf (moved r h) ≡ movedBy (ruleNumber r)) × (replyOf (refused n) ≡ refusedBy n)
 
-unfoldable pub AnswersTold : Type 0
-unfolding VerdictTold OpeningTold SuggestionTold ChoiceTold
-AnswersTold = VerdictTold × OpeningTold × SuggestionTold × ChoiceTold
+unfoldable pub AnswersReported : Type 0
+unfolding VerdictReported OpeningReported SuggestionReported ChoiceReported
+AnswersReported = VerdictReported × OpeningReported × SuggestionReported × ChoiceReported
 
 -- whatever is handed in, the number 0 is told exactly where the answer is no refusal
 unfoldable pub ZeroIsAccepted : Type 0

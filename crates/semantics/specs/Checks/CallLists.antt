@@ -12,7 +12,7 @@ use Rattle.semantics.specs.Definitions.Configuration.{Configuration}
 use Rattle.semantics.specs.Definitions.Stored.{WellFormed, bytesOf}
 use Rattle.semantics.specs.Definitions.Run.{schedule, entries}
 use Rattle.semantics.specs.Definitions.Calls.{Buffers, Call, runChoices, stepChoice, callBytes, runCall, afterCalls, entriesDone}
-use Rattle.semantics.specs.Claims.Correspondence.{Accepts}
+use Rattle.semantics.specs.Claims.Correspondence.{AcceptsTable}
 use Rattle.semantics.specs.Claims.Atomicity.{answers}
 
 -- the bytes of a call: a run's choices; of a step its one choice, or the kind alone where that is neither 1 nor 2
@@ -41,7 +41,7 @@ CallsInTurn =
 -- where a call does all of its choices, it and the next one are one call on the choices of both
 unfoldable pub CallsCut : Type 0
 CallsCut =
-    (table : List ℕ) (t : Table) → Accepts table t → (h : Configuration) → WellFormed (t .terms) h →
+    (table : List ℕ) (t : Table) → AcceptsTable table t → (h : Configuration) → WellFormed (t .terms) h →
     (l : Buffers) → l .hall ≡ bytesOf h → (xs ys : List ℕ) →
     let a = runCall table l xs in
     let b = runCall table (a .buffers) ys in

@@ -21,7 +21,7 @@ use Rattle.semantics.specs.Definitions.Run.{Counters, RunAnswer, run, sc
 use Rattle.semantics.specs.Definitions.Calls.{Verdict, ok, rejected, checkTable, admitted, notAdmitted, admission, checkHall, opened, notOpened, Opening, openHall, IsMoved, Buffers, runCall}
 use Rattle.semantics.specs.Claims.ConverseRuns.{EmptyChannel, TooManyComponents, FullChannel}
 use Rattle.semantics.specs.Claims.InnerMoves.{Settled}
-use Rattle.semantics.specs.Claims.Correspondence.{Accepts}
+use Rattle.semantics.specs.Claims.Correspondence.{AcceptsTable}
 
 -- a condition holds at its number, and none of a smaller number does
 abbrev pub FirstCondition : (ℕ → Type 0) → ℕ → Type 0
@@ -31,8 +31,8 @@ FirstCondition C n = C n × ((m : ℕ) → m < n → C m → ⊥)
 
 -- each kind with what the bytes of its body are: a tray (channelF), a reference to a process or to an expression, a
 -- count of tokens (amountF)
-unfoldable pub printedBodies : List (ℕ × List Field)
-printedBodies =
+unfoldable pub statedBodies : List (ℕ × List Field)
+statedBodies =
     -- nil, put, take, repeated take
     (1, []) ∷ (2, channelF ∷ []) ∷ (3, channelF ∷ programF ∷ []) ∷ (4, channelF ∷ programF ∷ []) ∷
     -- side by side, atom
@@ -45,7 +45,7 @@ printedBodies =
 
 -- kind k has this body
 abbrev pub Body : ℕ → List Field → Type 0
-Body k fs = (i : ℕ) × (getElem? printedBodies i ≡ some (k, fs))
+Body k fs = (i : ℕ) × (getElem? statedBodies i ≡ some (k, fs))
 
 -- behind the kind k follow these bytes, and b is one that its body has as an F
 abbrev pub BodyByte : ℕ → List ℕ → Field → ℕ → Type 0
@@ -53,35 +53,35 @@ BodyByte k bs F b = (fs : List Field) × Body k fs × (i : ℕ) × (getElem? fs 
 
 -- These bytes begin with a record after the terms ts: how many bytes it has, and what it says. References are to
 -- processes and expressions of ts.
-pub data RecordAsPrinted (ts : List Term) : List ℕ → ℕ → Content → Type 0 where
-  nil1 : {bs : List ℕ} → RecordAsPrinted ts (1 ∷ bs) 1 (termRecord (process (nilT (length ts))))
-  put2 : {a : ℕ} {bs : List ℕ} → RecordAsPrinted ts (2 ∷ a ∷ bs) 2 (termRecord (process (putT (length ts) a)))
+pub data RecordAsStated (ts : List Term) : List ℕ → ℕ → Content → Type 0 where
+  nil1 : {bs : List ℕ} → RecordAsStated ts (1 ∷ bs) 1 (termRecord (process (nilT (length ts))))
+  put2 : {a : ℕ} {bs : List ℕ} → RecordAsStated ts (2 ∷ a ∷ bs) 2 (termRecord (process (putT (length ts) a)))
   take3 : {a r : ℕ} {bs : List ℕ} {P : Program} → getElem? ts r ≡ some (process P) →
-      RecordAsPrinted ts (3 ∷ a ∷ r ∷ bs) 3 (termRecord (process (takeT (length ts) a P)))
+      RecordAsStated ts (3 ∷ a ∷ r ∷ bs) 3 (termRecord (process (takeT (length ts) a P)))
   repeat4 : {a r : ℕ} {bs : List ℕ} {P : Program} → getElem? ts r ≡ some (process P) →
-      RecordAsPrinted ts (4 ∷ a ∷ r ∷ bs) 3 (termRecord (process (repeatT (length ts) a P)))
+      RecordAsStated ts (4 ∷ a ∷ r ∷ bs) 3 (termRecord (process (repeatT (length ts) a P)))
   par5 : {l r : ℕ} {bs : List ℕ} {P Q : Program} → getElem? ts l ≡ some (process P) → getElem? ts r ≡ some (process Q) →
-      RecordAsPrinted ts (5 ∷ l ∷ r ∷ bs) 3 (termRecord (process (parT (length ts) P Q)))
+      RecordAsStated ts (5 ∷ l ∷ r ∷ bs) 3 (termRecord (process (parT (length ts) P Q)))
   atom6 : {r : ℕ} {bs : List ℕ} {M : Expression} → getElem? ts r ≡ some (expression M) →
-      RecordAsPrinted ts (6 ∷ r ∷ bs) 2 (termRecord (process (atomT (length ts) M)))
-  end7 : {bs : List ℕ} → RecordAsPrinted ts (7 ∷ bs) 1 (termRecord (expression (endT (length ts))))
-  retry8 : {bs : List ℕ} → RecordAsPrinted ts (8 ∷ bs) 1 (termRecord (expression (retryT (length ts))))
+      RecordAsStated ts (6 ∷ r ∷ bs) 2 (termRecord (process (atomT (length ts) M)))
+  end7 : {bs : List ℕ} → RecordAsStated ts (7 ∷ bs) 1 (termRecord (expression (endT (length ts))))
+  retry8 : {bs : List ℕ} → RecordAsStated ts (8 ∷ bs) 1 (termRecord (expression (retryT (length ts))))
   rd9 : {a r : ℕ} {bs : List ℕ} {M : Expression} → getElem? ts r ≡ some (expression M) →
-      RecordAsPrinted ts (9 ∷ a ∷ r ∷ bs) 3 (termRecord (expression (rdT (length ts) a M)))
+      RecordAsStated ts (9 ∷ a ∷ r ∷ bs) 3 (termRecord (expression (rdT (length ts) a M)))
   wt10 : {a r : ℕ} {bs : List ℕ} {M : Expression} → getElem? ts r ≡ some (expression M) →
-      RecordAsPrinted ts (10 ∷ a ∷ r ∷ bs) 3 (termRecord (expression (wtT (length ts) a M)))
+      RecordAsStated ts (10 ∷ a ∷ r ∷ bs) 3 (termRecord (expression (wtT (length ts) a M)))
   orElse11 : {l r : ℕ} {bs : List ℕ} {M N : Expression} → getElem? ts l ≡ some (expression M) →
       getElem? ts r ≡ some (expression N) →
-      RecordAsPrinted ts (11 ∷ l ∷ r ∷ bs) 3 (termRecord (expression (orElseT (length ts) M N)))
-  tokens12 : {a n : ℕ} {bs : List ℕ} → RecordAsPrinted ts (12 ∷ a ∷ n ∷ bs) 3 (tokensRecord a n)
+      RecordAsStated ts (11 ∷ l ∷ r ∷ bs) 3 (termRecord (expression (orElseT (length ts) M N)))
+  tokens12 : {a n : ℕ} {bs : List ℕ} → RecordAsStated ts (12 ∷ a ∷ n ∷ bs) 3 (tokensRecord a n)
   start13 : {r : ℕ} {bs : List ℕ} {P : Program} → getElem? ts r ≡ some (process P) →
-      RecordAsPrinted ts (13 ∷ r ∷ bs) 2 (startRecord P)
+      RecordAsStated ts (13 ∷ r ∷ bs) 2 (startRecord P)
 
 -- the definitions read a record as it is printed
-unfoldable pub ReadAsPrinted : Type 0
+unfoldable pub ReadAsStated : Type 0
 unfolding recordContent kindOf fields
-ReadAsPrinted =
-    (ts : List Term) (k : ℕ) (bs : List ℕ) (w : ℕ) (c : Content) → RecordAsPrinted ts (k ∷ bs) w c →
+ReadAsStated =
+    (ts : List Term) (k : ℕ) (bs : List ℕ) (w : ℕ) (c : Content) → RecordAsStated ts (k ∷ bs) w c →
     (K : Kind) × (kindOf k ≡ some K) × (suc (length (fields K)) ≡ w) × (recordContent ts bs K ≡ c)
 
 -- ---- 1 to 9: a table
@@ -99,7 +99,7 @@ pub data TableCondition (r : Reading) : (number offset : ℕ) → List ℕ → T
   -- 4: a channel that no hall has
   channel-over : {k : ℕ} {bs : List ℕ} (b : ℕ) → BodyByte k bs channelF b → 15 < b → TableCondition r 4 0 (k ∷ bs)
   -- 5: a reference to a term that has not come yet
-  reference-later : {k : ℕ} {bs : List ℕ} (b : ℕ) → BodyByte k bs programF b ⊎ BodyByte k bs expressionF b →
+  forward-reference : {k : ℕ} {bs : List ℕ} (b : ℕ) → BodyByte k bs programF b ⊎ BodyByte k bs expressionF b →
       length (r .terms) ≤ b → TableCondition r 5 0 (k ∷ bs)
   -- 6: an expression where a process belongs, or a process where an expression does
   class-expression : {k : ℕ} {bs : List ℕ} (b : ℕ) (M : Expression) → BodyByte k bs programF b →
@@ -107,9 +107,9 @@ pub data TableCondition (r : Reading) : (number offset : ℕ) → List ℕ → T
   class-process : {k : ℕ} {bs : List ℕ} (b : ℕ) (P : Program) → BodyByte k bs expressionF b →
       getElem? (r .terms) b ≡ some (process P) → TableCondition r 6 0 (k ∷ bs)
   -- 7: a term past one of the three limits
-  width-over : {k w : ℕ} {bs : List ℕ} {P : Program} → RecordAsPrinted (r .terms) (k ∷ bs) w (termRecord (process P)) →
+  width-over : {k w : ℕ} {bs : List ℕ} {P : Program} → RecordAsStated (r .terms) (k ∷ bs) w (termRecord (process P)) →
       64 < width P → TableCondition r 7 0 (k ∷ bs)
-  paths-over : {k w : ℕ} {bs : List ℕ} {M : Expression} → RecordAsPrinted (r .terms) (k ∷ bs) w (termRecord (expression M)) →
+  paths-over : {k w : ℕ} {bs : List ℕ} {M : Expression} → RecordAsStated (r .terms) (k ∷ bs) w (termRecord (expression M)) →
       (8 < branches M) ⊎ (16 < pathLength M) → TableCondition r 7 0 (k ∷ bs)
   -- 8: tokens of no count, or given to a channel for the second time
   tokens-none : {a : ℕ} {bs : List ℕ} → TableCondition r 8 0 (12 ∷ a ∷ 0 ∷ bs)
@@ -127,11 +127,11 @@ NoCondition r bs = (n offset : ℕ) → TableCondition r n offset bs → ⊥
 -- printed, and none of them meets a condition
 pub data Reached (bs : List ℕ) : ℕ → Reading → Type 0 where
   at-first : Reached bs 0 (record { terms = []; tokens = replicate 16 0 })
-  past-term : {p w : ℕ} {r : Reading} {t : Term} → Reached bs p r → NoCondition r (drop p bs) →
-      RecordAsPrinted (r .terms) (drop p bs) w (termRecord t) →
+  after-term : {p w : ℕ} {r : Reading} {t : Term} → Reached bs p r → NoCondition r (drop p bs) →
+      RecordAsStated (r .terms) (drop p bs) w (termRecord t) →
       Reached bs (p + w) (record { terms = r .terms ++ (t ∷ []); tokens = r .tokens })
-  past-tokens : {p w : ℕ} {r : Reading} {a n : ℕ} → Reached bs p r → NoCondition r (drop p bs) →
-      RecordAsPrinted (r .terms) (drop p bs) w (tokensRecord a n) →
+  after-tokens : {p w : ℕ} {r : Reading} {a n : ℕ} → Reached bs p r → NoCondition r (drop p bs) →
+      RecordAsStated (r .terms) (drop p bs) w (tokensRecord a n) →
       Reached bs (p + w) (record { terms = r .terms; tokens = set (r .tokens) a n })
 
 -- refused at the first record where a condition holds, with the first condition that does
@@ -165,14 +165,14 @@ pub data OpenCondition (table hall : List ℕ) : (number place : ℕ) → Type 0
   -- 1 to 9: by its table
   by-table : {n p : ℕ} → TableRefused table n p → OpenCondition table hall n p
   -- 10: a hall of another length
-  size-wrong : (t : Table) → TableAccepted table t → length hall ≢ 11344 → OpenCondition table hall 10 0
+  size-mismatch : (t : Table) → TableAccepted table t → length hall ≢ 11344 → OpenCondition table hall 10 0
 
 -- why every other call on a hall is turned down
 pub data HallCondition (table hall : List ℕ) : (number place : ℕ) → Type 0 where
   -- 1 to 10
   as-opening : {n p : ℕ} → OpenCondition table hall n p → HallCondition table hall n p
   -- 11: bytes that are no well-formed hall's
-  form-wrong : (t : Table) → TableAccepted table t → length hall ≡ 11344 →
+  not-well-formed : (t : Table) → TableAccepted table t → length hall ≡ 11344 →
       (((h : Configuration) × WellFormed (t .terms) h × (bytesOf h ≡ hall)) → ⊥) → HallCondition table hall 11 0
 
 -- the table is accepted as t, and the hall is the bytes of h, well formed for it
@@ -206,15 +206,15 @@ CheckNumbers =
 
 -- an opening's answer, and every byte of the lent hall afterwards: refused, they stay; else they are those of the
 -- opened configuration, and the answer has the fresh tally
-pub data Opens (table hall : List ℕ) : Opening → Type 0 where
+pub data OpenAnswered (table hall : List ℕ) : Opening → Type 0 where
   not-opened : {n p : ℕ} → OpenCondition table hall n p →
-      Opens table hall (record { answer = notOpened n p; hall = hall })
+      OpenAnswered table hall (record { answer = notOpened n p; hall = hall })
   is-opened : (t : Table) → TableAccepted table t → length hall ≡ 11344 →
-      Opens table hall
+      OpenAnswered table hall
       (record { answer = opened (record { commits = 0; failed = 0; retries = 0 }); hall = bytesOf (opening t) })
 
 unfoldable pub OpenNumbers : Type 0
-OpenNumbers = (table hall : List ℕ) (o : Opening) → (openHall table hall ≡ o) ↔ Opens table hall o
+OpenNumbers = (table hall : List ℕ) (o : Opening) → (openHall table hall ≡ o) ↔ OpenAnswered table hall o
 
 -- ---- number 0
 
@@ -254,7 +254,7 @@ pub data ChoiceCondition (h : Configuration) : ℕ → Entry → Type 0 where
       getElem? (h .components) p ≡ some (transaction n M s t) → nodes t ≤ k →
       ChoiceCondition h 16 (inside p k)
   -- 17: a node that has nothing to do
-  at-rest : {p k : ℕ} (n : ℕ) (M : Expression) (s : State) (t u : Tree) →
+  no-rule-there : {p k : ℕ} (n : ℕ) (M : Expression) (s : State) (t u : Tree) →
       getElem? (h .components) p ≡ some (transaction n M s t) →
       getElem? (preorder t) k ≡ some u → NoRuleAtNode u → ChoiceCondition h 17 (inside p k)
   -- 18: nothing is there to take
@@ -305,7 +305,7 @@ pub record RunStops (bs : List ℕ) (a : RunAnswer) : Type 0 where
 
 unfoldable pub RunNumbers : Type 0
 RunNumbers =
-    (table : List ℕ) (t : Table) → Accepts table t → (h : Configuration) → WellFormed (t .terms) h →
+    (table : List ℕ) (t : Table) → AcceptsTable table t → (h : Configuration) → WellFormed (t .terms) h →
     (c : Counters) (bs : List ℕ) →
     RunStops bs (run h c bs)
 

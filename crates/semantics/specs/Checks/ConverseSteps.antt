@@ -37,15 +37,15 @@ DoneAt s p g =
     (length ss ≡ length es) × (answerTo (finalConfiguration (idleConfiguration s) ss) (act p) ≡ moved (ATOK δ) g)))
 
 -- a step is within the limits: choices that do it are all accepted. And none is missing: what such choices do is a step
-unfoldable pub StepsAreMoves : Type 0
-StepsAreMoves =
+unfoldable pub ConverseStepsAreMoves : Type 0
+ConverseStepsAreMoves =
     (s : PlainState) (p : ℕ) → length (s .stations) ≤ 64 →
     ((u : PlainState) → ConverseStep s p u → DoneAt s p (idleConfiguration u)) ×
     ((g : Configuration) → DoneAt s p g → (u : PlainState) × (idleConfiguration u ≡ g) × ConverseStep s p u)
 
 -- every block with a readable path has a step by the first one, where that leaves at most 64 stations
-unfoldable pub ReadableBlocksStep : Type 0
-ReadableBlocksStep =
+unfoldable pub ReadableBlocksCommit : Type 0
+ReadableBlocksCommit =
     (s : PlainState) (p n : ℕ) (M : Expression) → getElem? (s .stations) p ≡ some (block n M) →
     (earlier later : List Log) (δ : Log) → paths M ≡ earlier ++ (δ ∷ later) →
     All (λ π. ¬ Included (RD π) (s .counts)) earlier → Included (RD δ) (s .counts) →
@@ -53,7 +53,7 @@ ReadableBlocksStep =
     ConverseStep s p (replacing s p (without (s .counts) (RD δ)) (map output (WT δ)))
 
 -- any number of steps, none included, make a list of steps: behind each list there may come one step more
-unfoldable pub StepsGoOn : Type 0
-StepsGoOn =
+unfoldable pub ConverseStepsGoOn : Type 0
+ConverseStepsGoOn =
     ((s : PlainState) → ConverseSteps s s) ×
     ((s u v : PlainState) (p : ℕ) → ConverseSteps s u → ConverseStep u p v → ConverseSteps s v)

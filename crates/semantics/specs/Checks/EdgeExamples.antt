@@ -104,9 +104,9 @@ unfolding verdict ascii
 fits table lines =
     record { table = table; expected = record { checked = verdict 0 0; text = ascii "R 0 0 0\nC 0 0 0\n" ++ lines } }
 
-unfoldable pub turned : (table : List ℕ) (number place : ℕ) (text : String) → TableRow
+unfoldable pub refusedRow : (table : List ℕ) (number place : ℕ) (text : String) → TableRow
 unfolding verdict ascii
-turned table n p text = record { table = table; expected = record { checked = verdict n p; text = ascii text } }
+refusedRow table n p text = record { table = table; expected = record { checked = verdict n p; text = ascii text } }
 
 -- an end and a nil as terms 0 and 1, and a last record that is refused
 unfoldable pub spoilt : (last : String) (number : ℕ) → TableRow
@@ -123,44 +123,44 @@ unfolding chain numbers
 sides orElse n rest = 7 ∷ (chain 10 8 0 ++ (numbers orElse ++ (chain 10 n 9 ++ numbers rest)))
 
 unfoldable pub widths : List TableRow
-unfolding ascii numbers times doublings fits turned
+unfolding ascii numbers times doublings fits refusedRow
 widths =
     -- width of nil: 64 of them are accepted although none opens, 65 are refused
     fits (1 ∷ (doublings 5 6 0 ++ numbers "13 6")) [] ∷
-    turned (1 ∷ (doublings 5 6 0 ++ numbers "5 6 0 13 7")) 7 19 "R 7 19 0\n" ∷
+    refusedRow (1 ∷ (doublings 5 6 0 ++ numbers "5 6 0 13 7")) 7 19 "R 7 19 0\n" ∷
     -- width of a take and of a repeated take: 1, although two puts follow
     fits (numbers "2 0 5 0 0 3 0 1" ++ (doublings 5 6 2 ++ numbers "13 8")) (times 64 (ascii "W 2\n")) ∷
-    turned (numbers "2 0 5 0 0 3 0 1" ++ (doublings 5 6 2 ++ numbers "5 8 2 13 9")) 7 26 "R 7 26 0\n" ∷
+    refusedRow (numbers "2 0 5 0 0 3 0 1" ++ (doublings 5 6 2 ++ numbers "5 8 2 13 9")) 7 26 "R 7 26 0\n" ∷
     fits (numbers "2 0 5 0 0 4 0 1" ++ (doublings 5 6 2 ++ numbers "13 8")) (times 64 (ascii "W 2\n")) ∷
-    turned (numbers "2 0 5 0 0 4 0 1" ++ (doublings 5 6 2 ++ numbers "5 8 2 13 9")) 7 26 "R 7 26 0\n" ∷
+    refusedRow (numbers "2 0 5 0 0 4 0 1" ++ (doublings 5 6 2 ++ numbers "5 8 2 13 9")) 7 26 "R 7 26 0\n" ∷
     -- width of an atom: 1, although its expression has two branches and length 1
     fits (numbers "7 10 0 0 11 0 1 6 2" ++ (doublings 5 6 3 ++ numbers "13 9")) (times 64 (ascii "W 3\n")) ∷
-    turned (numbers "7 10 0 0 11 0 1 6 2" ++ (doublings 5 6 3 ++ numbers "5 9 3 13 10")) 7 27 "R 7 27 0\n" ∷
+    refusedRow (numbers "7 10 0 0 11 0 1 6 2" ++ (doublings 5 6 3 ++ numbers "5 9 3 13 10")) 7 27 "R 7 27 0\n" ∷
     []
 
 unfoldable pub branchings : List TableRow
-unfolding ascii numbers doublings fits turned
+unfolding ascii numbers doublings fits refusedRow
 branchings =
     -- branches of retry, and of rd and wt in between
     fits (8 ∷ (doublings 11 3 0 ++ numbers "6 3 13 4")) (ascii "W 4\n") ∷
-    turned (8 ∷ (doublings 11 3 0 ++ numbers "11 3 0 6 4 13 5")) 7 10 "R 7 10 0\n" ∷
+    refusedRow (8 ∷ (doublings 11 3 0 ++ numbers "11 3 0 6 4 13 5")) 7 10 "R 7 10 0\n" ∷
     fits (7 ∷ (doublings 11 2 0 ++ numbers "9 0 2 10 0 2 11 3 4 6 5 13 6")) (ascii "W 6\n") ∷
-    turned (7 ∷ (doublings 11 2 0 ++ numbers "9 0 2 10 0 2 11 3 4 11 5 0 6 6 13 7")) 7 16 "R 7 16 0\n" ∷
+    refusedRow (7 ∷ (doublings 11 2 0 ++ numbers "9 0 2 10 0 2 11 3 4 11 5 0 6 6 13 7")) 7 16 "R 7 16 0\n" ∷
     []
 
 unfoldable pub lengths : List TableRow
-unfolding ascii numbers chain fits turned sides
+unfolding ascii numbers chain fits refusedRow sides
 lengths =
     -- length through rd, and of retry
     fits (8 ∷ (chain 9 16 0 ++ numbers "6 16 13 17")) (ascii "W 17\n") ∷
-    turned (8 ∷ (chain 9 17 0 ++ numbers "6 17 13 18")) 7 49 "R 7 49 0\n" ∷
+    refusedRow (8 ∷ (chain 9 17 0 ++ numbers "6 17 13 18")) 7 49 "R 7 49 0\n" ∷
     -- length of an orElse: of sides 8 and 0, of sides 0 and 8, of sides 8 and 8, each under 8 and under 9 actions more
     fits (sides "11 8 0" 8 "6 17 13 18") (ascii "W 18\n") ∷
-    turned (sides "11 8 0" 9 "6 18 13 19") 7 52 "R 7 52 0\n" ∷
+    refusedRow (sides "11 8 0" 9 "6 18 13 19") 7 52 "R 7 52 0\n" ∷
     fits (sides "11 0 8" 8 "6 17 13 18") (ascii "W 18\n") ∷
-    turned (sides "11 0 8" 9 "6 18 13 19") 7 52 "R 7 52 0\n" ∷
+    refusedRow (sides "11 0 8" 9 "6 18 13 19") 7 52 "R 7 52 0\n" ∷
     fits (sides "11 8 8" 8 "6 17 13 18") (ascii "W 18\n") ∷
-    turned (sides "11 8 8" 9 "6 18 13 19") 7 52 "R 7 52 0\n" ∷
+    refusedRow (sides "11 8 8" 9 "6 18 13 19") 7 52 "R 7 52 0\n" ∷
     []
 
 unfoldable pub bodies : List TableRow
@@ -183,12 +183,12 @@ bodies =
     []
 
 unfoldable pub termsAndTrays : List TableRow
-unfolding ascii numbers times fits turned spoilt
+unfolding ascii numbers times fits refusedRow spoilt
 termsAndTrays =
     -- 3: 200 terms are accepted, with tokens and a start behind them; one more is refused, before its reference is
     -- looked at
     fits (times 199 (numbers "7") ++ numbers "1 12 0 1 13 199") (ascii "T 0 1 0 1\n") ∷
-    turned (times 200 (numbers "7") ++ numbers "6 250 13 0") 3 200 "R 3 200 0\n" ∷
+    refusedRow (times 200 (numbers "7") ++ numbers "6 250 13 0") 3 200 "R 3 200 0\n" ∷
     -- 4: tray 15 is accepted; tray 16 is not, of each kind with a tray, before its reference and its count
     fits (numbers "2 15 13 0") (ascii "P 15\n") ∷
     spoilt "2 16" 4 ∷
@@ -232,15 +232,15 @@ classes =
     []
 
 unfoldable pub tokensAndStarts : List TableRow
-unfolding ascii numbers fits turned
+unfolding ascii numbers fits refusedRow
 tokensAndStarts =
     -- 8: no tokens, tokens for a tray twice; 255 for each of two trays
-    turned (numbers "1 12 3 0 13 0") 8 1 "R 8 1 0\n" ∷
-    turned (numbers "1 12 3 1 12 3 1 13 0") 8 4 "R 8 4 0\n" ∷
+    refusedRow (numbers "1 12 3 0 13 0") 8 1 "R 8 1 0\n" ∷
+    refusedRow (numbers "1 12 3 1 12 3 1 13 0") 8 4 "R 8 4 0\n" ∷
     fits (numbers "1 12 3 255 12 15 255 13 0") (ascii "T 3 255 0 255\nT 15 255 0 255\n") ∷
     -- 9: a byte behind the start record, which the program takes for a choice; no start record
-    turned (numbers "1 13 0 7") 9 3 "R 12 0 0\nC 0 0 0\n" ∷
-    turned (numbers "1 12 13 1") 9 4 "R 9 4 0\n" ∷
+    refusedRow (numbers "1 13 0 7") 9 3 "R 12 0 0\nC 0 0 0\n" ∷
+    refusedRow (numbers "1 12 13 1") 9 4 "R 9 4 0\n" ∷
     []
 
 -- ---- printed runs
@@ -408,10 +408,10 @@ unfoldable pub LeftAlone : Type 0
 unfolding storedTable numbers tally verdict openHall openVerdict runCall
 LeftAlone =
     All (λ h. openHall storedTable h ≡ record { answer = notOpened 10 0; hall = h }) (others ∷ shorter ∷ longer ∷ []) ×
-    (runCall storedTable (lentWith shorter) (numbers "1 0")
-    ≡ record { number = 10; place = 0; done = 0; buffers = lentWith shorter }) ×
-    (runCall storedTable (lentWith noise) (numbers "1 0")
-    ≡ record { number = 11; place = 0; done = 0; buffers = lentWith noise }) ×
+    (runCall storedTable (buffersWith shorter) (numbers "1 0")
+    ≡ record { number = 10; place = 0; done = 0; buffers = buffersWith shorter }) ×
+    (runCall storedTable (buffersWith noise) (numbers "1 0")
+    ≡ record { number = 11; place = 0; done = 0; buffers = buffersWith noise }) ×
     (openHall (numbers "7 0") others ≡ record { answer = notOpened 1 1; hall = others }) ×
     (map openVerdict (opened (tally 1 2 3) ∷ notOpened 10 0 ∷ notOpened 4 5 ∷ [])
     ≡ verdict 0 0 ∷ verdict 10 0 ∷ verdict 4 5 ∷ [])
@@ -425,8 +425,8 @@ LeftAlone =
     longer : List ℕ
     longer = replicate 11345 171
 
-    lentWith : List ℕ → Buffers
-    lentWith h = record { hall = h; counters = tally 3 4 5 }
+    buffersWith : List ℕ → Buffers
+    buffersWith h = record { hall = h; counters = tally 3 4 5 }
 
 -- ---- several calls
 

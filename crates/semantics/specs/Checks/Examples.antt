@@ -74,9 +74,9 @@ pub record Example : Type 0 where
 unfoldable pub noise : List ℕ
 noise = replicate 11344 171
 
-unfoldable pub lentHall : Option (List ℕ) → List ℕ → List ℕ
-lentHall none hall = hall
-lentHall (some bs) hall = bs
+unfoldable pub hallFor : Option (List ℕ) → List ℕ → List ℕ
+hallFor none hall = hall
+hallFor (some bs) hall = bs
 
 unfoldable pub rulesDone : Admission → List Entry → List Rule
 unfolding steps
@@ -149,10 +149,10 @@ ranOut e l o =
     }
 
 unfoldable pub observed : Example → Observed
-unfolding noise lentHall openHall ranOut
+unfolding noise hallFor openHall ranOut
 observed e =
     let o = openHall (e .table) noise in
-    ranOut e (record { hall = lentHall (e .stored) (o .hall); counters = e .first }) (o .answer)
+    ranOut e (record { hall = hallFor (e .stored) (o .hall); counters = e .first }) (o .answer)
 
 -- ---- how a row is written: with nothing of the definitions but their types
 
@@ -198,9 +198,9 @@ unfolding filled numbers
 leafOf n size log = 23 ∷ n ∷ size ∷ filled 16 (numbers log)
 
 -- a block's bytes in the one-step run, with its note
-unfoldable pub noted : (term : ℕ) (note : String) → List ℕ
+unfoldable pub attemptNoteBytes : (term : ℕ) (note : String) → List ℕ
 unfolding trays
-noted n note = 20 ∷ n ∷ trays note
+attemptNoteBytes n note = 20 ∷ n ∷ trays note
 
 -- n records of kind 9 or 10 on tray 0, the first on term i, which is the last so far, each other on the one before it
 unfoldable pub chain : (kind n i : ℕ) → List ℕ
@@ -323,7 +323,7 @@ refusedTable table n p x =
 -- ---- the ten rehearsals
 
 unfoldable pub rehearsals : List Example
-unfolding ascii numbers times attempt leafOf noted chain doublings acts tally left leftOpen ran row acceptedTable
+unfolding ascii numbers times attempt leafOf attemptNoteBytes chain doublings acts tally left leftOpen ran row acceptedTable
     refusedTable
 rehearsals =
     -- 1. the run that document 01 prints, to the byte
@@ -339,7 +339,7 @@ rehearsals =
     -- 3. rd 0.rd 0.end, one token: ARDF at the second read
     row "7 9 0 0 9 0 1 6 2 12 0 1 13 3" "1 0 2 0 0 2 0 0"
     (ran (ATST ∷ ARDOK ∷ ARDF ∷ []) 0 8 3 (tally 0 0 0)
-    (leftOpen "1" (attempt 3 "1" (leafOf 255 1 "0")) (noted 3 "1") "1 0")
+    (leftOpen "1" (attempt 3 "1" (leafOf 255 1 "0")) (attemptNoteBytes 3 "1") "1 0")
     "R 0 8 3\nC 0 0 0\nT 0 1 0 1\nA 3 1\n") ∷
     -- 4. two blocks rd 0.end, one token, both opened and read: ATOK, then ATFAIL
     row "7 9 0 0 6 1 5 2 2 12 0 1 13 3" "1 0 1 1 2 0 0 2 1 0 1 0 1 0"
@@ -354,7 +354,7 @@ rehearsals =
     -- 6. wt 0.rd 0.end on empty tray 0: ARDF
     row "7 9 0 0 10 0 1 6 2 13 3" "1 0 2 0 0 2 0 0"
     (ran (ATST ∷ AWR ∷ ARDF ∷ []) 0 8 3 (tally 0 0 0)
-    (leftOpen "" (attempt 3 "" (leafOf 255 1 "16")) (noted 3 "") "1 0")
+    (leftOpen "" (attempt 3 "" (leafOf 255 1 "16")) (attemptNoteBytes 3 "") "1 0")
     "R 0 8 3\nC 0 0 0\nA 3 1\n") ∷
     -- 7. the empty table: 9, place 0
     refusedTable [] 9 0 "R 9 0 0\n" ∷
@@ -381,7 +381,7 @@ rehearsals =
 -- ---- further runs
 
 unfoldable pub furtherRuns : List Example
-unfolding ascii numbers attempt leafOf noted tally left leftOpen ranTo ran row rowFrom
+unfolding ascii numbers attempt leafOf attemptNoteBytes tally left leftOpen ranTo ran row rowFrom
 furtherRuns =
     -- for the order of nodes and of outputs: wt 0.wt 1.end orElse wt 2.end, the right side moved first, two writes
     row "7 10 1 0 10 0 1 10 2 0 11 2 3 6 4 13 5" "1 0 2 0 0 2 0 2 2 0 1 2 0 1 2 0 0 1 0"
@@ -390,7 +390,7 @@ furtherRuns =
     -- against AOF taken when a right side says retry: wt 0.end orElse retry, and 17 at the fork
     row "7 10 0 0 8 11 1 2 6 3 13 4" "1 0 2 0 0 2 0 0"
     (ran (ATST ∷ AOI ∷ []) 17 5 2 (tally 0 0 0)
-    (leftOpen "" (attempt 4 "" (22 ∷ (leafOf 1 0 "" ++ leafOf 2 0 ""))) (noted 4 "") "2 0 1")
+    (leftOpen "" (attempt 4 "" (22 ∷ (leafOf 1 0 "" ++ leafOf 2 0 ""))) (attemptNoteBytes 4 "") "2 0 1")
     "R 17 5 2\nC 0 0 0\nA 4 3\n") ∷
     -- against the last readable path for the first: rd 0.wt 1.end orElse wt 2.end with a token in tray 0, so that both
     -- are readable
@@ -404,7 +404,7 @@ furtherRuns =
     row "1 3 1 0 4 2 0 8 6 3 7 9 3 5 11 5 6 6 7 6 6 5 1 2 5 4 8 5 10 11 5 12 9 12 1 1 12 2 1 13 13"
     "1 0 1 0 1 1 1 1 1 2 2 2 0 2 2 0 1 2 1 2 2 2 0 1 0"
     (ran (IN 1 ∷ REP 2 ∷ ATST ∷ ATRE ∷ ATST ∷ AOI ∷ AOE ∷ ATOK [] ∷ ATST ∷ ARDF ∷ []) 18 23 10 (tally 1 0 1)
-    (leftOpen "" (numbers "20 2 20 4" ++ attempt 9 "" (leafOf 255 0 "")) (numbers "20 2 20 4" ++ noted 9 "") "1 1 1 2")
+    (leftOpen "" (numbers "20 2 20 4" ++ attempt 9 "" (leafOf 255 0 "")) (numbers "20 2 20 4" ++ attemptNoteBytes 9 "") "1 1 1 2")
     "R 18 23 10\nC 1 0 1\nT 1 1 -1 0\nT 2 1 -1 0\nW 2\nW 4\nA 9 1\n") ∷
     -- for the order in which stations are laid down: rep 0.(put 1 | put 2) and take 0.(put 1 | put 2) beside a block
     -- rd 0.wt 1.rd 0.wt 2.end
@@ -419,7 +419,7 @@ furtherRuns =
     row "7 9 0 0 10 1 0 11 1 2 10 2 0 11 3 4 10 3 5 6 6 13 7" "1 0 2 0 0 2 0 0 2 0 1 2 0 4"
     (ran (ATST ∷ AWR ∷ AOI ∷ AOI ∷ AWR ∷ []) 0 14 5 (tally 0 0 0)
     (leftOpen ""
-    (attempt 7 "" (22 ∷ 22 ∷ (leafOf 1 1 "19" ++ (leafOf 2 1 "19" ++ leafOf 0 2 "19 18")))) (noted 7 "") "2 0 2 2 0 3")
+    (attempt 7 "" (22 ∷ 22 ∷ (leafOf 1 1 "19" ++ (leafOf 2 1 "19" ++ leafOf 0 2 "19 18")))) (attemptNoteBytes 7 "") "2 0 2 2 0 3")
     "R 0 14 5\nC 0 0 0\nA 7 5\n") ∷
     -- against counters that pass 4,294,967,295 or stop before it: one commit, one failure and one retry, each counter
     -- once at its top, once one below
@@ -455,10 +455,10 @@ furtherRuns =
 -- ---- the claim
 
 -- in a row the definitions give what is expected
-abbrev pub Holds : Example → Type 0
-Holds e = observed e ≡ e .expected
+abbrev pub RowHolds : Example → Type 0
+RowHolds e = observed e ≡ e .expected
 
 -- the ten, and the rows beyond them
 pub record Examples : Type 0 where
-  pub the-ten : All Holds rehearsals
-  pub beyond : All Holds furtherRuns
+  pub the-ten : All RowHolds rehearsals
+  pub beyond : All RowHolds furtherRuns

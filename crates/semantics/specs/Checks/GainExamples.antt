@@ -54,7 +54,7 @@ pub record RunRow : Type 0 where
   pub choices : List ℕ
   pub first : Counters
   pub attempts : List ℕ
-  pub kept : List ℕ
+  pub remaining : List ℕ
   pub effects : List Rule
   pub counts : State
   pub stations : List Idle
@@ -76,7 +76,7 @@ runRows =
       choices = 1 ∷ 0 ∷ 1 ∷ 1 ∷ 2 ∷ 0 ∷ 0 ∷ 2 ∷ 1 ∷ 0 ∷ 1 ∷ 0 ∷ 1 ∷ 0 ∷ [];
       first = tallied 0 0 0;
       attempts = 0 ∷ 1 ∷ 0 ∷ 1 ∷ 0 ∷ 1 ∷ [];
-      kept = 1 ∷ 0 ∷ 2 ∷ 0 ∷ 0 ∷ 1 ∷ 0 ∷ [];
+      remaining = 1 ∷ 0 ∷ 2 ∷ 0 ∷ 0 ∷ 1 ∷ 0 ∷ [];
       effects = ATOK (rd 0 ∷ []) ∷ [];
       counts = padded16 [];
       stations = block 2 (rdT 1 0 (endT 0)) ∷ [];
@@ -89,7 +89,7 @@ runRows =
       choices = 1 ∷ 1 ∷ 2 ∷ 1 ∷ 0 ∷ 1 ∷ 1 ∷ 1 ∷ 0 ∷ 1 ∷ 0 ∷ 2 ∷ 0 ∷ 0 ∷ 1 ∷ 0 ∷ [];
       first = tallied 4294967295 7 4294967294;
       attempts = 0 ∷ 0 ∷ 0 ∷ 3 ∷ 4 ∷ 4 ∷ 4 ∷ [];
-      kept = 1 ∷ 0 ∷ 1 ∷ 0 ∷ 2 ∷ 0 ∷ 0 ∷ 1 ∷ 0 ∷ [];
+      remaining = 1 ∷ 0 ∷ 1 ∷ 0 ∷ 2 ∷ 0 ∷ 0 ∷ 1 ∷ 0 ∷ [];
       effects = OUT 0 ∷ ATOK (rd 0 ∷ []) ∷ [];
       counts = padded16 [];
       stations = [];
@@ -101,7 +101,7 @@ runRows =
       choices = 1 ∷ 0 ∷ 1 ∷ 1 ∷ 2 ∷ 0 ∷ 0 ∷ 2 ∷ 0 ∷ 1 ∷ 2 ∷ 0 ∷ 0 ∷ 2 ∷ 0 ∷ 0 ∷ 1 ∷ 0 ∷ [];
       first = tallied 0 0 0;
       attempts = 0 ∷ 1 ∷ 0 ∷ 0 ∷ 0 ∷ 0 ∷ 0 ∷ [];
-      kept = 1 ∷ 0 ∷ 1 ∷ 1 ∷ 2 ∷ 0 ∷ 0 ∷ 2 ∷ 0 ∷ 1 ∷ 2 ∷ 0 ∷ 0 ∷ 2 ∷ 0 ∷ 0 ∷ 1 ∷ 0 ∷ [];
+      remaining = 1 ∷ 0 ∷ 1 ∷ 1 ∷ 2 ∷ 0 ∷ 0 ∷ 2 ∷ 0 ∷ 1 ∷ 2 ∷ 0 ∷ 0 ∷ 2 ∷ 0 ∷ 0 ∷ 1 ∷ 0 ∷ [];
       effects = OUT 0 ∷ ATOK (wt 2 ∷ []) ∷ [];
       counts = padded16 (1 ∷ []);
       stations = output 2 ∷ [];
@@ -113,7 +113,7 @@ runRows =
       choices = 1 ∷ 0 ∷ 1 ∷ 1 ∷ 2 ∷ 1 ∷ 0 ∷ 2 ∷ 1 ∷ 1 ∷ 2 ∷ 1 ∷ 0 ∷ 1 ∷ 1 ∷ [];
       first = tallied 0 0 0;
       attempts = 0 ∷ 1 ∷ 1 ∷ 1 ∷ 1 ∷ 1 ∷ [];
-      kept = 1 ∷ 0 ∷ 1 ∷ 1 ∷ 2 ∷ 1 ∷ 0 ∷ 2 ∷ 1 ∷ 1 ∷ 2 ∷ 1 ∷ 0 ∷ 1 ∷ 1 ∷ [];
+      remaining = 1 ∷ 0 ∷ 1 ∷ 1 ∷ 2 ∷ 1 ∷ 0 ∷ 2 ∷ 1 ∷ 1 ∷ 2 ∷ 1 ∷ 0 ∷ 1 ∷ 1 ∷ [];
       effects = ATOK (wt 1 ∷ []) ∷ [];
       counts = padded16 [];
       stations = block 4 (orElseT 3 (wtT 1 1 (endT 0)) (wtT 2 2 (endT 0))) ∷ output 1 ∷ [];
@@ -125,7 +125,7 @@ runRows =
       choices = 1 ∷ 1 ∷ 1 ∷ 0 ∷ 1 ∷ 0 ∷ [];
       first = tallied 0 0 0;
       attempts = 0 ∷ 1 ∷ 2 ∷ [];
-      kept = 1 ∷ 1 ∷ 1 ∷ 0 ∷ 1 ∷ 0 ∷ [];
+      remaining = 1 ∷ 1 ∷ 1 ∷ 0 ∷ 1 ∷ 0 ∷ [];
       effects = IN 0 ∷ REP 0 ∷ OUT 1 ∷ [];
       counts = padded16 (0 ∷ 1 ∷ []);
       stations = repeating 2 0 (putT 1 1) ∷ [];
@@ -146,7 +146,7 @@ followed r (accepted t) =
       choices = r .choices;
       first = r .first;
       attempts = map (λ m. m .attempt) ms;
-      kept = scheduleBytes (withoutAborted ms);
+      remaining = scheduleBytes (withoutAborted ms);
       effects = effects (steps (opening t) es);
       counts = s .counts;
       stations = map (λ x. x .station) (s .stations);

@@ -13,14 +13,14 @@ use Rattle.semantics.specs.Definitions.Stored.{hallBytes, configurationO
 use Rattle.semantics.specs.Definitions.Run.{Counters}
 use Rattle.semantics.specs.Definitions.Calls.{opened, openHall, RunCall, runCall}
 use Rattle.semantics.specs.Definitions.Report.{runLine, lines, printedRun}
-use Rattle.semantics.specs.Claims.Correspondence.{Accepts}
+use Rattle.semantics.specs.Claims.Correspondence.{AcceptsTable}
 
 -- ---- the table of an input
 
 -- so many bytes go up to the end of the first start record, which is found by stepping over records
 pub data TableEnds : List ℕ → ℕ → Type 0 where
   at-start : {bs : List ℕ} → TableEnds (13 ∷ bs) 2
-  past-record : {k n : ℕ} {bs : List ℕ} (K : Kind) → kindOf k ≡ some K → k ≢ 13 →
+  after-record : {k n : ℕ} {bs : List ℕ} (K : Kind) → kindOf k ≡ some K → k ≢ 13 →
       TableEnds (drop (length (fields K)) bs) n → TableEnds (k ∷ bs) (suc (length (fields K)) + n)
 
 -- the table is what goes up to there, or all of the input where no start record is found
@@ -79,5 +79,5 @@ pub record PrintsCalls (table choices : List ℕ) (t : Table) (buffer text : Lis
 unfoldable pub PrintedAsCalls : Type 0
 unfolding printedRun
 PrintedAsCalls =
-    (bs : List ℕ) → length bs ≤ 16384 → (table : List ℕ) → TablePart bs table → (t : Table) → Accepts table t →
+    (bs : List ℕ) → length bs ≤ 16384 → (table : List ℕ) → TablePart bs table → (t : Table) → AcceptsTable table t →
     (buffer : List ℕ) → length buffer ≡ hallBytes → PrintsCalls table (drop (length table) bs) t buffer (printedRun bs)

@@ -54,19 +54,19 @@ Rehearsed =
 
 -- a table that is refused, a hall of another size, and bytes that are no hall: their number and place come first, also
 -- before that of an unknown kind, and what was lent stays
-unfoldable pub TurnedDown : Type 0
+unfoldable pub Rejected : Type 0
 unfolding blockTable noise numbers tally stepCall
-TurnedDown =
-    (stepCall (numbers "7 0") (lentWith noise) 1 0 0 ≡ turned 1 1 noise) ×
-    (stepCall blockTable (lentWith (replicate 3 171)) 2 0 0 ≡ turned 10 0 (replicate 3 171)) ×
-    (stepCall blockTable (lentWith noise) 1 0 0 ≡ turned 11 0 noise) ×
-    (stepCall blockTable (lentWith noise) 3 0 0 ≡ turned 11 0 noise)
+Rejected =
+    (stepCall (numbers "7 0") (buffersWith noise) 1 0 0 ≡ rejectedWith 1 1 noise) ×
+    (stepCall blockTable (buffersWith (replicate 3 171)) 2 0 0 ≡ rejectedWith 10 0 (replicate 3 171)) ×
+    (stepCall blockTable (buffersWith noise) 1 0 0 ≡ rejectedWith 11 0 noise) ×
+    (stepCall blockTable (buffersWith noise) 3 0 0 ≡ rejectedWith 11 0 noise)
   where
-    lentWith : List ℕ → Buffers
-    lentWith h = record { hall = h; counters = tally 3 4 5 }
+    buffersWith : List ℕ → Buffers
+    buffersWith h = record { hall = h; counters = tally 3 4 5 }
 
-    turned : (number place : ℕ) → List ℕ → StepCall
-    turned n p h = record { number = n; place = p; rule = 0; buffers = lentWith h }
+    rejectedWith : (number place : ℕ) → List ℕ → StepCall
+    rejectedWith n p h = record { number = n; place = p; rule = 0; buffers = buffersWith h }
 
 -- rehearsal 1 by runs and steps: a run ended by 16 and a step of an unknown kind are among them
 unfoldable pub Mixed : Type 0
@@ -85,5 +85,5 @@ Mixed =
 
 pub record StepExamples : Type 0 where
   pub rehearsed : Rehearsed
-  pub turned-down : TurnedDown
+  pub rejected : Rejected
   pub mixed : Mixed

@@ -22,21 +22,21 @@ pub data Names : (kind position node : ℕ) → Entry → (size : ℕ) → Type 
   names-inside : {p k : ℕ} → Names 2 p k (inside p k) 3
 
 -- the answers to a step
-pub data StepAsPrinted (table : List ℕ) (l : Buffers) (kind position node : ℕ) : StepCall → Type 0 where
+pub data StepCallAsStated (table : List ℕ) (l : Buffers) (kind position node : ℕ) : StepCall → Type 0 where
   -- table or hall is turned down: that number and place
   not-admitted : {n p : ℕ} → admission table (l .hall) ≡ notAdmitted n p →
-      StepAsPrinted table l kind position node (record { number = n; place = p; rule = 0; buffers = l })
+      StepCallAsStated table l kind position node (record { number = n; place = p; rule = 0; buffers = l })
   -- 12: the kind is not 1 or 2
   kind-unknown : {t : Table} {h : Configuration} → admission table (l .hall) ≡ admitted t h → kind ≢ 1 → kind ≢ 2 →
-      StepAsPrinted table l kind position node (record { number = 12; place = 0; rule = 0; buffers = l })
+      StepCallAsStated table l kind position node (record { number = 12; place = 0; rule = 0; buffers = l })
   -- the choice is refused: its number, at the choice's first byte
   is-refused : {t : Table} {h : Configuration} {e : Entry} {size n : ℕ} → admission table (l .hall) ≡ admitted t h →
       Names kind position node e size → answerTo h e ≡ refused n →
-      StepAsPrinted table l kind position node (record { number = n; place = 0; rule = 0; buffers = l })
+      StepCallAsStated table l kind position node (record { number = n; place = 0; rule = 0; buffers = l })
   -- it moved: the number of its rule, the hall behind it, the tally with that rule counted; its place is its end
   has-moved : {t : Table} {h g : Configuration} {e : Entry} {size : ℕ} {r : Rule} →
       admission table (l .hall) ≡ admitted t h → Names kind position node e size → answerTo h e ≡ moved r g →
-      StepAsPrinted table l kind position node
+      StepCallAsStated table l kind position node
       (record {
         number = 0;
         place = size;
@@ -45,15 +45,15 @@ pub data StepAsPrinted (table : List ℕ) (l : Buffers) (kind position node : �
       })
 
 -- the definition gives exactly these
-unfoldable pub StepsAsPrinted : Type 0
-StepsAsPrinted =
+unfoldable pub StepCallsAsStated : Type 0
+StepCallsAsStated =
     (table : List ℕ) (l : Buffers) → Bytes table → Bytes (l .hall) → (kind position node : ℕ) (a : StepCall) →
-    (stepCall table l kind position node ≡ a) ↔ StepAsPrinted table l kind position node a
+    (stepCall table l kind position node ≡ a) ↔ StepCallAsStated table l kind position node a
 
 -- refused, under any number: no rule, hall and tally as they were; 12, or 14 to 20, at place 0 (13 cannot come); done:
 -- number 0, a rule from 1 to 13, and the place 2 for kind 1 and 3 for kind 2
-unfoldable pub StepNumbers : Type 0
-StepNumbers =
+unfoldable pub StepCallNumbers : Type 0
+StepCallNumbers =
     (table : List ℕ) (l : Buffers) → Bytes table → Bytes (l .hall) → (kind position node : ℕ) →
     let a = stepCall table l kind position node in
     ((a .number ≢ 0 → (a .rule ≡ 0) × (a .buffers ≡ l)) ×

@@ -31,5 +31,5 @@ pub record SuggestionExamples : Type 0 where
   pub nil-is-still : Only nilTable ((openHall nilTable noise) .hall) still
   -- bytes that are no hall, a hall of another size, and a table that is refused, which comes first
   pub malformed : Only blockTable noise (notSuggested 11 0)
-  pub wrong-size : Only blockTable [] (notSuggested 10 0)
+  pub size-mismatch : Only blockTable [] (notSuggested 10 0)
   pub refused : Only [] noise (notSuggested 9 0)

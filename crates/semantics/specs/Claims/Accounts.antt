@@ -16,7 +16,7 @@ use Rattle.semantics.specs.Definitions.Stored.{WellFormed, bytesOf}
 use Rattle.semantics.specs.Definitions.Moves.{effectOf, ruleNumber}
 use Rattle.semantics.specs.Definitions.Run.{Counters, net, Step, steps, finalConfiguration, run, schedule, entries}
 use Rattle.semantics.specs.Definitions.Calls.{Buffers, Call, afterCalls, entriesDone}
-use Rattle.semantics.specs.Claims.Correspondence.{Accepts, EveryHall}
+use Rattle.semantics.specs.Claims.Correspondence.{AcceptsTable, EveryHall}
 
 -- what a rule adds to a channel, and what it takes from it
 unfoldable pub adds : Name → Rule → ℕ
@@ -66,7 +66,7 @@ RunAccounts = EveryHall (λ t h.
 -- calls as one list
 unfoldable pub CallsAccounts : Type 0
 CallsAccounts =
-    (bs : List ℕ) (t : Table) → Accepts bs t → (h : Configuration) → WellFormed (t .terms) h →
+    (bs : List ℕ) (t : Table) → AcceptsTable bs t → (h : Configuration) → WellFormed (t .terms) h →
     (l : Buffers) → l .hall ≡ bytesOf h → WithinTop (l .counters) → (cs : List Call) →
     let ss = steps h (entriesDone bs l cs) in
     (g : Configuration) × ((afterCalls bs l cs) .hall ≡ bytesOf g) × (length ss ≡ length (entriesDone bs l cs)) ×

@@ -22,7 +22,7 @@ use Rattle.semantics.specs.Definitions.Calls.{Buffers, RunCall, Call, ca
 use Rattle.semantics.specs.Claims.NumberedRun.{aborts, withoutAborted, effects, numberedStart, numberedRun, gainedSince, members}
 use Rattle.semantics.specs.Claims.ConverseRuns.{PlainState, plainStart, ConverseSteps, idleConfiguration}
 use Rattle.semantics.specs.Claims.InnerMoves.{Moves}
-use Rattle.semantics.specs.Claims.Correspondence.{Accepts}
+use Rattle.semantics.specs.Claims.Correspondence.{AcceptsTable}
 
 -- an open attempt read as a block not begun
 unfoldable pub rolledBack : Component → Idle
@@ -41,15 +41,15 @@ answers table l (c ∷ cs) = callAnswer table l c ∷ answers table ((callAnswer
 module _ (t : Table) (first : Counters) (done : List Entry) where
   -- when j choices are done: the block n M at position q has a note, with the number of an earlier choice, which did
   -- ATST, and with the counts that this choice met
-  pub record AttemptOpened (j q n : ℕ) (M : Expression) : Type 0 where
+  pub record AttemptBegun (j q n : ℕ) (M : Expression) : Type 0 where
     pub opener : ℕ
     pub earlier : opener < j
     pub step : Step
     pub found : getElem? (steps (opening t) done) opener ≡ some step
     pub starts : step .rule ≡ ATST
-    pub noted :
+    pub note-made :
         getElem? ((numberedRun (numberedStart t first) (take j done)) .run .stations) q
-        ≡ some (record { station = block n M; note = some (record { counts = step .before .counts; opened = opener }) })
+        ≡ some (record { station = block n M; note = some (record { counts = step .before .counts; begun = opener }) })
 
   -- choice number j, by the step s: where it commits the path δ of a block, δ comes first among the block's paths
   -- that were readable at the opening, and where no tray gained between the two, first among those readable at the
@@ -57,7 +57,7 @@ module _ (t : Table) (first : Counters) (done : List Entry) where
   abbrev pub CommitOk : (j : ℕ) → Step → Type 0
   CommitOk j s =
       (δ : Log) → s .rule ≡ ATOK δ →
-      (p : ℕ) × (n : ℕ) × (M : Expression) × (o : AttemptOpened j p n M) × (s .chosen ≡ act p) ×
+      (p : ℕ) × (n : ℕ) × (M : Expression) × (o : AttemptBegun j p n M) × (s .chosen ≡ act p) ×
       (firstReadable (o .step .before .counts) M ≡ some δ) ×
       (gainedSince (o .opener) (map (λ u. u .rule) (take j (steps (opening t) done))) ≡ [] →
       firstReadable (s .before .counts) M ≡ some δ)
@@ -67,7 +67,7 @@ module _ (t : Table) (first : Counters) (done : List Entry) where
   abbrev pub AttemptsOk : (j : ℕ) → Configuration → Type 0
   AttemptsOk j h =
       (q n : ℕ) (M : Expression) (s : State) (u : Tree) → getElem? (h .components) q ≡ some (transaction n M s u) →
-      (o : AttemptOpened j q n M) × (o .step .before .counts ≡ s) × Moves s (leaf M emptyLog) u
+      (o : AttemptBegun j q n M) × (o .step .before .counts ≡ s) × Moves s (leaf M emptyLog) u
 
 -- ---- the claim
 
@@ -156,5 +156,5 @@ module _ (table : List ℕ) (t : Table) (buffer : List ℕ) (first : Counters) (
 -- each a run over choice bytes, well or badly formed, or a step by one choice, of a known kind or not
 unfoldable pub AtomicityOfCalls : Type 0
 AtomicityOfCalls =
-    (table : List ℕ) (t : Table) → Accepts table t → (buffer : List ℕ) → length buffer ≡ hallBytes →
+    (table : List ℕ) (t : Table) → AcceptsTable table t → (buffer : List ℕ) → length buffer ≡ hallBytes →
     (first : Counters) (cs : List Call) → Demand3 table t buffer first cs

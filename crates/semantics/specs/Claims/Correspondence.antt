@@ -20,12 +20,12 @@ use Rattle.semantics.specs.Definitions.Calls.{Quiescent}
 use Rattle.semantics.specs.Claims.Denotation.{proc, ongoingOf, componentProcess, Denotes, WithinLimits}
 
 -- the bytes are those of an accepted table
-abbrev pub Accepts : List ℕ → Table → Type 0
-Accepts bs t = Bytes bs × (readTable bs ≡ accepted t)
+abbrev pub AcceptsTable : List ℕ → Table → Type 0
+AcceptsTable bs t = Bytes bs × (readTable bs ≡ accepted t)
 
 -- said of every accepted table and every hall that is well formed for it, also one that no run reached
 abbrev pub EveryHall : (Table → Configuration → Type 0) → Type 0
-EveryHall Q = (bs : List ℕ) (t : Table) → Accepts bs t → (h : Configuration) → WellFormed (t .terms) h → Q t h
+EveryHall Q = (bs : List ℕ) (t : Table) → AcceptsTable bs t → (h : Configuration) → WellFormed (t .terms) h → Q t h
 
 -- said of every choice e accepted on such a hall h, with the rule r that it answers and the hall g after it
 abbrev pub EveryMove : (Table → Configuration → Entry → Rule → Configuration → Type 0) → Type 0
@@ -75,8 +75,8 @@ unfolding AtChosen
 Located = EveryMove (λ t h e r g. AtChosen h e r g)
 
 -- log order is one of the orders in which Table 2 lets ATOK lay its outputs down
-unfoldable pub LogOrderAsPrinted : Type 0
-LogOrderAsPrinted =
+unfoldable pub LogOrderAsStated : Type 0
+LogOrderAsStated =
     (l : Label) (P P′ : Process) (σ σ′ : State) → Reduces LogOrder l P σ P′ σ′ → Reduces AnyOrder l P σ P′ σ′
 
 -- what an accepted choice does is within the limits

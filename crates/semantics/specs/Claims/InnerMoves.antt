@@ -62,8 +62,8 @@ MovesGoOn = EveryHall (λ t h.
     (k : ℕ) × (r : Rule) × (g : Configuration) × InBytes (inside p k) × (answerTo h (inside p k) ≡ moved r g))
 
 -- and a single end or retry leaf has none
-unfoldable pub SettledRests : Type 0
-SettledRests = (s : State) (u : Tree) → Settled u → (k : ℕ) (r : Rule) (v : Tree) → inner s u k ≡ evolves r v → ⊥
+unfoldable pub SettledHasNoRule : Type 0
+SettledHasNoRule = (s : State) (u : Tree) → Settled u → (k : ℕ) (r : Rule) (v : Tree) → inner s u k ≡ evolves r v → ⊥
 
 -- whatever the order of the moves, one and the same tree stands at the end, its log and its term number included; from
 -- every tree, also one that no run reached

@@ -23,7 +23,7 @@ use Rattle.semantics.specs.Definitions.AtomicRun.{WithNote, Atomic, atom
 
 pub record Note : Type 0 where
   pub counts : State
-  pub opened : ℕ
+  pub begun : ℕ
 
 -- the state of the one-step run, and the number of the next choice
 pub record Numbered : Type 0 where
@@ -37,7 +37,7 @@ numberedStart t c = record { run = atomicStart t c; next = 0 }
 unfoldable pub numberedStep : Numbered → Entry → Numbered
 unfolding atomicStep
 numberedStep a e =
-    let noteOf : State → Note = λ σ. record { counts = σ; opened = a .next } in
+    let noteOf : State → Note = λ σ. record { counts = σ; begun = a .next } in
     record { run = atomicStep (λ m. m .counts) noteOf (a .run) e; next = suc (a .next) }
 
 unfoldable pub numberedRun : Numbered → List Entry → Numbered
@@ -73,8 +73,8 @@ gainedSince i done = flatten (map (λ r. (effectOf r) .added) (drop (suc i) done
 -- it opens an attempt, or it is an OUT, an IN or a REP and no other choice has that number.
 unfoldable pub attemptOf : Numbered → Entry → ℕ
 unfolding bind Option·elim
-attemptOf a (act p) = Option·elim (bind (getElem? (a .run .stations) p) (λ x. x .note)) (a .next) (λ m. m .opened)
-attemptOf a (inside p k) = Option·elim (bind (getElem? (a .run .stations) p) (λ x. x .note)) (a .next) (λ m. m .opened)
+attemptOf a (act p) = Option·elim (bind (getElem? (a .run .stations) p) (λ x. x .note)) (a .next) (λ m. m .begun)
+attemptOf a (inside p k) = Option·elim (bind (getElem? (a .run .stations) p) (λ x. x .note)) (a .next) (λ m. m .begun)
 
 -- a step with the attempt that it belongs to
 pub record Member : Type 0 where

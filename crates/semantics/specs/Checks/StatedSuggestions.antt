@@ -12,22 +12,22 @@ use Rattle.semantics.specs.Definitions.Moves.{act, inside, moved, answer
 use Rattle.semantics.specs.Definitions.Calls.{admitted, notAdmitted, admission, SuggestAnswer, suggested, still, notSuggested, SuggestAllowed}
 
 -- the answers to a table and a hall
-pub data AnswerAsPrinted (table hall : List ℕ) : SuggestAnswer → Type 0 where
+pub data AnswerAsStated (table hall : List ℕ) : SuggestAnswer → Type 0 where
   -- a choice of either kind, in bytes, that is accepted
   act-accepted : {t : Table} {h g : Configuration} {p : ℕ} {r : Rule} → admission table hall ≡ admitted t h →
-      p ≤ 255 → answerTo h (act p) ≡ moved r g → AnswerAsPrinted table hall (suggested (act p))
+      p ≤ 255 → answerTo h (act p) ≡ moved r g → AnswerAsStated table hall (suggested (act p))
   inside-accepted : {t : Table} {h g : Configuration} {p k : ℕ} {r : Rule} → admission table hall ≡ admitted t h →
-      p ≤ 255 → k ≤ 255 → answerTo h (inside p k) ≡ moved r g → AnswerAsPrinted table hall (suggested (inside p k))
+      p ≤ 255 → k ≤ 255 → answerTo h (inside p k) ≡ moved r g → AnswerAsStated table hall (suggested (inside p k))
   -- no choice of kind 1 is accepted, and none of kind 2
   none-accepted : {t : Table} {h : Configuration} → admission table hall ≡ admitted t h →
       ((p : ℕ) (r : Rule) (g : Configuration) → p ≤ 255 → answerTo h (act p) ≡ moved r g → ⊥) →
       ((p k : ℕ) (r : Rule) (g : Configuration) → p ≤ 255 → k ≤ 255 → answerTo h (inside p k) ≡ moved r g → ⊥) →
-      AnswerAsPrinted table hall still
+      AnswerAsStated table hall still
   -- the table or the hall is turned down, with this number and place
-  turned-down : {n p : ℕ} → admission table hall ≡ notAdmitted n p → AnswerAsPrinted table hall (notSuggested n p)
+  not-admitted : {n p : ℕ} → admission table hall ≡ notAdmitted n p → AnswerAsStated table hall (notSuggested n p)
 
 -- the definition allows exactly these
-unfoldable pub AllowedAsPrinted : Type 0
+unfoldable pub AllowedAsStated : Type 0
 unfolding SuggestAllowed
-AllowedAsPrinted =
-    (table hall : List ℕ) (a : SuggestAnswer) → SuggestAllowed table hall a ↔ AnswerAsPrinted table hall a
+AllowedAsStated =
+    (table hall : List ℕ) (a : SuggestAnswer) → SuggestAllowed table hall a ↔ AnswerAsStated table hall a

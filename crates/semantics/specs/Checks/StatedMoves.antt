@@ -67,61 +67,61 @@ pub data NodeMoves (s : State) : (old : Tree) → Rule → (number : ℕ) → (n
   aoe13 : {n : ℕ} {δ : Log} {r : Tree} → NodeMoves s (fork (leaf (endT n) δ) r) AOE 13 (leaf (endT n) δ)
 
 -- a choice on a hall, the rule with its number, and the hall afterwards
-pub data MoveAsPrinted (h : Configuration) : Entry → Rule → (number : ℕ) → Configuration → Type 0 where
+pub data MoveAsStated (h : Configuration) : Entry → Rule → (number : ℕ) → Configuration → Type 0 where
   -- the tray gains one, up to 255, and the station goes
   out1 : {p : ℕ} {a : Name} {cs : List Component} → GivesWay p (idle (output a)) [] (h .components) cs →
       count (h .counts) a < 255 →
-      MoveAsPrinted h (act p) (OUT a) 1
+      MoveAsStated h (act p) (OUT a) 1
       (record { counts = set (h .counts) a (suc (count (h .counts) a)); components = cs })
   -- the tray loses one, which it has, and the continuation opens there; at most 64 stations are left
   in2 : {p n m : ℕ} {a : Name} {P : Program} {ds : List Idle} {cs : List Component} →
       GivesWay p (idle (taking n a P)) (map idle ds) (h .components) cs → OpensInto P ds →
       count (h .counts) a ≡ suc m → length cs ≤ 64 →
-      MoveAsPrinted h (act p) (IN a) 2 (record { counts = set (h .counts) a m; components = cs })
+      MoveAsStated h (act p) (IN a) 2 (record { counts = set (h .counts) a m; components = cs })
   -- the same, and the repeated take stays, after what opened
   rep3 : {p n m : ℕ} {a : Name} {P : Program} {ds : List Idle} {cs : List Component} →
       GivesWay p (idle (repeating n a P)) (map idle (ds ++ (repeating n a P ∷ []))) (h .components) cs →
       OpensInto P ds → count (h .counts) a ≡ suc m → length cs ≤ 64 →
-      MoveAsPrinted h (act p) (REP a) 3 (record { counts = set (h .counts) a m; components = cs })
+      MoveAsStated h (act p) (REP a) 3 (record { counts = set (h .counts) a m; components = cs })
   -- an attempt of this very block: one leaf with its expression, nothing logged, the counts as snapshot
   atst4 : {p n : ℕ} {M : Expression} {cs : List Component} →
       GivesWay p (idle (block n M)) (transaction n M (h .counts) (leaf M []) ∷ []) (h .components) cs →
-      MoveAsPrinted h (act p) ATST 4 (record { counts = h .counts; components = cs })
+      MoveAsStated h (act p) ATST 4 (record { counts = h .counts; components = cs })
   -- a single retry leaf: back to waiting, with the block's own number
   atre5 : {p n e : ℕ} {M : Expression} {s : State} {δ : Log} {cs : List Component} →
       GivesWay p (transaction n M s (leaf (retryT e) δ)) (idle (block n M) ∷ []) (h .components) cs →
-      MoveAsPrinted h (act p) ATRE 5 (record { counts = h .counts; components = cs })
+      MoveAsStated h (act p) ATRE 5 (record { counts = h .counts; components = cs })
   -- a single end leaf whose log reads more of some tray than is there now: likewise
   atfail6 : {p n e : ℕ} {M : Expression} {s : State} {δ : Log} {cs : List Component} →
       GivesWay p (transaction n M s (leaf (endT e) δ)) (idle (block n M) ∷ []) (h .components) cs →
       ¬ Included (RD δ) (h .counts) →
-      MoveAsPrinted h (act p) ATFAIL 6 (record { counts = h .counts; components = cs })
+      MoveAsStated h (act p) ATFAIL 6 (record { counts = h .counts; components = cs })
   -- a single end leaf whose log reads no more than is there now: the counts fall by the reads, and a putting station
   -- for each write, in log order, stands in the attempt's place; at most 64 stations are left
   atok7 : {p n e : ℕ} {M : Expression} {s : State} {δ : Log} {cs : List Component} →
       GivesWay p (transaction n M s (leaf (endT e) δ)) (map (λ a. idle (output a)) (WT δ)) (h .components) cs →
       Included (RD δ) (h .counts) → length cs ≤ 64 →
-      MoveAsPrinted h (act p) (ATOK δ) 7 (record { counts = without (h .counts) (RD δ); components = cs })
+      MoveAsStated h (act p) (ATOK δ) 7 (record { counts = without (h .counts) (RD δ); components = cs })
   -- 8 to 13: the node changes, and nothing else
   inside8-13 : {p k n m : ℕ} {M : Expression} {s : State} {t u old new : Tree} {r : Rule} {cs : List Component} →
       GivesWay p (transaction n M s t) (transaction n M s u ∷ []) (h .components) cs →
       NodeBecomes k old new t u → NodeMoves s old r m new →
-      MoveAsPrinted h (inside p k) r m (record { counts = h .counts; components = cs })
+      MoveAsStated h (inside p k) r m (record { counts = h .counts; components = cs })
 
 -- ---- the claims
 
 -- the definition of what opens is the relation
-unfoldable pub OpensAsPrinted : Type 0
+unfoldable pub OpensAsStated : Type 0
 unfolding opens
-OpensAsPrinted = (P : Program) (cs : List Idle) → (opens P ≡ cs) ↔ OpensInto P cs
+OpensAsStated = (P : Program) (cs : List Idle) → (opens P ≡ cs) ↔ OpensInto P cs
 
 -- on every well-formed hall, also one that no run reached: a choice is accepted by a rule of this number, with this
 -- hall afterwards, exactly where that is a move as printed
-unfoldable pub MovesAsPrinted : Type 0
+unfoldable pub MovesAsStated : Type 0
 unfolding answerTo ruleNumber
-MovesAsPrinted =
+MovesAsStated =
     (ts : List Term) (h : Configuration) → WellFormed ts h → (e : Entry) (r : Rule) (n : ℕ) (g : Configuration) →
-    ((answerTo h e ≡ moved r g) × (ruleNumber r ≡ n)) ↔ MoveAsPrinted h e r n g
+    ((answerTo h e ≡ moved r g) × (ruleNumber r ≡ n)) ↔ MoveAsStated h e r n g
 
 -- ---- each worked out once, to the number
 

@@ -1,4 +1,4 @@
--- The definition of a choice accepts exactly the moves as printed: the claims of specs/Checks/PrintedMoves.
+-- The definition of a choice accepts exactly the moves as printed: the claims of specs/Checks/StatedMoves.
 -- Assumes nothing.
 use Prim.Native.Nat.{ℕ, zero, suc, _+_, _-_, _≤_}
 use native.Mathlib.Omega.{arith}
@@ -17,7 +17,7 @@ use Rattle.semantics.specs.Definitions.Terms.{Expression, endT, retryT, rdT, wt
 use Rattle.semantics.specs.Definitions.Logs.{emptyLog, readable, addToken, takeToken}
 use Rattle.semantics.specs.Definitions.Configuration.{Idle, taking, repeating, block, output, Tree, leaf, fork, Component, idle, transaction, Configuration, opens, nodes}
 use Rattle.semantics.specs.Definitions.Moves.{Entry, act, inside, LocalAnswer, moves, blocked, takes, puts, commits, ends, acts, Inner, evolves, noRule, outOfRange, reads, atLeaf, atFork, inLeft, inRight, inner, innerLocal, actsInside, moved, answerTo, ruleNumber}
-use Rattle.semantics.specs.Checks.PrintedMoves.{OpensInto, nil-opens, put-opens, take-opens, repeat-opens, par-opens, atom-opens, GivesWay, at-first, further, NodeBecomes, at-root, at-left, at-right, NodeMoves, ardok8, ardf9, awr10, aoi11, aof12, aoe13, MoveAsPrinted, out1, in2, rep3, atst4, atre5, atfail6, atok7, inside8-13, OpensAsPrinted, MovesAsPrinted}
+use Rattle.semantics.specs.Checks.StatedMoves.{OpensInto, nil-opens, put-opens, take-opens, repeat-opens, par-opens, atom-opens, GivesWay, at-first, further, NodeBecomes, at-root, at-left, at-right, NodeMoves, ardok8, ardf9, awr10, aoi11, aof12, aoe13, MoveAsStated, out1, in2, rep3, atst4, atre5, atfail6, atok7, inside8-13, OpensAsStated, MovesAsStated}
 use Rattle.theorems.proofs.Lists.{none-found, found-below, length-replaceAt}
 use Rattle.theorems.proofs.Readable.{readable-included, unreadable-not-included, included-readable, not-included-unreadable}
 use Rattle.theorems.proofs.Reading.{by-cases}
@@ -45,9 +45,9 @@ into-opens repeat-opens = refl
 into-opens (par-opens o q) = ap₂ _++_ (into-opens o) (into-opens q)
 into-opens atom-opens = refl
 
-pub opens-as-printed : OpensAsPrinted
-unfolding OpensAsPrinted
-opens-as-printed P cs = (λ e. subst (OpensInto P) e (opens-into P), into-opens)
+pub opens-as-stated : OpensAsStated
+unfolding OpensAsStated
+opens-as-stated P cs = (λ e. subst (OpensInto P) e (opens-into P), into-opens)
 
 -- ---- at a position
 
@@ -174,7 +174,7 @@ module _ (h : Configuration) (p : ℕ) where
   -- a component's own move is one as printed, where it leaves at most 64 components
   abbrev LocalPrinted : Entry → LocalAnswer → Type 0
   LocalPrinted e (moves r σ cs) = length (replaceAt p cs (h .components)) ≤ 64 →
-      MoveAsPrinted h e r (ruleNumber r) (record { counts = σ; components = replaceAt p cs (h .components) })
+      MoveAsStated h e r (ruleNumber r) (record { counts = σ; components = replaceAt p cs (h .components) })
   LocalPrinted e (blocked n) = Unit {0}
 
   -- IN and REP
@@ -239,13 +239,13 @@ local-printed h (inside p k) c f = inside-printed h p k c f
 
 -- every accepted choice is a move as printed
 chosen-printed : (h : Configuration) (e : Entry) (r : Rule) (g : Configuration) → answerTo h e ≡ moved r g →
-    MoveAsPrinted h e r (ruleNumber r) g
+    MoveAsStated h e r (ruleNumber r) g
 chosen-printed h e r g q =
     let a = accepted-inverts h e r g q in
     let m : LocalPrinted h (positionOf e) e (moves r (g .counts) (a .laid)) =
     rw (a .local) at (local-printed h e (a .component) (a .found)) in
     let fits : length (replaceAt (positionOf e) (a .laid) (h .components)) ≤ 64 = rw (← (a .placed)) (a .fits) in
-    subst (λ cs. MoveAsPrinted h e r (ruleNumber r) (record { counts = g .counts; components = cs })) (sym (a .placed))
+    subst (λ cs. MoveAsStated h e r (ruleNumber r) (record { counts = g .counts; components = cs })) (sym (a .placed))
     (m fits)
 
 -- ---- and back
@@ -268,7 +268,7 @@ module _ {c : Component} {new cs : List Component} (h : Configuration) (e : Entr
 
 -- every move as printed is an accepted choice
 printed-chosen : (h : Configuration) → length (h .components) ≤ 64 →
-    {e : Entry} {r : Rule} {n : ℕ} {g : Configuration} → MoveAsPrinted h e r n g →
+    {e : Entry} {r : Rule} {n : ℕ} {g : Configuration} → MoveAsStated h e r n g →
     (answerTo h e ≡ moved r g) × (ruleNumber r ≡ n)
 unfolding localMove positionOf acts puts addToken ends commits actsInside innerLocal emptyLog ruleNumber
 printed-chosen h few (out1 {p} {a} w b) =
@@ -288,7 +288,7 @@ printed-chosen h few (inside8-13 {p} {k} {s = s} {r = r} w b m) =
     let o = root-moves m in
     (kept h (inside p k) r _ w (rw (node-moves s r b (o .0))) few (omega arith), o .1)
 
-pub moves-as-printed : MovesAsPrinted
-unfolding MovesAsPrinted
-moves-as-printed ts h ok e r n g =
+pub moves-as-stated : MovesAsStated
+unfolding MovesAsStated
+moves-as-stated ts h ok e r n g =
     (λ q. rw (q .1) at (chosen-printed h e r g (q .0)), printed-chosen h (ok .few))
