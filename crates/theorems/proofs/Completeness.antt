@@ -29,7 +29,7 @@ use Rattle.semantics.specs.Claims.Correspondence.{AcceptsTable, HasChoices, Com
 use Rattle.semantics.specs.Claims.Denotation.{expr, proc, ongoingOf, componentProcess, Denotes, nothing, alone, beside, parallel, Bounded, WithinLimits}
 use Rattle.theorems.proofs.Lists.{found-below, found-left, found-right, replaceAt-left, replaceAt-right, all-at, all-getD}
 use Rattle.theorems.proofs.Readable.{included-readable, not-included-unreadable}
-use Rattle.theorems.proofs.Moves.{positionOf, localMove, accepted-made}
+use Rattle.theorems.proofs.Moves.{positionOf, localMove, out-of-range, accepted-made}
 use Rattle.theorems.proofs.Measures.{branches-positive}
 use Rattle.theorems.proofs.GoodTable.{accepted-is-good}
 use Rattle.theorems.proofs.WellFormedKept.{well-formed-step}
@@ -101,14 +101,6 @@ of-leaf {E} {M} {σ} {δ} c e =
 
 -- ---- a move inside a transaction
 
--- counting on behind a tree's nodes leads past the tree
-passes-over : (s : State) (t : Tree) (j : ℕ) → inner s t (nodes t + j) ≡ outOfRange j
-unfolding inner nodes
-passes-over s (leaf M δ) j = let p : 1 + j ≡ suc j = omega arith in rw p
-passes-over s (fork l r) j =
-    let p : 1 + (nodes l + nodes r) + j ≡ suc (nodes l + (nodes r + j)) = omega arith in
-    rw p (rw (passes-over s l (nodes r + j)) (rw (passes-over s r j)))
-
 -- some node of the tree makes this move, to a tree whose image is A
 record InnerMove (s : State) (t : Tree) (r : Rule) (A : Ongoing) : Type 0 where
   node : ℕ
@@ -159,7 +151,7 @@ inner-move (aor {A = A} {B = B} d) s t e =
     let m = inner-move d s r right in
     let k = m .counted in
     let z = m .made in
-    let on = passes-over s l (m .node) in
+    let on = out-of-range s l (m .node) in
     rw shape (record { node = suc (nodes l + m .node); result = fork l (m .result); counted = omega arith; made = rw (on, z); image = cc (m .image) })
 
 -- ---- what stands for a process

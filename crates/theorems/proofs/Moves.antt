@@ -15,10 +15,18 @@ use Rattle.calculus.specs.Reduction.{Rule, ARDOK, ARDF, AWR, AOI, AOF, AOE}
 use Rattle.semantics.specs.Definitions.Basics.{replaceAt}
 use Rattle.semantics.specs.Definitions.Terms.{Expression, endT, retryT, rdT, wtT, orElseT}
 use Rattle.semantics.specs.Definitions.Logs.{readable}
-use Rattle.semantics.specs.Definitions.Configuration.{Tree, leaf, fork, Component, Configuration}
+use Rattle.semantics.specs.Definitions.Configuration.{Tree, leaf, fork, Component, Configuration, nodes}
 use Rattle.semantics.specs.Definitions.Moves.{Entry, act, inside, LocalAnswer, moves, blocked, acts, Inner, evolves, noRule, outOfRange, atLeaf, atFork, inRight, inLeft, inner, actsInside, Answer, moved, refused, applyAt, atPosition, answerTo}
 use Rattle.semantics.specs.Definitions.Run.{ScheduleItem, entry, malformed, entries, Counters, counted, RunAnswer, continueRun, runFrom, Step, continueSteps, steps}
 use Rattle.theorems.proofs.Reading.{by-cases}
+
+-- counting on behind a tree's nodes leads past the tree
+pub out-of-range : (s : State) (t : Tree) (j : ℕ) → inner s t (nodes t + j) ≡ outOfRange j
+unfolding inner nodes inLeft inRight
+out-of-range s (leaf M δ) j = let z : 1 + j ≡ suc j = omega arith in rw z
+out-of-range s (fork l r) j =
+    let z : 1 + (nodes l + nodes r) + j ≡ suc (nodes l + (nodes r + j)) = omega arith in
+    rw (z, out-of-range s l (nodes r + j), out-of-range s r j)
 
 -- the position that an entry names
 unfoldable pub positionOf : Entry → ℕ

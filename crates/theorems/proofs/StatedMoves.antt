@@ -21,7 +21,7 @@ use Rattle.semantics.specs.Checks.StatedMoves.{OpensInto, nil-opens, put-opens,
 use Rattle.theorems.proofs.Lists.{none-found, found-below, length-replaceAt}
 use Rattle.theorems.proofs.Readable.{readable-included, unreadable-not-included, included-readable, not-included-unreadable}
 use Rattle.theorems.proofs.Reading.{by-cases}
-use Rattle.theorems.proofs.Moves.{positionOf, localMove, accepted-inverts, accepted-made}
+use Rattle.theorems.proofs.Moves.{positionOf, localMove, out-of-range, accepted-inverts, accepted-made}
 
 -- ---- what a process opens into
 
@@ -126,14 +126,6 @@ inner-printed s (fork l r) zero = fork-printed s l r
 inner-printed s (fork l r) (suc k) =
     left-printed s l r k (inner s l k) (inner s r) (inner-printed s l k) (inner-printed s r)
 
--- and back: past a tree's nodes
-past-nodes : (s : State) (t : Tree) (j : ℕ) → inner s t (nodes t + j) ≡ outOfRange j
-unfolding inner nodes inLeft inRight
-past-nodes s (leaf M δ) j = let z : 1 + j ≡ suc j = omega arith in rw z
-past-nodes s (fork l r) j =
-    let z : 1 + (nodes l + nodes r) + j ≡ suc (nodes l + (nodes r + j)) = omega arith in
-    rw (z, past-nodes s l (nodes r + j), past-nodes s r j)
-
 -- a node that moves as printed moves by itself
 root-moves : {s : State} {old new : Tree} {r : Rule} {n : ℕ} → NodeMoves s old r n new →
     (inner s old 0 ≡ evolves r new) × (ruleNumber r ≡ n)
@@ -151,7 +143,7 @@ node-moves : {k : ℕ} {old new t u : Tree} (s : State) (r : Rule) → NodeBecom
 unfolding inner inLeft inRight
 node-moves s e at-root q = q
 node-moves s e (at-left b) q = rw (node-moves s e b q)
-node-moves s e (at-right {k = k} {l = l} b) q = rw (past-nodes s l k, node-moves s e b q)
+node-moves s e (at-right {k = k} {l = l} b) q = rw (out-of-range s l k, node-moves s e b q)
 
 -- ---- taking a token
 

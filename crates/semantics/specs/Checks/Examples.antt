@@ -5,7 +5,7 @@
 -- hall is checked, the choices are run on it, the hall that they leave is checked and every choice tried on it, and the
 -- program prints table and choices. Beside them go the rules done and the one-step run over the choices done.
 -- The ten rehearsals come first. Each row below them is there for a wrong definition that the ten let through, and its
--- comment says which. The edges at which a row need not go through all calls stand in specs/EdgeExamples.
+-- comment says which. The edges at which a row need not go through all calls stand in specs/Checks/EdgeExamples.
 -- Assumes nothing.
 use Prim.Native.Nat.{ℕ, zero, suc, _+_, _-_, _*_}
 use Prim.Native.Char.{code}

@@ -1,6 +1,7 @@
 -- The limits and the numbers of the stored form (document 01), each with a name for the definitions to use. Kinds of
 -- records and choices and the numbers of refusals stand where they are read. The one-step run, the converse's steps and
--- the checks write their numbers out, so that a wrong number here does not go into them too.
+-- the conditions, moves and rows of the checks write their numbers out, so that a wrong number here does not go into
+-- them too.
 -- Assumes nothing.
 use Prim.Native.Nat.{ℕ}
 

@@ -1,4 +1,4 @@
--- One choice on a hall (document 01, "Choices and moves" and refusals 12 to 20). A choice is an entry of a schedule.
+-- One choice on a hall (document 01, "Choices and moves" and refusals 14 to 20). A choice is an entry of a schedule.
 -- Assumes nothing.
 use Prim.Native.Nat.{ℕ, zero, suc}
 use mathlib.Core.Bool.{cond}

@@ -6,13 +6,13 @@
 use Prim.Native.Nat.{ℕ, _+_, max}
 use Rattle.calculus.specs.Syntax.{Name}
 
--- kinds 7 to 11; `retryT 255` is the retry that needs no record
+-- kinds 7 to 11, its expressions; `retryT 255` is the retry that needs no record
 pub data Expression : Type 0 where
   endT retryT : ℕ → Expression
   rdT wtT : ℕ → Name → Expression → Expression
   orElseT : ℕ → Expression → Expression → Expression
 
--- kinds 1 to 6
+-- kinds 1 to 6, document 01's processes
 pub data Program : Type 0 where
   nilT : ℕ → Program
   putT : ℕ → Name → Program
