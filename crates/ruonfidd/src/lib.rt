@@ -243,5 +243,6 @@ pub extern "C" fn ruonfidd_report(input: &[u8], output: &mut [u8; OUTPUT], lengt
         (now (length .exit)) ⌝ }
     ensures short { λ _. ⌜ now (length .exit) ≤ linesMost ⌝ }
 {
-    *length = report::report(input, output);
+    let written = report::report(input, output);
+    *length = written;
 }
