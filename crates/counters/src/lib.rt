@@ -41,8 +41,8 @@ fn counted_rule(counters: Counters, rule: u8) -> Counters
     }
 }
 
-// A lent tally is brought up to date after a move. References to structs are proved by a walk by hand, so that this does
-// no more than pass the value on and store the answer.
+// Brings a lent tally up to date after a move. Code behind a reference to a struct is proved by a walk by hand, so this
+// only passes the value on and stores the answer.
 pub fn count_rule(counters: &mut Counters, rule: u8)
     ensures { λ _. ⌜ now (counters .exit) ≡ countedBy (now (counters .entry)) rule ⌝ }
 {
@@ -61,7 +61,8 @@ impl Counters {
         }
     }
 
-    // The tally after a move by the rule of this number. Whoever calls this has no reference to a struct in hand.
+    // The tally after a move by the rule of this number. It lends a local, so that its callers hold no reference to a
+    // struct and need no walk.
     pub fn count(self, rule: u8) -> Self
         ensures { λ r. ⌜ ((done : Rule) → ruleNumber done ≡ rule → countersOf r ≡ counted done (countersOf self)) ⌝ }
     {

@@ -1,4 +1,5 @@
--- `count_rule` meets its contract: a walk of its MIR, by hand. The borrow is opened, the tally behind it is copied and passed to `counted_rule`, the answer is stored in its place, and the borrow is closed at that answer.
+-- `count_rule` meets its contract: a walk of its MIR, by hand. The borrow is opened, the tally behind it is copied and
+-- passed to `counted_rule`, the answer is stored in its place, and the borrow is closed at that answer.
 -- All that the proof knows of `counted_rule` is that it meets its contract. Assumes nothing.
 use mathlib.Core.Path.{_≡_, refl}
 use Prim.Native.Nat.{ℕ, _<_, _^_}

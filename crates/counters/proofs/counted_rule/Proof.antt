@@ -1,5 +1,6 @@
 -- `counted_rule` meets its contract: each of the three counters is raised by its own rule. Assumes nothing.
 use borrow.Author.Needs.{needs}
+use Rattle.counters.specs.Counted.{countedBy}
 use Rattle.counters.proofs.Rising.{all-raised}
 use Rattle.counters.proofs.counted_rule.Statement.{statement}
 use Rattle.counters.proofs.counted_rule.Tie as tie
@@ -14,6 +15,7 @@ raised-requires-3 : tie.Need-raised-requires-3
 raised-requires-3 c κs = search needs
 
 returns : tie.Need-returns
+unfolding countedBy
 returns c = search all-raised
 
 pub counted-rule-spec : {M : Type 1} → statement M
