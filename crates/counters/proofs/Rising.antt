@@ -29,11 +29,6 @@ module _ (counts rule counter : ℕ) where
 
 -- ---- the three
 
--- a tally is known by its counters
-pub all-raised : (t u : code.Counters) (rule : ℕ) → u .commits ≡ countedBy t rule .commits →
-    u .failed ≡ countedBy t rule .failed → u .retries ≡ countedBy t rule .retries → u ≡ countedBy t rule
-all-raised t u rule c f r = λ i. record { commits = c i; failed = f i; retries = r i }
-
 -- after a move by a rule of this number the tally is what the definitions make of it
 pub counted-by : (t : code.Counters) (rule : ℕ) (done : Rule) → ruleNumber done ≡ rule →
     countersOf (countedBy t rule) ≡ counted done (countersOf t)

@@ -1,7 +1,6 @@
 -- `counted_rule` meets its contract: each of the three counters is raised by its own rule. Assumes nothing.
 use borrow.Author.Needs.{needs}
 use Rattle.counters.specs.Counted.{countedBy}
-use Rattle.counters.proofs.Rising.{all-raised}
 use Rattle.counters.proofs.counted_rule.Statement.{statement}
 use Rattle.counters.proofs.counted_rule.Tie as tie
 
@@ -16,7 +15,11 @@ raised-requires-3 c κs = search needs
 
 returns : tie.Need-returns
 unfolding countedBy
-returns c = search all-raised
+returns c = λ i. record {
+  commits = c .before .before .raised .ensures i;
+  failed = c .before .raised2 .ensures i;
+  retries = c .raised3 .ensures i;
+}
 
 pub counted-rule-spec : {M : Type 1} → statement M
 counted-rule-spec =
