@@ -41,8 +41,8 @@ fn counted_rule(counters: Counters, rule: u8) -> Counters
     }
 }
 
-// Brings a lent tally up to date after a move. Code behind a reference to a struct is proved by a walk by hand, so this
-// only passes the value on and stores the answer.
+// Brings a lent tally up to date after a move. What goes through a reference to a struct is proved by a walk by hand, so
+// this only passes the value on and stores the answer.
 pub fn count_rule(counters: &mut Counters, rule: u8)
     ensures { λ _. ⌜ now (counters .exit) ≡ countedBy (now (counters .entry)) rule ⌝ }
 {
