@@ -2,14 +2,13 @@
 -- Assumes nothing.
 use Prim.Native.Nat.{ℕ, _+_, _≤_}
 use native.Mathlib.Omega.{arith}
-use mathlib.Core.Path.{_≡_, ap}
+use mathlib.Core.Path.{_≡_, sym, ap}
 use borrow.Author.Tests.{eq-eqb, ne-eqb}
 use Rattle.calculus.specs.Reduction.{Rule}
-use Rattle.semantics.specs.Definitions.Layout.{counterTop}
 use Rattle.semantics.specs.Definitions.Moves.{ruleNumber}
-use Rattle.semantics.specs.Definitions.Run.{Counters, saturatingSuc, countedAt, counted}
+use Rattle.semantics.specs.Definitions.Run.{saturatingSuc, countedAt, counted}
 use Rattle.counters.specs.declared.Counters as code
-use Rattle.counters.specs.Counted.{countersOf, raisedBy}
+use Rattle.counters.specs.Counted.{countersOf, raisedBy, countedBy}
 
 -- ---- one counter
 
@@ -30,13 +29,11 @@ module _ (counts rule counter : ℕ) where
 
 -- ---- the three
 
--- after a move by a rule of this number each counter is what the definitions make of it
-pub all-raised : (t u : code.Counters) (rule : ℕ) (done : Rule) → ruleNumber done ≡ rule →
-    u .commits ≡ raisedBy 7 rule (t .commits) → u .failed ≡ raisedBy 6 rule (t .failed) →
-    u .retries ≡ raisedBy 5 rule (t .retries) →
-    countersOf u ≡ counted done (countersOf t)
-unfolding counted countedAt raisedBy
-all-raised t u rule done e c f r = rw (c, f, r, ← e)
+-- after a move by a rule of this number the tally is what the definitions make of it
+pub counted-by : (t : code.Counters) (rule : ℕ) (done : Rule) → ruleNumber done ≡ rule →
+    countersOf (countedBy t rule) ≡ counted done (countersOf t)
+unfolding counted countedAt raisedBy countedBy
+counted-by t rule done e = ap (λ number. countersOf (countedBy t number)) (sym e)
 
 -- no two values of the code are one tally
 pub counters-injective : (t u : code.Counters) → countersOf t ≡ countersOf u → t ≡ u

@@ -13,3 +13,12 @@ countersOf t = record { commits = t .commits; failed = t .failed; retries = t .r
 unfoldable pub raisedBy : (counts rule counter : ℕ) → ℕ
 unfolding saturatingSuc
 raisedBy counts rule counter = cond (eqb rule counts) (saturatingSuc counter) counter
+
+-- the tally after a move by the rule of this number
+unfoldable pub countedBy : code.Counters → (rule : ℕ) → code.Counters
+unfolding raisedBy
+countedBy t rule = record {
+  commits = raisedBy 7 rule (t .commits);
+  failed = raisedBy 6 rule (t .failed);
+  retries = raisedBy 5 rule (t .retries);
+}

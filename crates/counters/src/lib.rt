@@ -6,7 +6,7 @@ ghost use mathlib.Core.Path.{_≡_};
 ghost use Rattle.calculus.specs.Reduction.{Rule};
 ghost use Rattle.semantics.specs.Definitions.Moves.{ruleNumber};
 ghost use Rattle.semantics.specs.Definitions.Run.{freshCounters, counted};
-ghost use Rattle.counters.specs.Counted.{countersOf, raisedBy};
+ghost use Rattle.counters.specs.Counted.{countersOf, raisedBy, countedBy};
 
 // A counter that has come here stays.
 pub const COUNTER_TOP: u32 = 4294967295;
@@ -30,6 +30,25 @@ fn raised(counts: u8, rule: u8, counter: u32) -> u32
     counter + 1
 }
 
+// The tally after a move by the rule of this number: a number that none of the three counts leaves it as it is.
+fn counted_rule(counters: Counters, rule: u8) -> Counters
+    ensures { λ r. ⌜ r ≡ countedBy counters rule ⌝ }
+{
+    Counters {
+        commits: raised(ATOK, rule, counters.commits),
+        failed: raised(ATFAIL, rule, counters.failed),
+        retries: raised(ATRE, rule, counters.retries),
+    }
+}
+
+// Brings a lent tally up to date after a move. What goes through a reference to a struct is proved by a walk by hand, so
+// this only passes the value on and stores the answer.
+pub fn count_rule(counters: &mut Counters, rule: u8)
+    ensures { λ _. ⌜ now (counters .exit) ≡ countedBy (now (counters .entry)) rule ⌝ }
+{
+    *counters = counted_rule(*counters, rule);
+}
+
 impl Counters {
     // The fresh tally: nothing counted yet.
     pub fn fresh() -> Self
@@ -42,14 +61,13 @@ impl Counters {
         }
     }
 
-    // The tally after a move by the rule of this number.
+    // The tally after a move by the rule of this number. It lends a local, so that its callers hold no reference to a
+    // struct and need no walk.
     pub fn count(self, rule: u8) -> Self
         ensures { λ r. ⌜ ((done : Rule) → ruleNumber done ≡ rule → countersOf r ≡ counted done (countersOf self)) ⌝ }
     {
-        Counters {
-            commits: raised(ATOK, rule, self.commits),
-            failed: raised(ATFAIL, rule, self.failed),
-            retries: raised(ATRE, rule, self.retries),
-        }
+        let mut tally = self;
+        count_rule(&mut tally, rule);
+        tally
     }
 }
