@@ -1,8 +1,8 @@
 // Writes: AWR (rule 10).
 use crate::actions::log_action;
 use buffer::wide;
-use logs::WRITES;
 use stored::LEAF_TERM;
+use stored::WRITE_OFFSET;
 use terms::DECODED;
 ghost use mathlib.Core.Path.{_≡_};
 ghost use Rattle.transactions.specs.Bytes.{Actionable, writeLogged};
@@ -14,5 +14,10 @@ pub fn log_write(decoded: &[u8; DECODED], hall: &mut [u8], at: usize)
 {
     let term = wide(hall[at + LEAF_TERM]);
     let next = terms::second_of(decoded, term);
-    log_action(hall, at, next, WRITES + terms::first_of(decoded, term));
+    log_action(
+        hall,
+        at,
+        next,
+        WRITE_OFFSET + terms::first_of(decoded, term),
+    );
 }
