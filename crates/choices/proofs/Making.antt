@@ -24,9 +24,10 @@ use Rattle.transactions.specs.declared.InnerMove.the-variants as inner
 use Rattle.transactions.specs.declared.InnerMove.the-variants.{Found}
 use Rattle.transactions.specs.Finding.{replied}
 use Rattle.transactions.specs.Moving.{CanMove, HasMoved}
-use Rattle.choices.specs.declared.Entry as choices
-use Rattle.choices.specs.declared.Entry.the-variants.{Act, Inside}
-use Rattle.choices.specs.Entries.{entryOf, LookedInside}
+use Rattle.schedule.specs.declared.Entry as choices
+use Rattle.schedule.specs.declared.Entry.the-variants.{Act, Inside}
+use Rattle.choices.specs.Entries.{LookedInside}
+use Rattle.schedule.specs.Entries.{entryOf}
 use Rattle.communication.specs.Tokens.{CanPut, TokenPut, CanTake, TokenTaken}
 use Rattle.blocks.specs.Ends.{Restarts, CanRestart, Restarted, CanCommit, Committed}
 use Rattle.index.specs.Choices.{afterwards, Looked, Accepts, Applied, Chosen}

@@ -1,10 +1,9 @@
--- The entry at an offset of a schedule, from what was parsed there; an entry that was made, by what it was answered.
+-- An entry that was made, by what it was answered; and that no refusal has number 0.
 -- Assumes nothing.
 use Prim.Native.Nat.{ℕ, _<_}
 use native.Mathlib.Omega.{arith}
 use mathlib.Core.Path.{_≡_, refl, sym, ap, subst, _∙_}
 use mathlib.Core.List.{List, [], _∷_}
-use lib.ListN.{drop}
 use Rattle.calculus.specs.Reduction.{Rule}
 use Rattle.semantics.specs.Definitions.Basics.{All}
 use Rattle.semantics.specs.Definitions.Terms.{Term}
@@ -16,31 +15,8 @@ use Rattle.terms.specs.Decoded.{Decoded}
 use Rattle.rules.specs.declared.Reply.{Reply}
 use Rattle.rules.specs.declared.Reply.the-variants.{Moved, Refused}
 use Rattle.rules.specs.Replies.{replyIs}
-use Rattle.schedule.specs.declared.Parsed.{Parsed}
-use Rattle.schedule.specs.declared.Parsed.the-variants as parsed
-use Rattle.schedule.specs.Parsing.{headAt}
-use Rattle.schedule.proofs.Heads.{act-continues, inside-continues, malformed-stops, end-stops}
 use Rattle.index.specs.Holds.{Holds}
 use Rattle.index.specs.Choices.{afterwards, Chosen}
-use Rattle.choices.specs.declared.Entry.the-variants as entry
-use Rattle.runs.specs.declared.Next.the-variants as next
-use Rattle.runs.specs.Answers.{NextIs}
-
--- ---- what stands at an offset
-
-module _ (s : List ℕ) (at : ℕ) (r : Parsed) (answered : r ≡ headAt at (schedule (drop at s))) where
-  pub next-act : (p behind : ℕ) → r ≡ parsed.Act p behind → NextIs s at (next.Entry (entry.Act p) behind)
-  next-act p behind e = record { size = 2; some = omega arith; continues = act-continues s at r answered p behind e }
-
-  pub next-inside : (p k behind : ℕ) → r ≡ parsed.Inside p k behind → NextIs s at (next.Entry (entry.Inside p k) behind)
-  next-inside p k behind e =
-      record { size = 3; some = omega arith; continues = inside-continues s at r answered p k behind e }
-
-  pub next-malformed : (n : ℕ) → r ≡ parsed.Malformed n → NextIs s at (next.Malformed n)
-  next-malformed n e = malformed-stops s at r answered n e
-
-  pub next-end : r ≡ parsed.End → NextIs s at next.End
-  next-end e = end-stops s at r answered e
 
 -- ---- no refusal has number 0
 
