@@ -37,7 +37,8 @@ use Rattle.index.specs.Holds.{Holds, CanReplace, Replaced}
 use Rattle.index.proofs.Holding.{hall-length, few-components, count-here, position-below}
 use Rattle.communication.specs.Tokens.{takeOf, takeTerm, successors, staying, takeNumber, laidSize, TakeHeld, TakeLooked, RoomAsked, RoomTested, CanWriteSuccessors, SuccessorsWritten, CanTake, TokenTaken}
 use Rattle.communication.proofs.Acting.{TakesHere, takes-there, many-after, empty-refused, crowded-refused, take-accepted, take-number}
-use Rattle.communication.proofs.Links.{takeKind, TakeIn, take-in, position-inside, body-inside, waits-on, take-body, take-token, take-link, linked-can, linked-held}
+use Rattle.communication.proofs.Links.{takeKind, TakeIn, take-in, position-inside, body-inside, waits-on, take-body, take-token, take-link}
+use Rattle.index.proofs.Acting.{replacement-can, replacement-held}
 
 -- ---- room for what opens
 
@@ -344,13 +345,13 @@ module _ (d s starts : List ℕ) (n p : ℕ) where
           CanReplace (set s a (getD s a 0 - 1)) starts n p (take size bytes) (size / idleSize)
       can-replace-take bytes size w =
           let y = x .accepts in
-          linked-can (take-link (y .holds) p (y .decoded) (x .repeated) (y .reply) term a refl at-first bytes size w)
+          replacement-can (take-link (y .holds) p (y .decoded) (x .repeated) (y .reply) term a refl at-first bytes size w)
 
     pub token-taken : (bytes : List ℕ) (size : ℕ) → SuccessorsWritten d term bytes size → (s′ starts′ : List ℕ) (n′ : ℕ) →
         Replaced (set s a (getD s a 0 - 1)) starts n p (take size bytes) (size / idleSize) s′ starts′ n′ →
         TokenTaken d s starts n p s′ starts′ n′
     token-taken bytes size w s′ starts′ n′ r = record {
       applied = λ b. record {
-        found = λ ts h y x z. linked-held (take-link x p y b z term a refl at-first bytes size w) r;
+        found = λ ts h y x z. replacement-held (take-link x p y b z term a refl at-first bytes size w) r;
       };
     }
