@@ -53,7 +53,9 @@ pub const LOG_SIZE: usize = MAX_LENGTH as usize;
 
 pub const LEAF_SIZE: usize = LEAF_LOG + LOG_SIZE;
 
-// A log's byte for a read is its channel, for a write its channel and this. All are below ACTIONS.
+// A log's byte is a channel and what a read or a write adds to it. All are below ACTIONS.
+pub const READ_OFFSET: u8 = 0;
+
 pub const WRITE_OFFSET: u8 = CHANNELS as u8;
 
 pub const ACTIONS: u8 = 2 * WRITE_OFFSET;
