@@ -6,10 +6,8 @@ mod acts;
 mod inside;
 mod suggests;
 
-pub use acts::act;
-pub use acts::look_act;
-pub use inside::act_inside;
-pub use inside::find_inside;
+use acts::act;
+use inside::act_inside;
 use rules::Reply;
 use schedule::Entry;
 use stored::INDEX_SIZE;

@@ -8,7 +8,7 @@ use Rattle.calculus.specs.Reduction.{Rule}
 use Rattle.semantics.specs.Definitions.Basics.{All}
 use Rattle.semantics.specs.Definitions.Terms.{Term}
 use Rattle.semantics.specs.Definitions.Configuration.{Configuration}
-use Rattle.semantics.specs.Definitions.Moves.{Entry, Answer, moved, refused, answerTo, ruleNumber, movedBy, refusedBy, replyOf}
+use Rattle.semantics.specs.Definitions.Moves.{Entry, Answer, moved, refused, answerTo, ruleNumber, refusedBy, replyOf}
 use Rattle.semantics.specs.Definitions.Run.{ScheduleItem, malformed, schedule}
 use Rattle.semantics.proofs.CallsAsOne.{AnswerHigh, ItemHigh, schedule-high, choose-high}
 use Rattle.terms.specs.Decoded.{Decoded}
@@ -17,6 +17,7 @@ use Rattle.rules.specs.declared.Reply.the-variants.{Moved, Refused}
 use Rattle.rules.specs.Replies.{replyIs}
 use Rattle.index.specs.Holds.{Holds}
 use Rattle.index.specs.Choices.{afterwards, Chosen}
+use Rattle.index.proofs.Acting.{by-number}
 
 -- ---- no refusal has number 0
 
@@ -45,13 +46,16 @@ module _ {d s starts : List ℕ} {n : ℕ} {e : Entry} {r : Reply} {s′ starts�
   reply = c .looked .found ts h y x
 
   pub made-moved : (rule : ℕ) → r ≡ Moved rule → MovedTo ts h e rule s′ starts′ n′
-  unfolding replyIs replyOf afterwards
-  made-moved rule q = go (answerTo h e) refl (sym reply ∙ ap replyIs q) (c .found ts h y x)
-    where
-      go : (a : Answer) → answerTo h e ≡ a → replyOf a ≡ movedBy rule → Holds ts (afterwards a h) s′ starts′ n′ →
-          MovedTo ts h e rule s′ starts′ n′
-      go (moved done g) f k z = record { done = done; result = g; answer = f; number = cc; holds = z }
-      go (refused m) f k z = absurd (let z : _≡_ {A = ℕ} 0 1 = cc in omega arith)
+  unfolding replyIs afterwards
+  made-moved rule q =
+      let a = by-number h e rule (sym reply ∙ ap replyIs q) in
+      record {
+        done = a .rule;
+        result = a .result;
+        answer = a .answer;
+        number = a .number;
+        holds = rw (a .answer) at (c .found ts h y x);
+      }
 
   -- it was refused: with the number told, and the configuration is held as it was
   pub made-refused : (m : ℕ) → r ≡ Refused m → (answerTo h e ≡ refused m) × Holds ts h s′ starts′ n′

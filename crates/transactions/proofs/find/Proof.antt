@@ -4,8 +4,6 @@ use Rattle.transactions.proofs.Searching.{findable-inside, node-standin
 use borrow.Author.Needs.{needs}
 use Rattle.transactions.proofs.find.Statement.{statement}
 use Rattle.transactions.proofs.find.Tie as tie
-use Rattle.stored.proofs.node_start.Reads as node-start-reads
-use Rattle.transactions.proofs.rule_at.Reads as rule-at-reads
 
 add-node-start : tie.Need-add-node-start
 add-node-start c = omega (arith, findable-inside _ _ _ (c .before .pre))

@@ -3,10 +3,6 @@ use Rattle.transactions.proofs.Bytes.{action-fits, action-logged-is}
 use borrow.Author.Needs.{needs}
 use Rattle.transactions.proofs.actions.log_action.Statement.{statement}
 use Rattle.transactions.proofs.actions.log_action.Tie as tie
-use Rattle.buffer.proofs.wide.Reads as wide-reads
-use Rattle.terms.proofs.first_of.Reads as first-of-reads
-use Rattle.terms.proofs.second_of.Reads as second-of-reads
-use Rattle.transactions.proofs.actions.append_action.Reads as append-action-reads
 
 add-wide : tie.Need-add-wide
 add-wide c = search needs
