@@ -1,9 +1,9 @@
--- `has_room` meets its contract. Assumes nothing.
+-- `is_crowded` meets its contract. Assumes nothing.
 use Rattle.communication.proofs.Taking.{room-inside, opened-few, narrow-enough, counted-enough}
 use native.Mathlib.Omega.{arith}
 use borrow.Author.Needs.{needs}
-use Rattle.communication.proofs.takes.has_room.Statement.{statement}
-use Rattle.communication.proofs.takes.has_room.Tie as tie
+use Rattle.communication.proofs.takes.is_crowded.Statement.{statement}
+use Rattle.communication.proofs.takes.is_crowded.Tie as tie
 
 sub-others : tie.Need-sub-others
 sub-others c = search needs
@@ -32,8 +32,8 @@ add-result c = omega (arith, opened-few _ _ _ _ _ (c .before .before .before .be
 returns-2 : tie.Need-returns-2
 returns-2 c = search counted-enough
 
-pub has-room-spec : {M : Type 1} → statement M
-has-room-spec =
+pub is-crowded-spec : {M : Type 1} → statement M
+is-crowded-spec =
     tie.close
     (tie.spec
     sub-others
