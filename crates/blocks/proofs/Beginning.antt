@@ -30,8 +30,8 @@ use Rattle.index.specs.Choices.{Accepts, Applied, afterwards}
 use Rattle.index.proofs.Holding.{takes, repeats, blocks, hall-length, counts-here, start-below-used, used-inside, component-at, position-below, component-ok, component-ends, body-here, waiting-here}
 use Rattle.index.proofs.Replacing.{one-spaced}
 use Rattle.blocks.specs.Begins.{begunSize, firstLeaf, begunBytes}
-use Rattle.blocks.proofs.Numbers.{begins, retries, fails, commits}
-use Rattle.blocks.proofs.Links.{Replacement, replacement-can, replaced-by-one, held-position, Made, act-made, made-replacement}
+use Rattle.index.proofs.Acting.{Replacement, replacement-can, replaced-by-one, held-position, acted-replacement}
+use Rattle.blocks.proofs.Numbers.{begins, retries, fails, commits, Made, act-made}
 
 -- ---- the bytes that are laid down
 
@@ -89,13 +89,13 @@ module _ (ts : List Term) (h : Configuration) (d s starts : List ℕ) (n p : ℕ
       go : Made h p 4 → Replacement ts (afterwards (answerTo h (act p)) h) s starts n p new 1
       go m = elim (m .move) [
         | begins k M c i τ cs ↦
-            (let found : getElem? (h .components) p ≡ some (idle (block k M)) = m .found ∙ ap some c in
+            (let found : getElem? (h .components) p ≡ some (idle (block k M)) = m .acted .found ∙ ap some c in
             let body : getD s (getD starts p 0 + componentBody) 0 ≡ k = body-here x p (idle (block k M)) found in
             let there = decoded .records k (process (atomT k M)) (component-ok x p (idle (block k M)) found) in
             let same : e ≡ number M = g ∙ ap (λ j. firstAt d j) (f ∙ body) ∙ there .1 in
             let begun : Component = transaction k M (h .counts) (leaf M emptyLog) in
             let bytes : new ≡ componentBytes begun = laid ∙ rw (body, same, counts-here x) in
-            made-replacement m x (rw τ x) new 1 (rw cs (bytes ∙ sym (one-bytes begun))) (rw cs refl)
+            acted-replacement (m .acted) x (rw τ x) new 1 (rw cs (bytes ∙ sym (one-bytes begun))) (rw cs refl)
             (rw cs (one-spaced begun)))
         | retries k M σ j δ c i τ cs ↦ absurd (omega arith)
         | fails k M σ j δ c i τ cs ↦ absurd (omega arith)
@@ -108,7 +108,7 @@ module _ (d s starts : List ℕ) (n p : ℕ) (x : Accepts d s starts n (act p) 4
   -- the block at the position
   waits : (k : ℕ) × (M : Expression) × (getElem? (x .configuration .components) p ≡ some (idle (block k M)))
   waits = let m = act-made (x .configuration) p 4 (omega arith) (x .reply) in elim (m .move) [
-    | begins k M c i τ cs ↦ (k, M, m .found ∙ ap some c)
+    | begins k M c i τ cs ↦ (k, M, m .acted .found ∙ ap some c)
     | retries k M σ j δ c i τ cs ↦ absurd (omega arith)
     | fails k M σ j δ c i τ cs ↦ absurd (omega arith)
     | commits k M σ j δ c y i τ cs ↦ absurd (omega arith)

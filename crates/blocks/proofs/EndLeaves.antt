@@ -22,7 +22,7 @@ use Rattle.index.specs.Holds.{Holds}
 use Rattle.index.proofs.Holding.{sixteen}
 use Rattle.logs.specs.declared.Outputs.{Outputs}
 use Rattle.logs.specs.Needs.{needsOf, withinAt}
-use Rattle.logs.specs.Writes.{writesOf, outputBytes}
+use Rattle.logs.specs.Writes.{writesOf, outputsSize, outputBytes}
 use Rattle.logs.specs.Values.{OutputsAre}
 use Rattle.logs.proofs.Writing.{output-length}
 use Rattle.logs.proofs.Links.{stored-readable, stored-outputs-count}
@@ -60,7 +60,7 @@ unfolding padded
 outputs-inside o written w =
     let c = w .counted in
     let l = output-length written in
-    let zeros : List ℕ = replicate (32 - length (outputBytes written)) 0 in
+    let zeros : List ℕ = replicate (outputsSize - length (outputBytes written)) 0 in
     let b : length (o .bytes) ≡ length (outputBytes written) + length zeros =
     ap length (w .bytes) ∙ length-append (outputBytes written) zeros in omega arith
 

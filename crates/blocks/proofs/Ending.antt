@@ -31,8 +31,8 @@ use Rattle.logs.specs.Writes.{writesOf}
 use Rattle.logs.specs.Values.{OutputsAre}
 use Rattle.logs.proofs.Links.{stored-readable, stored-taken, stored-outputs, stored-outputs-count}
 use Rattle.blocks.specs.Ends.{CanLookCommit, Restarts, CanRestart, Restarted, CanCommit, Committed}
-use Rattle.blocks.proofs.Numbers.{begins, retries, fails, commits}
-use Rattle.blocks.proofs.Links.{Replacement, replacement-can, replacement-held, replaced-by-one, held-position, Made, act-made, made-replacement}
+use Rattle.index.proofs.Acting.{Replacement, replacement-can, replacement-held, replaced-by-one, held-position, acted-replacement}
+use Rattle.blocks.proofs.Numbers.{begins, retries, fails, commits, Made, act-made}
 use Rattle.blocks.proofs.EndLeaves.{log-here, leaf-inside}
 
 -- ---- the block comes back
@@ -41,16 +41,16 @@ module _ (ts : List Term) (h : Configuration) (s starts : List ℕ) (n p : ℕ) 
     (laid : new ≡ waitingKind ∷ getD s (getD starts p 0 + componentBody) 0 ∷ []) where
   -- in the place of its transaction, whatever the nodes are
   block-back : {k : ℕ} (m : Made h p k) (i : ℕ) (M : Expression) (σ : State) (t : Tree) →
-      m .component ≡ transaction i M σ t →
-      m .result .counts ≡ h .counts → m .laid ≡ idle (block i M) ∷ [] →
+      m .acted .component ≡ transaction i M σ t →
+      m .acted .result .counts ≡ h .counts → m .acted .laid ≡ idle (block i M) ∷ [] →
       Replacement ts (afterwards (answerTo h (act p)) h) s starts n p new 1
   unfolding componentBytes
   block-back m i M σ t c τ cs =
-      let found : getElem? (h .components) p ≡ some (transaction i M σ t) = m .found ∙ ap some c in
+      let found : getElem? (h .components) p ≡ some (transaction i M σ t) = m .acted .found ∙ ap some c in
       let body : getD s (getD starts p 0 + componentBody) 0 ≡ i = body-here x p (transaction i M σ t) found in
       let back : Component = idle (block i M) in
       let bytes : new ≡ componentBytes back = laid ∙ rw body in
-      made-replacement m x (rw τ x) new 1 (rw cs (bytes ∙ sym (one-bytes back))) (rw cs refl) (rw cs (one-spaced back))
+      acted-replacement (m .acted) x (rw τ x) new 1 (rw cs (bytes ∙ sym (one-bytes back))) (rw cs refl) (rw cs (one-spaced back))
 
   pub atre-link : replyOf (answerTo h (act p)) ≡ movedBy 5 →
       Replacement ts (afterwards (answerTo h (act p)) h) s starts n p new 1
@@ -81,9 +81,9 @@ module _ (d s starts : List ℕ) (n p k : ℕ) (few : 5 ≤ k) (x : Accepts d s 
   ending-looks : CanLookCommit s (getD starts p 0 + transactionHead) n
   ending-looks = let m = act-made (x .configuration) p k (omega arith) (x .reply) in elim (m .move) [
     | begins i M c z τ cs ↦ absurd (omega arith)
-    | retries i M σ j δ c z τ cs ↦ at-leaf i M σ (retryT j) δ (m .found ∙ ap some c)
-    | fails i M σ j δ c z τ cs ↦ at-leaf i M σ (endT j) δ (m .found ∙ ap some c)
-    | commits i M σ j δ c y z τ cs ↦ at-leaf i M σ (endT j) δ (m .found ∙ ap some c)
+    | retries i M σ j δ c z τ cs ↦ at-leaf i M σ (retryT j) δ (m .acted .found ∙ ap some c)
+    | fails i M σ j δ c z τ cs ↦ at-leaf i M σ (endT j) δ (m .acted .found ∙ ap some c)
+    | commits i M σ j δ c y z τ cs ↦ at-leaf i M σ (endT j) δ (m .acted .found ∙ ap some c)
   ]
     where
       at-leaf : (i : ℕ) (M : Expression) (σ : State) (N : Expression) (δ : Log) →
@@ -101,7 +101,7 @@ module _ (d s starts : List ℕ) (n p k : ℕ) (few : 5 ≤ k) (x : Accepts d s 
 
   ending-position : p < indexSize
   ending-position = let m = act-made (x .configuration) p k (omega arith) (x .reply) in
-      held-position (x .holds) p (position-below (x .holds) p (m .component) (m .found))
+      held-position (x .holds) p (position-below (x .holds) p (m .acted .component) (m .acted .found))
 
   ending-inside : getD starts p 0 + transactionHead < length s
   ending-inside = let l = leaf-inside s (getD starts p 0 + transactionHead) n ending-looks in omega arith
@@ -150,7 +150,7 @@ module _ (ts : List Term) (h : Configuration) (d s starts : List ℕ) (n p : ℕ
     | retries i M σ j δ c k τ cs ↦ absurd (omega arith)
     | fails i M σ j δ c k τ cs ↦ absurd (omega arith)
     | commits i M σ j δ c y k τ cs ↦
-        (let w = log-here decoded x p i M σ (endT j) δ (m .found ∙ ap some c) in
+        (let w = log-here decoded x p i M σ (endT j) δ (m .acted .found ∙ ap some c) in
         stored-readable s _ size δ (w .log) (e ∙ w .size) 0 (h .counts) need _ (w .counts) f refl ∙ y)
   ]
 
@@ -164,7 +164,7 @@ module _ (ts : List Term) (h : Configuration) (d s starts : List ℕ) (n p : ℕ
     | retries i M σ j δ c k τ cs ↦ absurd (omega arith)
     | fails i M σ j δ c k τ cs ↦ absurd (omega arith)
     | commits i M σ j δ c y k τ cs ↦
-        (let w = log-here decoded x p i M σ (endT j) δ (m .found ∙ ap some c) in
+        (let w = log-here decoded x p i M σ (endT j) δ (m .acted .found ∙ ap some c) in
         let taken = stored-taken s _ size δ (w .log) (e ∙ w .size) (h .counts) need t (w .counts) f low in
         let held = counts-stored x (without (h .counts) (RD δ)) t
         (without-bytes (RD δ) (h .counts) (x .form .channelCounts)) taken in
@@ -172,7 +172,7 @@ module _ (ts : List Term) (h : Configuration) (d s starts : List ℕ) (n p : ℕ
         let bytes = stored-outputs s _ size δ (w .log) (e ∙ w .size) o written in
         let even : Spaced (map (λ a. idle (output a)) (WT δ)) =
         rw (← map-map idle output (WT δ)) (idle-spaced (map output (WT δ))) in
-        made-replacement m x (rw τ held) _ (o .count) (rw cs bytes)
+        acted-replacement (m .acted) x (rw τ held) _ (o .count) (rw cs bytes)
         (rw cs (count ∙ sym (length-map (WT δ) (λ a. idle (output a))))) (rw cs even))
   ]
 

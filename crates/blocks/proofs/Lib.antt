@@ -1,5 +1,4 @@
 pub mod Numbers
-pub mod Links
 pub mod Beginning
 pub mod EndLeaves
 pub mod Looking

@@ -23,17 +23,16 @@ use Rattle.semantics.specs.Definitions.Moves.{act, moves, blocked, commits, end
 use Rattle.theorems.proofs.Lists.{found-below, length-replaceAt}
 use Rattle.theorems.proofs.Moves.{positionOf, localMove, chosen-at}
 use Rattle.records.specs.Shapes.{kindByte}
-use Rattle.terms.specs.Decoded.{Decoded}
 use Rattle.stored.specs.Layout.{hallBytes, maxComponents, transactionHead}
 use Rattle.storedlaws.specs.Reading.{termKind}
 use Rattle.rules.specs.declared.Reply as code
 use Rattle.rules.specs.declared.Reply.the-variants.{Moved, Refused}
 use Rattle.rules.specs.Replies.{replyIs}
 use Rattle.index.specs.Holds.{Holds}
-use Rattle.index.proofs.Holding.{hall-length, few-components, component-at, transaction-here}
-use Rattle.leaves.specs.Leaves.{TreeAt, StandsAt, NodeRead, kindOfNode}
-use Rattle.leaves.proofs.Leaves.{whole-at, node-inside}
-use Rattle.blocks.specs.Ends.{TransactionAt, LogHere, CanLookEnd, EndLooked, CanLookCommit, commitReply, CommitLooked}
+use Rattle.index.proofs.Holding.{hall-length, few-components}
+use Rattle.leaves.specs.Leaves.{StandsAt, NodeRead, kindOfNode, TransactionAt}
+use Rattle.leaves.proofs.Leaves.{node-inside, opened}
+use Rattle.blocks.specs.Ends.{LogHere, CanLookEnd, EndLooked, CanLookCommit, commitReply, CommitLooked}
 use Rattle.blocks.proofs.EndLeaves.{log-here}
 
 -- ---- the reply to an act
@@ -120,36 +119,19 @@ ending (fork l r) = more (λ σ m M. refl) (λ z. omega arith) (λ z. omega arit
 
 -- ---- the code
 
--- the transaction there, and where its nodes stand
-record Found (ts : List Term) (h : Configuration) (d s : List ℕ) (p at : ℕ) : Type 0 where
-  number : ℕ
-  block : Expression
-  snapshot : State
-  nodes : Tree
-  there : getElem? (h .components) p ≡ some (transaction number block snapshot nodes)
-  stands : TreeAt ts nodes d s (at + transactionHead)
-
-module _ {ts : List Term} {h : Configuration} {d s starts : List ℕ} {n p at : ℕ} (x : Decoded ts d)
-    (w : TransactionAt ts h s starts n p at) where
-  found-there : Found ts h d s p at
-  found-there =
-      let (c, e) = component-at (w .holds) p (w .there) in
-      let (M, σ, t, same) = transaction-here (w .holds) p c e (rw (w .begins) at (w .kind)) in
-      let there : getElem? (h .components) p ≡ some (transaction _ M σ t) = e ∙ ap some same in
-      let tree = whole-at x (w .holds) p _ M σ t there in
-      record { number = _; block = M; snapshot = σ; nodes = t; there = there; stands = rw (← w .begins) at tree }
-
+module _ {ts : List Term} {h : Configuration} {d s starts : List ℕ} {n p at : ℕ}
+    (w : TransactionAt ts h d s starts n p at) where
   -- at an end leaf
   log-there : (m : ℕ) (M : Expression) (σ : State) (N : Expression) (δ : Log) →
       getElem? (h .components) p ≡ some (transaction m M σ (leaf N δ)) →
       LogHere s (at + transactionHead) (h .counts) δ
-  log-there m M σ N δ e = rw (w .begins) (log-here x (w .holds) p m M σ N δ e)
+  log-there m M σ N δ e = rw (w .begins) (log-here (w .decoded) (w .holds) p m M σ N δ e)
 
   by-end : (C : Type 0) (k : ℕ) → NodeRead d s (at + transactionHead) k → k ≡ kindByte endK →
       ((m : ℕ) (M : Expression) (σ : State) (e : ℕ) (δ : Log) →
       getElem? (h .components) p ≡ some (transaction m M σ (leaf (endT e) δ)) → C) → C
   by-end C k q same next =
-      let f = found-there in
+      let f = opened w in
       let z = q .found ts (f .nodes) (f .stands) in
       elim (ending (f .nodes)) [
         | ended e δ t i ↦ next (f .number) (f .block) (f .snapshot) e δ (rw t at (f .there))
@@ -160,22 +142,22 @@ module _ {ts : List Term} {h : Configuration} {d s starts : List ℕ} {n p at : 
 module _ (d s : List ℕ) (n at : ℕ) (x : CanLookEnd d s n at) where
   pub end-stands : StandsAt d s (at + transactionHead)
   end-stands =
-      let f = found-there (x .decoded) (x .transaction) in
+      let f = opened (x .there) in
       record { terms = x .terms; tree = f .nodes; there = f .stands }
 
   -- the offset of its nodes is one of the hall
   pub end-fits : at + transactionHead < hallBytes
-  end-fits = rw (hall-length (x .transaction .holds)) at (node-inside d s (at + transactionHead) end-stands)
+  end-fits = rw (hall-length (x .there .holds)) at (node-inside d s (at + transactionHead) end-stands)
 
   pub end-can : (k : ℕ) → NodeRead d s (at + transactionHead) k → k ≡ kindByte endK →
       CanLookCommit s (at + transactionHead) n
   end-can k q same =
-      let w = x .transaction in
+      let w = x .there in
       let l = w .there in
-      by-end (x .decoded) w _ k q same (λ m M σ e δ f. record {
+      by-end w _ k q same (λ m M σ e δ f. record {
         counts = x .configuration .counts;
         log = δ;
-        here = log-there (x .decoded) w m M σ (endT e) δ f;
+        here = log-there w m M σ (endT e) δ f;
         some = omega arith;
         few = few-components (w .holds);
       })
@@ -184,8 +166,8 @@ module _ (d s : List ℕ) (n at : ℕ) where
   pub look-retry : (k : ℕ) → NodeRead d s (at + transactionHead) k → k ≡ kindByte retryK → EndLooked d s n at (Moved 5)
   unfolding replyIs
   look-retry k q same = record {
-    found = λ ts h starts p x w.
-        let f = found-there x w in
+    found = λ ts h starts p w.
+        let f = opened w in
         let z = q .found ts (f .nodes) (f .stands) in
         elim (ending (f .nodes)) [
           | ended e δ t i ↦ absurd (omega arith)
@@ -198,8 +180,8 @@ module _ (d s : List ℕ) (n at : ℕ) where
   pub look-end : (k : ℕ) (r : code.Reply) → NodeRead d s (at + transactionHead) k → k ≡ kindByte endK →
       CommitLooked s (at + transactionHead) n r → EndLooked d s n at r
   look-end k r q same looked = record {
-    found = λ ts h starts p x w. by-end x w _ k q same (λ m M σ e δ f.
-        looked .found (h .counts) δ (log-there x w m M σ (endT e) δ f) ∙ sym (end-reply (w .holds) p m M σ e δ f));
+    found = λ ts h starts p w. by-end w _ k q same (λ m M σ e δ f.
+        looked .found (h .counts) δ (log-there w m M σ (endT e) δ f) ∙ sym (end-reply (w .holds) p m M σ e δ f));
   }
 
   pub look-more : (k : ℕ) → NodeRead d s (at + transactionHead) k → (k ≡ kindByte endK → ⊥) →
@@ -207,8 +189,8 @@ module _ (d s : List ℕ) (n at : ℕ) where
       EndLooked d s n at (Refused 15)
   unfolding replyIs
   look-more k q no-end no-retry = record {
-    found = λ ts h starts p x w.
-        let f = found-there x w in
+    found = λ ts h starts p w.
+        let f = opened w in
         let z = q .found ts (f .nodes) (f .stands) in
         elim (ending (f .nodes)) [
           | ended e δ t i ↦ absurd (no-end (z ∙ i))

@@ -9,28 +9,13 @@ use lib.Dec.{leb, eqb}
 use Rattle.calculus.specs.Syntax.{Log, State}
 use Rattle.calculus.specs.State.{count, without}
 use Rattle.calculus.specs.Log.{RD, WT}
-use Rattle.calculus.specs.Reduction.{Rule}
 use Rattle.semantics.specs.Definitions.Layout.{maxCount}
 use Rattle.semantics.specs.Definitions.Terms.{Expression, endT, retryT, rdT, wtT, orElseT}
 use Rattle.semantics.specs.Definitions.Logs.{emptyLog, readable}
 use Rattle.semantics.specs.Definitions.Configuration.{taking, repeating, block, output, Tree, leaf, fork, Component, idle, transaction, Configuration}
-use Rattle.semantics.specs.Definitions.Moves.{Entry, LocalAnswer, moves, blocked, takes, puts, ends, acts, Answer, moved, refused, answerTo, ruleNumber, movedBy, replyOf}
+use Rattle.semantics.specs.Definitions.Moves.{act, LocalAnswer, moves, blocked, takes, puts, ends, acts, answerTo, ruleNumber, movedBy, replyOf}
 use Rattle.theorems.proofs.Reading.{by-cases}
-
--- an entry that is accepted by a rule of number k
-pub record Numbered (h : Configuration) (e : Entry) (k : ℕ) : Type 0 where
-  pub rule : Rule
-  pub result : Configuration
-  pub answer : answerTo h e ≡ moved rule result
-  pub number : ruleNumber rule ≡ k
-
-pub by-number : (h : Configuration) (e : Entry) (k : ℕ) → replyOf (answerTo h e) ≡ movedBy k → Numbered h e k
-unfolding replyOf
-by-number h e k q = go (answerTo h e) refl q
-  where
-    go : (a : Answer) → answerTo h e ≡ a → replyOf a ≡ movedBy k → Numbered h e k
-    go (moved r g) f same = record { rule = r; result = g; answer = f; number = cc }
-    go (refused n) f same = let z : _≡_ {A = ℕ} 0 1 = cc in absurd (omega arith)
+use Rattle.index.proofs.Acting.{Acted, acted}
 
 -- what a block or its transaction makes of the counts σ and of itself, by the number of the rule
 pub data BlockMove (σ : State) (c : Component) (k : ℕ) (τ : State) (cs : List Component) : Type 0 where
@@ -71,3 +56,14 @@ acts-by σ (idle (block n M)) = λ l. begins n M refl refl refl refl
 acts-by σ (idle (output a)) =
     by-cases (OfBlock σ (idle (output a))) (leb maxCount (count σ a)) _ _ (λ q. tt) (λ q l. absurd (omega arith))
 acts-by σ (transaction n M s t) = ends-by σ n M s t
+
+-- an act that is accepted by such a rule, with the move that its component makes
+pub record Made (h : Configuration) (p k : ℕ) : Type 0 where
+  pub acted : Acted h p k
+  pub move : BlockMove (h .counts) (acted .component) k (acted .result .counts) (acted .laid)
+
+pub act-made : (h : Configuration) (p k : ℕ) → 4 ≤ k → replyOf (answerTo h (act p)) ≡ movedBy k → Made h p k
+act-made h p k l q =
+    let a = acted h p k q in
+    let move = rw (a .local) at (acts-by (h .counts) (a .component)) in
+    record { acted = a; move = rw (a .number) at (move (rw (a .number) l)) }

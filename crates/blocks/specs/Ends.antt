@@ -17,22 +17,14 @@ use Rattle.semantics.specs.Definitions.Configuration.{Configuration}
 use Rattle.semantics.specs.Definitions.Logs.{readable}
 use Rattle.semantics.specs.Definitions.Moves as moves
 use Rattle.semantics.specs.Definitions.Moves.{act, answerTo, replyOf}
-use Rattle.terms.specs.Decoded.{Decoded}
-use Rattle.stored.specs.Layout.{maxComponents, transactionKind, leafLogLength, leafLog}
+use Rattle.stored.specs.Layout.{maxComponents, leafLogLength, leafLog}
 use Rattle.logs.specs.Places.{LogAt, CountsAt}
 use Rattle.rules.specs.declared.Reply.{Reply}
 use Rattle.rules.specs.Replies.{replyIs}
-use Rattle.index.specs.Holds.{Holds}
 use Rattle.index.specs.Choices.{Accepts, Applied}
+use Rattle.leaves.specs.Leaves.{TransactionAt}
 
 -- ---- the look
-
--- a transaction stands at position p of a configuration that is held, and begins at this offset
-pub record TransactionAt (ts : List Term) (h : Configuration) (s starts : List ℕ) (n p at : ℕ) : Type 0 where
-  pub holds : Holds ts h s starts n
-  pub there : p < n
-  pub begins : at ≡ getD starts p 0
-  pub kind : getD s at 0 ≡ transactionKind
 
 -- some transaction, of some table that d decodes, begins at this offset
 pub record CanLookEnd (d s : List ℕ) (n at : ℕ) : Type 0 where
@@ -40,13 +32,12 @@ pub record CanLookEnd (d s : List ℕ) (n at : ℕ) : Type 0 where
   pub configuration : Configuration
   pub starts : List ℕ
   pub position : ℕ
-  pub decoded : Decoded terms d
-  pub transaction : TransactionAt terms configuration s starts n position at
+  pub there : TransactionAt terms configuration d s starts n position at
 
 -- r is what an act is answered there, whichever transaction it is
 pub record EndLooked (d s : List ℕ) (n at : ℕ) (r : Reply) : Type 0 where
-  pub found : (ts : List Term) (h : Configuration) (starts : List ℕ) (p : ℕ) → Decoded ts d →
-      TransactionAt ts h s starts n p at → replyIs r ≡ replyOf (answerTo h (act p))
+  pub found : (ts : List Term) (h : Configuration) (starts : List ℕ) (p : ℕ) →
+      TransactionAt ts h d s starts n p at → replyIs r ≡ replyOf (answerTo h (act p))
 
 -- ---- the look at an end leaf
 

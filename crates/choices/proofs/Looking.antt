@@ -112,15 +112,14 @@ module _ {d s starts : List ℕ} {n : ℕ} where
       configuration = x .configuration;
       starts = starts;
       position = p;
-      decoded = x .decoded;
-      transaction = record { holds = x .holds; there = l; begins = refl; kind = k };
+      there = record { decoded = x .decoded; holds = x .holds; there = l; begins = refl; kind = k };
     }
 
     pub end-looked : {q : ℕ} {r : Reply} → EndLooked d s n (getD starts p 0) r → p < n →
         kindOf s starts p ≡ transactionKind → p ≡ q →
         Looked d s starts n (act q) r
     end-looked f l k e = rw (← e) (record {
-      found = λ ts h y x. f .found ts h starts p y (record { holds = x; there = l; begins = refl; kind = k });
+      found = λ ts h y x. f .found ts h starts p (record { decoded = y; holds = x; there = l; begins = refl; kind = k });
     })
 
     -- an output

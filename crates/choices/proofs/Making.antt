@@ -12,8 +12,8 @@ use lib.Dec.{lit≤}
 use Rattle.calculus.specs.Syntax.{State}
 use Rattle.calculus.specs.Reduction.{Rule, OUT, IN, REP, ATST, ATRE, ATFAIL, ATOK, ARDOK, ARDF, AWR, AOI, AOF, AOE}
 use Rattle.semantics.specs.Definitions.Configuration.{Component, Configuration}
-use Rattle.theorems.proofs.Moves.{localMove, accepted-inverts}
-use Rattle.blocks.proofs.Numbers.{by-number, BlockMove, begins, retries, fails, commits, acts-by}
+use Rattle.index.proofs.Acting.{acted}
+use Rattle.blocks.proofs.Numbers.{BlockMove, begins, retries, fails, commits, acts-by}
 use Rattle.semantics.specs.Definitions.Moves.{Entry, act, inside, Answer, moved, refused, refusedBy, answerTo, effectOf, ruleNumber, replyOf}
 use Rattle.rules.specs.declared.Reply.{Reply}
 use Rattle.rules.specs.declared.Reply.the-variants.{Moved, Refused}
@@ -24,9 +24,10 @@ use Rattle.transactions.specs.declared.InnerMove.the-variants as inner
 use Rattle.transactions.specs.declared.InnerMove.the-variants.{Found}
 use Rattle.transactions.specs.Finding.{replied}
 use Rattle.transactions.specs.Moving.{CanMove, HasMoved}
-use Rattle.choices.specs.declared.Entry as choices
-use Rattle.choices.specs.declared.Entry.the-variants.{Act, Inside}
-use Rattle.choices.specs.Entries.{entryOf, LookedInside}
+use Rattle.schedule.specs.declared.Entry as choices
+use Rattle.schedule.specs.declared.Entry.the-variants.{Act, Inside}
+use Rattle.choices.specs.Entries.{LookedInside}
+use Rattle.schedule.specs.Entries.{entryOf}
 use Rattle.communication.specs.Tokens.{CanPut, TokenPut, CanTake, TokenTaken}
 use Rattle.blocks.specs.Ends.{Restarts, CanRestart, Restarted, CanCommit, Committed}
 use Rattle.index.specs.Choices.{afterwards, Looked, Accepts, Applied, Chosen}
@@ -112,22 +113,12 @@ rule-below k f = elim (ℕ-discrete (k - 7) 0) [ yes z ↦ omega arith | no z �
 
 -- an act is made by one of the rules 1 to 7
 act-rules : {d s starts : List ℕ} {n p rule : ℕ} → Accepts d s starts n (act p) rule → (1 ≤ rule) × (rule ≤ 7)
-unfolding localMove
 act-rules {p = p} {rule = rule} x =
     let h = x .configuration in
-    let a = by-number h (act p) rule (x .reply) in
-    let m = accepted-inverts h (act p) (a .rule) (a .result) (a .answer) in
-    let b = rw (m .local) at (acts-by (h .counts) (m .component)) in
+    let a = acted h p rule (x .reply) in
+    let b = rw (a .local) at (acts-by (h .counts) (a .component)) in
     let low = rule-above (a .rule) in
     let same = a .number in (omega arith, rw (← same) (rule-below (ruleNumber (a .rule)) b))
-
-taken : {d s starts : List ℕ} {n p rule : ℕ} → Accepts d s starts n (act p) rule → (rule ≡ 1 → ⊥) → rule < 4 →
-    (rule ≡ 2) ⊎ (rule ≡ 3)
-taken {rule = rule} x other below =
-    let b = act-rules x in elim (ℕ-discrete rule 2) [ yes is ↦ inl is | no is ↦ inr (omega arith) ]
-
-restarts : {rule : ℕ} → 4 ≤ rule → (rule ≡ 4 → ⊥) → rule < 7 → Restarts rule
-restarts {rule} above other below = elim (ℕ-discrete rule 5) [ yes is ↦ inl is | no is ↦ inr (omega arith) ]
 
 module _ {d s starts : List ℕ} {n p q rule : ℕ} (e : p ≡ q) where
   renamed : (k : ℕ) → rule ≡ k → Accepts d s starts n (act q) rule → Accepts d s starts n (act p) k
@@ -144,22 +135,20 @@ module _ {d s starts : List ℕ} {n p q rule : ℕ} (e : p ≡ q) where
       Applied d s starts n (act q) rule s′ starts′ n′
   put-applied f is = renamed-back 1 is (f .applied d)
 
-  -- IN and REP
-  pub can-take : Accepts d s starts n (act q) rule → (rule ≡ 1 → ⊥) → rule < 4 → CanTake d s starts n p
-  can-take x other below =
-      elim (taken x other below) [
-        | inl is ↦ record { repeated = false; accepts = renamed 2 is x }
-        | inr is ↦ record { repeated = true; accepts = renamed 3 is x }
-      ]
+  -- IN, and REP
+  pub can-take : Accepts d s starts n (act q) rule → rule ≡ 2 → CanTake d s starts n p
+  can-take x is = record { repeated = false; accepts = renamed 2 is x }
 
-  pub take-applied : {s′ starts′ : List ℕ} {n′ : ℕ} → TokenTaken d s starts n p s′ starts′ n′ →
-      Accepts d s starts n (act q) rule →
-      (rule ≡ 1 → ⊥) → rule < 4 → Applied d s starts n (act q) rule s′ starts′ n′
-  take-applied f x other below =
-      elim (taken x other below) [
-        | inl is ↦ renamed-back 2 is (f .applied false)
-        | inr is ↦ renamed-back 3 is (f .applied true)
-      ]
+  pub take-applied : {s′ starts′ : List ℕ} {n′ : ℕ} → TokenTaken d s starts n p s′ starts′ n′ → rule ≡ 2 →
+      Applied d s starts n (act q) rule s′ starts′ n′
+  take-applied f is = renamed-back 2 is (f .applied false)
+
+  pub can-repeat : Accepts d s starts n (act q) rule → rule ≡ 3 → CanTake d s starts n p
+  can-repeat x is = record { repeated = true; accepts = renamed 3 is x }
+
+  pub repeat-applied : {s′ starts′ : List ℕ} {n′ : ℕ} → TokenTaken d s starts n p s′ starts′ n′ → rule ≡ 3 →
+      Applied d s starts n (act q) rule s′ starts′ n′
+  repeat-applied f is = renamed-back 3 is (f .applied true)
 
   -- ATST
   pub can-begin : Accepts d s starts n (act q) rule → rule ≡ 4 → Accepts d s starts n (act p) 4
@@ -169,24 +158,26 @@ module _ {d s starts : List ℕ} {n p q rule : ℕ} (e : p ≡ q) where
       Applied d s starts n (act q) rule s′ starts′ n
   begin-applied f is = renamed-back 4 is f
 
-  -- ATRE and ATFAIL
-  pub can-restart : Accepts d s starts n (act q) rule → 4 ≤ rule → (rule ≡ 4 → ⊥) → rule < 7 → CanRestart s starts n p
-  can-restart x above other below =
-      record { decoded = d; rule = rule; either = restarts above other below; accepts = renamed rule refl x }
-
-  pub restart-applied : {s′ starts′ : List ℕ} → Restarted s starts n p s′ starts′ → 4 ≤ rule → (rule ≡ 4 → ⊥) →
-      rule < 7 →
-      Applied d s starts n (act q) rule s′ starts′ n
-  restart-applied f above other below = renamed-back rule refl (f .found d rule (restarts above other below))
-
   -- ATOK
-  pub can-commit : Accepts d s starts n (act q) rule → 7 ≤ rule → CanCommit s starts n p
-  can-commit x above = let b = act-rules x in record { decoded = d; accepts = renamed 7 (omega arith) x }
+  pub can-commit : Accepts d s starts n (act q) rule → rule ≡ 7 → CanCommit s starts n p
+  can-commit x is = record { decoded = d; accepts = renamed 7 is x }
 
-  pub commit-applied : {s′ starts′ : List ℕ} {n′ : ℕ} → Committed s starts n p s′ starts′ n′ →
-      Accepts d s starts n (act q) rule →
-      7 ≤ rule → Applied d s starts n (act q) rule s′ starts′ n′
-  commit-applied f x above = let b = act-rules x in renamed-back 7 (omega arith) (f .found d)
+  pub commit-applied : {s′ starts′ : List ℕ} {n′ : ℕ} → Committed s starts n p s′ starts′ n′ → rule ≡ 7 →
+      Applied d s starts n (act q) rule s′ starts′ n′
+  commit-applied f is = renamed-back 7 is (f .found d)
+
+  -- ATRE and ATFAIL: every other rule
+  module _ (x : Accepts d s starts n (act q) rule) (a : rule ≡ 1 → ⊥) (b : rule ≡ 2 → ⊥) (c : rule ≡ 3 → ⊥)
+      (f : rule ≡ 4 → ⊥) (g : rule ≡ 7 → ⊥) where
+    restarts : Restarts rule
+    restarts = let l = act-rules x in elim (ℕ-discrete rule 5) [ yes is ↦ inl is | no is ↦ inr (omega arith) ]
+
+    pub can-restart : CanRestart s starts n p
+    can-restart = record { decoded = d; rule = rule; either = restarts; accepts = renamed rule refl x }
+
+    pub restart-applied : {s′ starts′ : List ℕ} → Restarted s starts n p s′ starts′ →
+        Applied d s starts n (act q) rule s′ starts′ n
+    restart-applied r = renamed-back rule refl (r .found d rule restarts)
 
 -- ---- kind 2
 

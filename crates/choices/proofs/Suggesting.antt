@@ -30,8 +30,8 @@ use Rattle.index.specs.Choices.{Looked}
 use Rattle.index.proofs.Holding.{component-at, no-component, component-ok, kind-here}
 use Rattle.transactions.specs.declared.InnerMove.{InnerMove}
 use Rattle.transactions.specs.declared.InnerMove.the-variants as inner
-use Rattle.choices.specs.declared.Entry.{Entry}
-use Rattle.choices.specs.declared.Entry.the-variants as entry
+use Rattle.schedule.specs.declared.Entry.{Entry}
+use Rattle.schedule.specs.declared.Entry.the-variants as entry
 use Rattle.choices.specs.declared.suggests.Suggestion.{Suggestion}
 use Rattle.choices.specs.declared.suggests.Suggestion.the-variants.{Accepted, Still}
 use Rattle.transactions.specs.Finding.{replied}

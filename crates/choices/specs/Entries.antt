@@ -1,5 +1,5 @@
--- What the code of this crate says of entries (choices): which entry of the definitions one is, what is found inside a
--- transaction (attempt), and what a suggestion answers.
+-- What the code of this crate says of entries (choices): what is found inside a transaction (attempt), and what a
+-- suggestion answers.
 --
 -- d is a decoded table; s has the bytes, starts the index, n the number of components (stations); p is a position.
 -- Assumes nothing.
@@ -21,17 +21,9 @@ use Rattle.index.specs.Choices.{Looked}
 use Rattle.transactions.specs.declared.InnerMove.{InnerMove}
 use Rattle.transactions.specs.declared.InnerMove.the-variants.{Found}
 use Rattle.transactions.specs.Finding.{replied}
-use Rattle.choices.specs.declared.Entry.{Entry}
-use Rattle.choices.specs.declared.Entry.the-variants.{Act, Inside}
+use Rattle.schedule.specs.Entries.{entryOf}
 use Rattle.choices.specs.declared.suggests.Suggestion.{Suggestion}
 use Rattle.choices.specs.declared.suggests.Suggestion.the-variants.{Accepted, Still}
-
--- ---- an entry
-
--- the entry of the definitions
-abbrev pub entryOf : Entry → moves.Entry
-entryOf (Act p) = moves.act p
-entryOf (Inside p k) = moves.inside p k
 
 -- ---- inside a transaction
 

@@ -4,8 +4,10 @@ use buffer::wide;
 use records::ATOM;
 use rules::ATOK;
 use rules::ATST;
+use rules::IN;
 use rules::NO_COMPONENT;
 use rules::OUT;
+use rules::REP;
 use rules::Reply;
 use stored::COMPONENT_BODY;
 use stored::INDEX_SIZE;
@@ -62,23 +64,21 @@ fn apply_act(
         rule (now (hall .exit)) (now (starts .exit)) r ⌝ }
 {
     let p = wide(position);
-    if rule == OUT {
-        return communication::put(hall, starts, components, p);
+    match rule {
+        OUT => communication::put(hall, starts, components, p),
+        IN => communication::take(decoded, hall, starts, components, p),
+        REP => communication::take(decoded, hall, starts, components, p),
+        ATST => {
+            blocks::begin(decoded, hall, starts, components, p);
+            components
+        }
+        ATOK => blocks::commit(hall, starts, components, p),
+        // ATRE and ATFAIL
+        _ => {
+            blocks::restart(hall, starts, components, p);
+            components
+        }
     }
-    // IN and REP
-    if rule < ATST {
-        return communication::take(decoded, hall, starts, components, p);
-    }
-    if rule == ATST {
-        blocks::begin(decoded, hall, starts, components, p);
-        return components;
-    }
-    // ATRE and ATFAIL
-    if rule < ATOK {
-        blocks::restart(hall, starts, components, p);
-        return components;
-    }
-    blocks::commit(hall, starts, components, p)
 }
 
 // The entry made, where the look accepts it.

@@ -6,25 +6,17 @@ mod acts;
 mod inside;
 mod suggests;
 
-pub use acts::act;
-pub use acts::look_act;
-pub use inside::act_inside;
-pub use inside::find_inside;
+use acts::act;
+use inside::act_inside;
 use rules::Reply;
+use schedule::Entry;
 use stored::INDEX_SIZE;
 pub use suggests::Suggestion;
 pub use suggests::first_accepted;
 use terms::DECODED;
 ghost use Rattle.index.specs.Holds.{Running};
 ghost use Rattle.index.specs.Choices.{Chosen};
-ghost use Rattle.choices.specs.Entries.{entryOf};
-
-// An entry: of kind 1, to act at a position; of kind 2, to move inside the transaction (attempt) at a position, at a
-// node.
-pub enum Entry {
-    Act { position: u8 },
-    Inside { position: u8, node: u8 },
-}
+ghost use Rattle.schedule.specs.Entries.{entryOf};
 
 // What an entry was answered, and how many components (stations) there are now.
 pub struct Made {

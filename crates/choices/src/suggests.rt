@@ -1,10 +1,10 @@
 // A suggestion: the first entry that is accepted, at the lowest position, there kind 1 before kind 2, and of kind 2 at
 // the lowest node.
-use crate::Entry;
 use crate::acts::look_act;
 use crate::inside::find_inside;
 use buffer::wide;
 use rules::Reply;
+use schedule::Entry;
 use stored::INDEX_SIZE;
 use stored::KIND_TRANSACTION;
 use stored::MAX_NODES;

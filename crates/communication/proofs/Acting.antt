@@ -18,10 +18,11 @@ use Rattle.semantics.specs.Definitions.Layout.{maxCount, maxComponents}
 use Rattle.semantics.specs.Definitions.Terms.{Expression, Program, endT, retryT, rdT, wtT, orElseT}
 use Rattle.semantics.specs.Definitions.Logs.{readable, addToken, takeToken}
 use Rattle.semantics.specs.Definitions.Configuration.{taking, repeating, block, output, Tree, leaf, fork, Component, idle, transaction, Configuration, opens}
-use Rattle.semantics.specs.Definitions.Moves.{act, LocalAnswer, moves, blocked, takes, puts, ends, commits, acts, Answer, moved, refused, applyAt, answerTo, ruleNumber, movedBy, refusedBy, replyOf}
+use Rattle.semantics.specs.Definitions.Moves.{act, LocalAnswer, moves, blocked, takes, puts, ends, commits, acts, moved, applyAt, answerTo, ruleNumber, movedBy, refusedBy, replyOf}
 use Rattle.theorems.proofs.Lists.{found-below, length-replaceAt}
 use Rattle.theorems.proofs.Reading.{by-cases}
-use Rattle.theorems.proofs.Moves.{positionOf, localMove, chosen-at, accepted-inverts, accepted-made}
+use Rattle.theorems.proofs.Moves.{positionOf, localMove, chosen-at, accepted-made}
+use Rattle.index.proofs.Acting.{acted}
 use Rattle.communication.specs.Tokens.{takeOf, successors, staying, takeRule, takeNumber}
 
 -- ---- at an output
@@ -181,17 +182,11 @@ module _ (h : Configuration) (p : ℕ) where
       (λ k. absurd (omega arith), λ k. absurd (omega arith), λ k. absurd (omega arith))
 
   standing : (k : ℕ) → replyOf (answerTo h (act p)) ≡ movedBy k → Standing h p k
-  unfolding replyOf positionOf localMove
-  standing k q = go (answerTo h (act p)) refl q
-    where
-      go : (x : Answer) → answerTo h (act p) ≡ x → replyOf x ≡ movedBy k → Standing h p k
-      go (refused n) f q = absurd (let z : _≡_ {A = ℕ} 0 1 = cc in omega arith)
-      go (moved r g) f q =
-          let m = accepted-inverts h (act p) r g f in
-          let n : ruleNumber r ≡ k = cc in
-          rw (← n)
-          (by-component r (g .counts) (m .laid) (m .component) (m .found) (rw (← m .placed) (m .fits))
-          (rw (m .local) at (acts-local (h .counts) (m .component))))
+  standing k q =
+      let m = acted h p k q in
+      rw (← m .number)
+      (by-component (m .rule) (m .result .counts) (m .laid) (m .component) (m .found) (rw (← m .placed) (m .fits))
+      (rw (m .local) at (acts-local (h .counts) (m .component))))
 
   pub puts-there : replyOf (answerTo h (act p)) ≡ movedBy 1 → Puts h p
   puts-there q = standing 1 q .0 refl

@@ -24,9 +24,10 @@ use Rattle.terms.specs.Decoded.{kindAt, firstAt, secondAt, Decoded}
 use Rattle.stored.specs.Layout.{channels, maxComponents, hallBytes, componentBody, idleSize}
 use Rattle.storedlaws.specs.Positions.{allBytes}
 use Rattle.storedlaws.proofs.Starts.{idle-size, idle-sizes}
-use Rattle.index.specs.Holds.{Holds, replacedAt, withCounts, Replaces, CanReplace, Replaced}
+use Rattle.index.specs.Holds.{Holds, replacedAt, withCounts}
 use Rattle.index.specs.Choices.{afterwards}
 use Rattle.index.proofs.Holding.{few-components, count-here, start-below-used, used-inside, position-below, component-ok, component-ends, body-here}
+use Rattle.index.proofs.Acting.{Replacement}
 use Rattle.index.proofs.Replacing.{idle-spaced}
 use Rattle.index.proofs.InPlace.{count-stored}
 use Rattle.communication.specs.Tokens.{takeOf, takeTerm, successors, takeNumber, SuccessorsWritten}
@@ -89,23 +90,11 @@ module _ {ts : List Term} {h : Configuration} {s starts : List ℕ} {n : ℕ} (x
 
 -- ---- a move as one replacement
 
--- what the entry makes of a configuration that is held, as what a replacement makes of it: in the bytes s₁, which have
--- the new counts, component number p gives way to those whose bytes are `new`
-pub record Linked (ts : List Term) (h : Configuration) (s₁ starts : List ℕ) (n p : ℕ) (new : List ℕ) (pieces : ℕ) :
-    Type 0 where
-  pub counts : State
-  pub laid : List Component
-  pub replaces : Replaces ts (withCounts counts h) laid s₁ starts n p new pieces
-  pub result : afterwards (answerTo h (act p)) h ≡ replacedAt p laid (withCounts counts h)
-
-module _ {ts : List Term} {h : Configuration} {s₁ starts : List ℕ} {n p : ℕ} {new : List ℕ} {pieces : ℕ}
-    (x : Linked ts h s₁ starts n p new pieces) where
-  pub linked-can : CanReplace s₁ starts n p new pieces
-  linked-can = record { terms = ts; configuration = withCounts (x .counts) h; laid = x .laid; replaces = x .replaces }
-
-  pub linked-held : {s′ starts′ : List ℕ} {n′ : ℕ} → Replaced s₁ starts n p new pieces s′ starts′ n′ →
-      Holds ts (afterwards (answerTo h (act p)) h) s′ starts′ n′
-  linked-held r = rw (x .result) (r .found ts (withCounts (x .counts) h) (x .laid) (x .replaces))
+-- what an act makes of a configuration that is held: in the bytes s₁, which have the new counts, component number p
+-- gives way to those whose bytes are `new`
+abbrev pub Linked : (ts : List Term) (h : Configuration) (s₁ starts : List ℕ) (n p : ℕ) (new : List ℕ) (pieces : ℕ) → Type 0
+Linked ts h s₁ starts n p new pieces =
+    Replacement ts (afterwards (answerTo h (act p)) h) s₁ starts n p new pieces
 
 module _ {ts : List Term} {h : Configuration} {s starts : List ℕ} {n : ℕ} (x : Holds ts h s starts n) (p : ℕ) where
   -- a count is stored, and idle components are laid down
@@ -116,7 +105,7 @@ module _ {ts : List Term} {h : Configuration} {s starts : List ℕ} {n : ℕ} (x
   unfolding afterwards
   stored-and-laid a c r cs new pieces l m there bytes many q =
       record {
-        counts = set (h .counts) a c;
+        from = withCounts (set (h .counts) a c) h;
         laid = map idle cs;
         replaces = record {
           holds = count-stored x a c l m;
@@ -126,7 +115,7 @@ module _ {ts : List Term} {h : Configuration} {s starts : List ℕ} {n : ℕ} (x
           even = idle-spaced cs;
           form = well-formed-step (act p) (x .good) (x .form) q;
         };
-        result = ap (λ y. afterwards y h) q;
+        makes = ap (λ y. afterwards y h) q;
       }
 
   -- ---- OUT

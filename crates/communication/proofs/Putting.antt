@@ -17,7 +17,8 @@ use Rattle.index.specs.Holds.{CanReplace, Replaced}
 use Rattle.index.proofs.Holding.{hall-length, count-here, component-ok}
 use Rattle.communication.specs.Tokens.{OutputHeld, OutputLooked, CanPut, TokenPut}
 use Rattle.communication.proofs.Acting.{full-refused, put-accepted, puts-there}
-use Rattle.communication.proofs.Links.{position-inside, body-inside, out-room, out-link, linked-can, linked-held}
+use Rattle.communication.proofs.Links.{position-inside, body-inside, out-room, out-link}
+use Rattle.index.proofs.Acting.{replacement-can, replacement-held}
 
 -- ---- the look
 
@@ -75,10 +76,10 @@ module _ (s starts : List ℕ) (n p : ℕ) where
       put-room = out-room (x .accepts .holds) p (x .accepts .reply) a e .1
 
       pub can-replace-output : CanReplace (set s a (getD s a 0 + 1)) starts n p [] 0
-      can-replace-output = linked-can (out-link (x .accepts .holds) p (x .accepts .reply) a e)
+      can-replace-output = replacement-can (out-link (x .accepts .holds) p (x .accepts .reply) a e)
 
   pub token-put : (a : ℕ) → a ≡ getD s (getD starts p 0 + componentBody) 0 → (s′ starts′ : List ℕ) (n′ : ℕ) →
       Replaced (set s a (getD s a 0 + 1)) starts n p [] 0 s′ starts′ n′ → TokenPut s starts n p s′ starts′ n′
   token-put a e s′ starts′ n′ r = record {
-    applied = λ d. record { found = λ ts h y x q. linked-held (out-link x p q a e) r };
+    applied = λ d. record { found = λ ts h y x q. replacement-held (out-link x p q a e) r };
   }

@@ -8,8 +8,8 @@ use mathlib.Core.Option.{some}
 use mathlib.Core.List.{List, [], _∷_, _++_, map, flatten, map-append}
 use lib.ListN.{length, getD, take, set, getElem?, length-append, length-take}
 use lib.Seq.{take-at, take-length}
-use lib.Dec.{leb}
-use borrow.Author.Tests.{leb-true, leb-false, le-leb}
+use lib.Dec.{ltb}
+use borrow.Author.Tests.{eq-eqb, ne-eqb, ltb-true, ltb-false, le-ltb}
 use Rattle.calculus.specs.Syntax.{Name}
 use Rattle.semantics.specs.Definitions.Layout.{maxTerms, maxComponents}
 use Rattle.semantics.specs.Definitions.Terms.{Program, Term, process}
@@ -35,9 +35,10 @@ use Rattle.rules.specs.declared.Reply.the-variants.{Moved, Refused}
 use Rattle.rules.specs.Replies.{replyIs}
 use Rattle.index.specs.Holds.{Holds, CanReplace, Replaced}
 use Rattle.index.proofs.Holding.{hall-length, few-components, count-here, position-below}
-use Rattle.communication.specs.Tokens.{takeOf, takeTerm, successors, staying, takeNumber, laidSize, TakeHeld, TakeLooked, RoomAsked, RoomTested, CanWriteSuccessors, SuccessorsWritten, CanTake, TokenTaken}
+use Rattle.communication.specs.Tokens.{takeOf, takeTerm, successors, staying, takeNumber, repeats, laidSize, TakeHeld, TakeLooked, RoomAsked, RoomTested, CanWriteSuccessors, SuccessorsWritten, CanTake, TokenTaken}
 use Rattle.communication.proofs.Acting.{TakesHere, takes-there, many-after, empty-refused, crowded-refused, take-accepted, take-number}
-use Rattle.communication.proofs.Links.{takeKind, TakeIn, take-in, position-inside, body-inside, waits-on, take-body, take-token, take-link, linked-can, linked-held}
+use Rattle.communication.proofs.Links.{takeKind, TakeIn, take-in, position-inside, body-inside, waits-on, take-body, take-token, take-link}
+use Rattle.index.proofs.Acting.{replacement-can, replacement-held}
 
 -- ---- room for what opens
 
@@ -57,15 +58,15 @@ module _ (d : List ℕ) (i more n : ℕ) where
 
   module _ (others : ℕ) (o : others ≡ n - 1 + more) where
     -- a process that is not too wide opens into no more
-    pub narrow-enough : (b w : ℕ) → b ≡ breadthAt d i → w ≡ b → others + w ≤ maxComponents → RoomTested d i more n true
+    pub narrow-enough : (b w : ℕ) → b ≡ breadthAt d i → w ≡ b → others + w ≤ maxComponents → RoomTested d i more n false
     unfolding breadth
     narrow-enough b w p q l = record {
       found = λ ts P y e.
           let m = y .measures i (process P) e .0 in
-          let v = width-bounds-opening P in sym (le-leb (n - 1 + more + length (opens P)) maxComponents (omega arith));
+          let v = width-bounds-opening P in sym (le-ltb maxComponents (n - 1 + more + length (opens P)) (omega arith));
     }
 
-    pub counted-enough : (k : ℕ) → OpenedCounted d i k → RoomTested d i more n (leb (others + k) maxComponents)
+    pub counted-enough : (k : ℕ) → OpenedCounted d i k → RoomTested d i more n (ltb maxComponents (others + k))
     counted-enough k w = record {
       found = λ ts P y e.
           let z = w .found ts P y e in
@@ -74,21 +75,41 @@ module _ (d : List ℕ) (i more n : ℕ) where
 
 -- ---- the look
 
--- what was tested of the kind of the term says whether it is a repeated take
-abbrev pub KindTested : (repeated : Bool) → ℕ → Type 0
-KindTested true kind = kind ≡ kindByte repeatK
-KindTested false kind = kind ≡ kindByte repeatK → ⊥
+-- by the kind of the term
+module _ (kind : ℕ) where
+  a-repeat : kind ≡ kindByte repeatK → repeats kind ≡ true
+  unfolding repeats
+  a-repeat e = eq-eqb kind (kindByte repeatK) e
 
-tested : (b b′ : Bool) (kind : ℕ) → KindTested b kind → kind ≡ takeKind b′ → b′ ≡ b
-tested false false kind x e = refl
-tested false true kind x e = absurd (x e)
-tested true false kind x e = absurd (omega arith)
-tested true true kind x e = refl
+  no-repeat : (kind ≡ kindByte repeatK → ⊥) → repeats kind ≡ false
+  unfolding repeats
+  no-repeat e = ne-eqb kind (kindByte repeatK) e
+
+  pub rep-rule : kind ≡ kindByte repeatK → 3 ≡ takeNumber (repeats kind)
+  rep-rule e = rw (a-repeat e)
+
+  pub in-rule : (kind ≡ kindByte repeatK → ⊥) → 2 ≡ takeNumber (repeats kind)
+  in-rule e = rw (no-repeat e)
+
+  pub one-stays : kind ≡ kindByte repeatK → 1 ≡ staying (repeats kind)
+  one-stays e = rw (a-repeat e)
+
+  pub none-stays : (kind ≡ kindByte repeatK → ⊥) → 0 ≡ staying (repeats kind)
+  none-stays e = rw (no-repeat e)
+
+  repeats-is : (b : Bool) → kind ≡ takeKind b → b ≡ repeats kind
+  unfolding repeats
+  repeats-is false e = rw e
+  repeats-is true e = rw e
+
+staying-few : (b : Bool) → staying b ≤ 1
+staying-few false = omega arith
+staying-few true = omega arith
 
 -- the answer where a token is there, by the room for what opens
-abbrev roomReply : (repeated room : Bool) → Reply
-roomReply b true = Moved (takeNumber b)
-roomReply b false = Refused 19
+abbrev roomReply : (repeated crowded : Bool) → Reply
+roomReply b true = Refused 19
+roomReply b false = Moved (takeNumber b)
 
 module _ (d s : List ℕ) (n m i : ℕ) (same : i ≡ m) where
   module _ (x : TakeHeld d s n m) where
@@ -108,8 +129,10 @@ module _ (d s : List ℕ) (n m i : ℕ) (same : i ≡ m) where
         let z = hall-length (x .holds) in
         let v : a ≡ firstAt d m = q ∙ rw same at p in omega arith
 
-    pub room-asked : (g k more : ℕ) → g ≡ secondAt d i → k ≡ g → more ≤ 1 → RoomAsked d k more n
-    room-asked g k more p q l =
+    room-asked : (g k more kind : ℕ) → g ≡ secondAt d i → k ≡ g → more ≡ staying (repeats kind) →
+        RoomAsked d k more n
+    room-asked g k more kind p q l =
+        let f = staying-few (repeats kind) in
         let v : k ≡ secondAt d m = q ∙ rw same at p in
         let b = position-below (x .holds) (x .position) _ (x .there) in
         record {
@@ -121,7 +144,7 @@ module _ (d s : List ℕ) (n m i : ℕ) (same : i ≡ m) where
           };
           any = omega arith;
           few = few-components (x .holds);
-          one = l;
+          one = omega arith;
         }
 
   module _ (f a : ℕ) (p : f ≡ firstAt d i) (q : a ≡ f) where
@@ -142,7 +165,7 @@ module _ (d s : List ℕ) (n m i : ℕ) (same : i ≡ m) where
 
     module _ (z : getD s a 0 ≡ 0 → ⊥) (g k : ℕ) (o : g ≡ secondAt d i) (t : k ≡ g) (kind : ℕ)
         (u : kind ≡ kindAt d i) where
-      room-looked : (b : Bool) → KindTested b kind → (r : Bool) → RoomTested d k (staying b) n r →
+      room-looked : (b : Bool) → b ≡ repeats kind → (r : Bool) → RoomTested d k (staying b) n r →
           TakeLooked d s n m (roomReply b r)
       unfolding replyIs replyOf
       room-looked b w r told = record {
@@ -150,7 +173,7 @@ module _ (d s : List ℕ) (n m i : ℕ) (same : i ≡ m) where
             let l = waits-on x p b′ m c P e in
             let v = counted y x b′ c P l in
             let of-kind : kind ≡ kindAt d m = rw same at u in
-            let like : b′ ≡ b = tested b b′ kind w (of-kind ∙ take-in y b′ m c P l .kind) in
+            let like : b′ ≡ b = repeats-is kind b′ (of-kind ∙ take-in y b′ m c P l .kind) ∙ sym w in
             let at-second : k ≡ secondAt d m = t ∙ rw same at o in
             let there : getElem? ts k ≡ some (process P) = rw at-second (take-in y b′ m c P l .continuation) in
             go h p c P (rw like at e) (λ j. z (v ∙ j)) r (rw (x .counted) at (told .found ts P y there));
@@ -158,30 +181,28 @@ module _ (d s : List ℕ) (n m i : ℕ) (same : i ≡ m) where
         where
           go : (h : Configuration) (p : ℕ) (c : Name) (P : Program) →
               getElem? (h .components) p ≡ some (idle (takeOf b m c P)) → (getD (h .counts) c 0 ≡ 0 → ⊥) → (r : Bool) →
-              r ≡ leb (length (h .components) - 1 + staying b + length (opens P)) maxComponents →
+              r ≡ ltb maxComponents (length (h .components) - 1 + staying b + length (opens P)) →
               replyIs (roomReply b r) ≡ replyOf (answerTo h (act p))
           go h p c P e j true told =
-              let l = leb-true (length (h .components) - 1 + staying b + length (opens P)) maxComponents (sym told) in
-              let f = many-after h p b m c P e in
-              sym (ap replyOf (take-accepted h p b m c P e j (omega arith)) ∙ ap moves.movedBy (take-number b c))
-          go h p c P e j false told =
-              let l = leb-false (length (h .components) - 1 + staying b + length (opens P)) maxComponents (sym told) in
+              let l = ltb-true maxComponents (length (h .components) - 1 + staying b + length (opens P)) (sym told) in
               let f = many-after h p b m c P e in
               sym (crowded-refused h p b m c P e j (omega arith))
+          go h p c P e j false told =
+              let l = ltb-false maxComponents (length (h .components) - 1 + staying b + length (opens P)) (sym told) in
+              let f = many-after h p b m c P e in
+              sym (ap replyOf (take-accepted h p b m c P e j (omega arith)) ∙ ap moves.movedBy (take-number b c))
 
-      module _ (r : Bool) where
-        pub rep-looked : kind ≡ kindByte repeatK → RoomTested d k 1 n r → r ≡ true → TakeLooked d s n m (Moved 3)
-        rep-looked w told e = room-looked true w true (rw e at told)
+      module _ (more : ℕ) (stays : more ≡ staying (repeats kind)) (r : Bool) (told : RoomTested d k more n r) where
+        pub crowded-looked : r ≡ true → TakeLooked d s n m (Refused 19)
+        crowded-looked e = room-looked (repeats kind) refl true (rw (e, stays) at told)
 
-        pub rep-crowded : kind ≡ kindByte repeatK → RoomTested d k 1 n r → r ≡ false → TakeLooked d s n m (Refused 19)
-        rep-crowded w told e = room-looked true w false (rw e at told)
+        pub take-looked : r ≡ false → (rule : ℕ) → rule ≡ takeNumber (repeats kind) → TakeLooked d s n m (Moved rule)
+        take-looked e rule by = rw by (room-looked (repeats kind) refl false (rw (e, stays) at told))
 
-        pub in-looked : (kind ≡ kindByte repeatK → ⊥) → RoomTested d k 0 n r → r ≡ true → TakeLooked d s n m (Moved 2)
-        in-looked w told e = room-looked false w true (rw e at told)
-
-        pub in-crowded : (kind ≡ kindByte repeatK → ⊥) → RoomTested d k 0 n r → r ≡ false →
-            TakeLooked d s n m (Refused 19)
-        in-crowded w told e = room-looked false w false (rw e at told)
+-- the room for what opens may be asked for
+pub can-ask-room : (d s : List ℕ) (n m : ℕ) → TakeHeld d s n m → (i g k more kind : ℕ) → k ≡ g → g ≡ secondAt d i →
+    i ≡ m → more ≡ staying (repeats kind) → RoomAsked d k more n
+can-ask-room d s n m x i g k more kind q p same stays = room-asked d s n m i same x g k more kind p q stays
 
 -- ---- what is laid down
 
@@ -247,7 +268,7 @@ module _ (d : List ℕ) (m i : ℕ) (same : i ≡ m) (s : List ℕ) (x : CanWrit
         unfolding openedBytes
         take-laid h = record {
           found = λ ts b a P y e.
-              let like = tested false b kind h (of-kind ∙ take-in y b m a P e .kind) in
+              let like = repeats-is kind b (of-kind ∙ take-in y b m a P e .kind) ∙ no-repeat kind h in
               let q = opened ts b a P y e in
               let z : end ≡ length (openedBytes P) = omega (arith, q .0) in
               rw (like, z, q .1) (refl, written-front s (openedBytes P));
@@ -257,7 +278,7 @@ module _ (d : List ℕ) (m i : ℕ) (same : i ≡ m) (s : List ℕ) (x : CanWrit
             s₂ ≡ written s₁ end (waitingKind ∷ m ∷ []) idleSize → SuccessorsWritten d m s₂ r
         repeat-laid h r j s₂ p = record {
           found = λ ts b a P y e.
-              let like = tested true b kind h (of-kind ∙ take-in y b m a P e .kind) in
+              let like = repeats-is kind b (of-kind ∙ take-in y b m a P e .kind) ∙ a-repeat kind h in
               let q = opened ts b a P y e in
               let v = openedBytes P ++ (waitingKind ∷ m ∷ []) in
               let l = length-append (openedBytes P) (waitingKind ∷ m ∷ []) in
@@ -344,13 +365,13 @@ module _ (d s starts : List ℕ) (n p : ℕ) where
           CanReplace (set s a (getD s a 0 - 1)) starts n p (take size bytes) (size / idleSize)
       can-replace-take bytes size w =
           let y = x .accepts in
-          linked-can (take-link (y .holds) p (y .decoded) (x .repeated) (y .reply) term a refl at-first bytes size w)
+          replacement-can (take-link (y .holds) p (y .decoded) (x .repeated) (y .reply) term a refl at-first bytes size w)
 
     pub token-taken : (bytes : List ℕ) (size : ℕ) → SuccessorsWritten d term bytes size → (s′ starts′ : List ℕ) (n′ : ℕ) →
         Replaced (set s a (getD s a 0 - 1)) starts n p (take size bytes) (size / idleSize) s′ starts′ n′ →
         TokenTaken d s starts n p s′ starts′ n′
     token-taken bytes size w s′ starts′ n′ r = record {
       applied = λ b. record {
-        found = λ ts h y x z. linked-held (take-link x p y b z term a refl at-first bytes size w) r;
+        found = λ ts h y x z. replacement-held (take-link x p y b z term a refl at-first bytes size w) r;
       };
     }

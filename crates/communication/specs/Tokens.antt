@@ -9,13 +9,15 @@ use mathlib.Core.Bool.{Bool, true, false}
 use mathlib.Core.Option.{some}
 use mathlib.Core.List.{List, [], _∷_, _++_, map}
 use lib.ListN.{length, take, getElem?}
-use lib.Dec.{leb}
+use lib.Dec.{eqb, ltb}
 use Rattle.calculus.specs.Syntax.{Name}
 use Rattle.calculus.specs.Reduction.{Rule, IN, REP}
 use Rattle.semantics.specs.Definitions.Layout.{maxComponents}
 use Rattle.semantics.specs.Definitions.Terms.{Program, takeT, repeatT, Term, process}
 use Rattle.semantics.specs.Definitions.Configuration.{Idle, taking, repeating, output, idle, Configuration, opens}
 use Rattle.semantics.specs.Definitions.Moves.{act, answerTo, replyOf}
+use Rattle.semantics.specs.Definitions.Table.{repeatK}
+use Rattle.records.specs.Shapes.{kindByte}
 use Rattle.terms.specs.Decoded.{Decoded, AProcess}
 use Rattle.stored.specs.Layout.{idleSize}
 use Rattle.storedlaws.specs.Positions.{allBytes}
@@ -80,6 +82,10 @@ abbrev pub takeNumber : (repeated : Bool) → ℕ
 takeNumber false = 2
 takeNumber true = 3
 
+-- whether the record of a take, of this kind, is a repeated take's
+unfoldable pub repeats : (kind : ℕ) → Bool
+repeats kind = eqb kind (kindByte repeatK)
+
 -- a component that waits on the take or repeated take of this number stands somewhere in some configuration of n
 -- components that is held
 pub record TakeHeld (d s : List ℕ) (n term : ℕ) : Type 0 where
@@ -108,10 +114,10 @@ pub record RoomAsked (d : List ℕ) (i more n : ℕ) : Type 0 where
   pub few : n ≤ maxComponents
   pub one : more ≤ 1
 
--- whether the components are few enough then
+-- whether the components are too many then
 pub record RoomTested (d : List ℕ) (i more n : ℕ) (r : Bool) : Type 0 where
   pub found : (ts : List Term) (P : Program) → Decoded ts d → getElem? ts i ≡ some (process P) →
-      r ≡ leb (n - 1 + more + length (opens P)) maxComponents
+      r ≡ ltb maxComponents (n - 1 + more + length (opens P))
 
 -- a take or a repeated take has this number, in some table that d decodes
 pub record ATake (d : List ℕ) (term : ℕ) : Type 0 where

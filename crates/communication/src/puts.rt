@@ -6,10 +6,8 @@ use rules::OUT;
 use rules::Reply;
 use stored::COMPONENT_BODY;
 use stored::INDEX_SIZE;
+use stored::MAX_COUNT;
 ghost use Rattle.communication.specs.Tokens.{OutputHeld, OutputLooked, CanPut, TokenPut};
-
-// A channel's largest count.
-const MAX_COUNT: u8 = 255;
 
 // What OUT is answered at an output of this channel: refused where the channel is full.
 pub fn look_out(hall: &[u8], channel: u8) -> Reply

@@ -17,22 +17,36 @@ use stored::INDEX_SIZE;
 use stored::KIND_WAITING;
 use stored::MAX_COMPONENTS;
 use terms::DECODED;
-ghost use Rattle.communication.specs.Tokens.{TakeHeld, TakeLooked, RoomAsked, RoomTested, CanWriteSuccessors, SuccessorsWritten, CanTake, TokenTaken};
+ghost use mathlib.Core.Path.{_≡_};
+ghost use Rattle.communication.specs.Tokens.{takeNumber, staying, repeats, TakeHeld, TakeLooked, RoomAsked, RoomTested, CanWriteSuccessors, SuccessorsWritten, CanTake, TokenTaken};
 
 // What a take may lay down, in bytes: as many components as a process is wide, and the take itself.
 const LAID: usize = IDLE_SIZE * (MAX_COMPONENTS + 1);
 
-// Whether a component may give way to what a process opens into and so many more. The width bounds what opens, so that
-// counting is needed near the limit only.
-fn has_room(decoded: &[u8; DECODED], term: usize, more: usize, components: usize) -> bool
+// By the kind of a take's record: its rule, and how many stay of it.
+fn take_rule(kind: u8) -> u8
+    ensures { λ r. ⌜ r ≡ takeNumber (repeats kind) ⌝ }
+{
+    if kind == REPEATED_TAKE { REP } else { IN }
+}
+
+fn staying_of(kind: u8) -> usize
+    ensures { λ r. ⌜ r ≡ staying (repeats kind) ⌝ }
+{
+    if kind == REPEATED_TAKE { 1 } else { 0 }
+}
+
+// Whether there are too many components once one has given way to what a process opens into and so many more. The width
+// bounds what opens, so that counting is needed near the limit only.
+fn is_crowded(decoded: &[u8; DECODED], term: usize, more: usize, components: usize) -> bool
     requires { ⌜ RoomAsked (now decoded) term more components ⌝ }
     ensures { λ r. ⌜ RoomTested (now (decoded .entry)) term more components r ⌝ }
 {
     let others = components - 1 + more;
     if others + wide(terms::breadth_of(decoded, term)) <= MAX_COMPONENTS {
-        return true;
+        return false;
     }
-    others + opened_count(decoded, term) <= MAX_COMPONENTS
+    MAX_COMPONENTS < others + opened_count(decoded, term)
 }
 
 // What IN or REP is answered at a component that waits on the take or repeated take of this number. An empty channel is
@@ -43,20 +57,17 @@ pub fn look_take(decoded: &[u8; DECODED], hall: &[u8], components: usize, term: 
 {
     let i = wide(term);
     let channel = wide(terms::first_of(decoded, i));
-    if hall[channel] == 0 {
+    let continuation = wide(terms::second_of(decoded, i));
+    let kind = terms::kind_of(decoded, i);
+    let staying = staying_of(kind);
+    let count = hall[channel];
+    if count == 0 {
         return Reply::Refused(EMPTY_CHANNEL);
     }
-    let continuation = wide(terms::second_of(decoded, i));
-    if terms::kind_of(decoded, i) == REPEATED_TAKE {
-        if has_room(decoded, continuation, 1, components) {
-            return Reply::Moved(REP);
-        }
+    if is_crowded(decoded, continuation, staying, components) {
         return Reply::Refused(TOO_MANY_COMPONENTS);
     }
-    if has_room(decoded, continuation, 0, components) {
-        return Reply::Moved(IN);
-    }
-    Reply::Refused(TOO_MANY_COMPONENTS)
+    Reply::Moved(take_rule(kind))
 }
 
 // The bytes of what stands in the take's place afterwards: the answer is how many they are.

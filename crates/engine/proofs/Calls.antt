@@ -26,9 +26,10 @@ use Rattle.admission.specs.declared.Admission.the-variants as admit
 use Rattle.admission.specs.Answers.{AdmissionIs}
 use Rattle.choices.specs.declared.suggests.Suggestion.{Suggestion}
 use Rattle.choices.specs.declared.suggests.Suggestion.the-variants as suggestion
-use Rattle.choices.specs.declared.Entry as entries
-use Rattle.choices.specs.declared.Entry.the-variants as entry
-use Rattle.choices.specs.Entries.{entryOf, Suggests}
+use Rattle.schedule.specs.declared.Entry as entries
+use Rattle.schedule.specs.declared.Entry.the-variants as entry
+use Rattle.choices.specs.Entries.{Suggests}
+use Rattle.schedule.specs.Entries.{entryOf}
 use Rattle.runs.specs.declared.RunAnswer.{RunAnswer}
 use Rattle.runs.specs.declared.RunAnswer.the-variants as ran
 use Rattle.runs.specs.Answers.{runCallOf, Ran}

@@ -6,9 +6,9 @@ use mathlib.Core.Path.{_≡_, refl, ap}
 use mathlib.Core.List.{List}
 use Rattle.counters.specs.declared.Counters.{Counters}
 use Rattle.counters.proofs.Rising.{counters-injective}
-use Rattle.choices.specs.declared.Entry.{Entry}
-use Rattle.choices.specs.declared.Entry.the-variants as entry
-use Rattle.choices.specs.Entries.{entryOf}
+use Rattle.schedule.specs.declared.Entry.{Entry}
+use Rattle.schedule.specs.declared.Entry.the-variants as entry
+use Rattle.schedule.specs.Entries.{entryOf}
 use Rattle.engine.specs.declared.checks.HallVerdict.{HallVerdict}
 use Rattle.engine.specs.declared.checks.HallVerdict.the-variants as verdict
 use Rattle.engine.specs.declared.opens.OpenAnswer.{OpenAnswer}

@@ -14,7 +14,7 @@ use Rattle.terms.specs.Decoded.{Decoded}
 use Rattle.index.specs.Holds.{Holds}
 use Rattle.counters.specs.declared.Counters as counters
 use Rattle.counters.specs.Counted.{countersOf}
-use Rattle.choices.specs.Entries.{entryOf}
+use Rattle.schedule.specs.Entries.{entryOf}
 use Rattle.engine.specs.declared.checks.HallVerdict.{HallVerdict}
 use Rattle.engine.specs.declared.checks.HallVerdict.the-variants as verdict
 use Rattle.engine.specs.declared.opens.OpenAnswer.{OpenAnswer}

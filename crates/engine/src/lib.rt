@@ -8,11 +8,11 @@ mod suggests;
 
 pub use checks::HallVerdict;
 pub use checks::check_hall;
-pub use choices::Entry;
 pub use opens::OpenAnswer;
 pub use opens::open_hall;
 pub use running::run;
 pub use runs::RunAnswer;
+pub use schedule::Entry;
 pub use steps::StepAnswer;
 pub use steps::step;
 pub use suggests::SuggestAnswer;

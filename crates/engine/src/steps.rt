@@ -1,10 +1,10 @@
 // Making one choice on a stored hall.
 use admission::Admission;
-use choices::Entry;
 use counters::Counters;
 use rules::Reply;
 use rules::UNKNOWN_KIND;
 use schedule::ACT_SIZE;
+use schedule::Entry;
 use schedule::INSIDE_SIZE;
 use schedule::KIND_ACT;
 use schedule::KIND_INSIDE;
@@ -14,7 +14,7 @@ ghost use mathlib.Core.Path.{_≡_};
 ghost use Rattle.semantics.specs.Definitions.Calls.{stepCall};
 ghost use Rattle.counters.specs.Counted.{countersOf};
 ghost use Rattle.index.specs.Holds.{Running};
-ghost use Rattle.choices.specs.Entries.{entryOf};
+ghost use Rattle.schedule.specs.Entries.{entryOf};
 ghost use Rattle.engine.specs.Answers.{buffersOf, stepCallOf, StepCaseDecided, Stepped};
 
 // The rule by which a choice moved, the place behind it and the counters after it; or the refusal's number and place,

@@ -1,7 +1,7 @@
 // Suggesting a choice on a stored hall.
 use admission::Admission;
-use choices::Entry;
 use choices::Suggestion;
+use schedule::Entry;
 use stored::INDEX_SIZE;
 use terms::DECODED;
 ghost use Rattle.semantics.specs.Definitions.Calls.{SuggestAllowed};

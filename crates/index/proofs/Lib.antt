@@ -2,3 +2,4 @@ pub mod Entries
 pub mod Holding
 pub mod Replacing
 pub mod InPlace
+pub mod Acting

@@ -26,8 +26,8 @@ use Rattle.storedlaws.proofs.Cursors.{first-byte, over}
 use Rattle.storedlaws.proofs.Nodes.{node-of, plug-ok}
 use Rattle.storedlaws.proofs.TermKinds.{term-kind}
 use Rattle.index.specs.Holds.{Holds}
-use Rattle.index.proofs.Holding.{NodeAt, component-ok, node-here}
-use Rattle.leaves.specs.Leaves.{NamesExpression, KindRead, kindOfNode, TreeAt, StandsAt, NodeRead}
+use Rattle.index.proofs.Holding.{NodeAt, component-at, component-ok, transaction-here, node-here}
+use Rattle.leaves.specs.Leaves.{NamesExpression, KindRead, kindOfNode, TreeAt, StandsAt, NodeRead, TransactionAt}
 
 -- ---- the byte of a leaf's term
 
@@ -194,6 +194,24 @@ module _ {ts : List Term} {h : Configuration} {d s starts : List ℕ} {n : ℕ} 
       let z : getD starts p 0 + transactionHead + length (before top) ≡ getD starts p 0 + transactionHead =
       omega arith in
       rw z at (node-at (node-here held p m M σ t e 0 top t (first-node t)))
+
+-- the transaction at an offset, and where its nodes stand
+pub record Opened (ts : List Term) (h : Configuration) (d s : List ℕ) (p at : ℕ) : Type 0 where
+  pub number : ℕ
+  pub block : Expression
+  pub snapshot : State
+  pub nodes : Tree
+  pub there : getElem? (h .components) p ≡ some (transaction number block snapshot nodes)
+  pub stands : TreeAt ts nodes d s (at + transactionHead)
+
+pub opened : {ts : List Term} {h : Configuration} {d s starts : List ℕ} {n p at : ℕ} →
+    TransactionAt ts h d s starts n p at → Opened ts h d s p at
+opened {h = h} {p = p} x =
+    let (c, e) = component-at (x .holds) p (x .there) in
+    let (M, σ, t, same) = transaction-here (x .holds) p c e (rw (x .begins) at (x .kind)) in
+    let there : getElem? (h .components) p ≡ some (transaction _ M σ t) = e ∙ ap some same in
+    let tree = whole-at (x .decoded) (x .holds) p _ M σ t there in
+    record { number = _; block = M; snapshot = σ; nodes = t; there = there; stands = rw (← x .begins) at tree }
 
 -- ---- the shape of an expression
 

@@ -1,17 +1,20 @@
--- The kind of the expression at a node of a transaction, and where a tree of nodes stands in bytes.
+-- The kind of the expression at a node of a transaction, where a tree of nodes stands in bytes, and where a transaction
+-- begins.
 --
 -- d is a decoded table; s has a hall's bytes.
 -- Assumes nothing.
-use Prim.Native.Nat.{ℕ}
+use Prim.Native.Nat.{ℕ, _<_}
 use mathlib.Core.Path.{_≡_}
 use mathlib.Core.Option.{some}
 use mathlib.Core.List.{List, _++_}
-use lib.ListN.{drop}
+use lib.ListN.{getD, drop}
 use Rattle.semantics.specs.Definitions.Terms.{Expression, Term, expression}
-use Rattle.semantics.specs.Definitions.Configuration.{Tree, leaf, fork}
+use Rattle.semantics.specs.Definitions.Configuration.{Tree, leaf, fork, Configuration}
 use Rattle.semantics.specs.Definitions.Stored.{leafExpression, treeBytes, TreeOk}
 use Rattle.terms.specs.Decoded.{Decoded}
+use Rattle.stored.specs.Layout.{transactionKind}
 use Rattle.storedlaws.specs.Reading.{termKind}
+use Rattle.index.specs.Holds.{Holds}
 
 -- ---- the byte of a leaf's term
 
@@ -51,3 +54,13 @@ pub record StandsAt (d s : List ℕ) (at : ℕ) : Type 0 where
 -- r is the kind at its node, whichever table and tree it is
 pub record NodeRead (d s : List ℕ) (at r : ℕ) : Type 0 where
   pub found : (ts : List Term) (u : Tree) → TreeAt ts u d s at → r ≡ kindOfNode u
+
+-- ---- a transaction
+
+-- it begins at this offset, and is the component at position p of a configuration that is held
+pub record TransactionAt (ts : List Term) (h : Configuration) (d s starts : List ℕ) (n p at : ℕ) : Type 0 where
+  pub decoded : Decoded ts d
+  pub holds : Holds ts h s starts n
+  pub there : p < n
+  pub begins : at ≡ getD starts p 0
+  pub kind : getD s at 0 ≡ transactionKind

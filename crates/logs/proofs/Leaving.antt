@@ -13,7 +13,7 @@ use lib.Seq.{length-take-le, getD-take, getD-drop, getD-set-same, getD-set-other
 use borrow.Author.Tests.{lt-ltb, le-ltb, ltb-true, ltb-false}
 use Rattle.calculus.specs.State.{same, occurrences}
 use Rattle.calculus.proofs.States.{same-self, same-other}
-use Rattle.semantics.specs.Definitions.Layout.{channels, maxActions}
+use Rattle.semantics.specs.Definitions.Layout.{channels}
 use Rattle.logs.specs.declared.Left as code
 use Rattle.logs.specs.Needs.{needsOf, takenBy, withinAt}
 use Rattle.logs.specs.Values.{Leaves, LeftOf}
@@ -38,17 +38,17 @@ fewer a [] (suc m) (suc n) h = omega arith
 fewer a (x ∷ xs) (suc m) (suc n) h = let p = fewer a xs m n (omega arith) in omega arith
 
 module _ (s : List ℕ) (k : ℕ) where
-  pub leaves-start : (left : List ℕ) → left ≡ take maxActions (drop k s) → Leaves left s k []
+  pub leaves-start : (left : List ℕ) → left ≡ take channels (drop k s) → Leaves left s k []
   unfolding occurrences
   leaves-start left e a h =
       let z = needs-count [] a h in
-      let g : getD left a 0 ≡ getD s (k + a) 0 = rw e (getD-take maxActions (drop k s) a 0 h ∙ getD-drop k s a 0) in
+      let g : getD left a 0 ≡ getD s (k + a) 0 = rw e (getD-take channels (drop k s) a 0 h ∙ getD-drop k s a 0) in
       omega arith
 
-  pub left-length : (left : List ℕ) → left ≡ take maxActions (drop k s) → k + channels ≤ length s → length left ≡ channels
+  pub left-length : (left : List ℕ) → left ≡ take channels (drop k s) → k + channels ≤ length s → length left ≡ channels
   left-length left e h =
-      let l : maxActions ≤ length (drop k s) = rw (length-drop k s) (omega arith) in
-      rw e (length-take-le maxActions (drop k s) l)
+      let l : channels ≤ length (drop k s) = rw (length-drop k s) (omega arith) in
+      rw e (length-take-le channels (drop k s) l)
 
   module _ (left bs : List ℕ) (b : ℕ) (l : Leaves left s k bs) where
     leaves-read : b < channels → length left ≡ channels → getD left b 0 ≢ 0 →

@@ -4,6 +4,6 @@ pub mod Needing
 pub mod Counting
 pub mod Leaving
 pub mod Writing
-pub mod Keeping
+pub mod Copying
 pub mod Links
 pub mod Places

@@ -10,7 +10,7 @@ use mathlib.Core.List.{List, [], _∷_, _++_, map}
 use lib.ListN.{length, getD, take, drop, length-map, take-append-drop}
 use lib.Seq.{take-at, take-all, take-take, getD-take, getD-drop, ext-getD}
 use borrow.Author.Tests.{lt-ltb, le-ltb}
-use Rattle.calculus.specs.Syntax.{Name, rd, wt, Log, State}
+use Rattle.calculus.specs.Syntax.{Name, Action, rd, wt, Log, State}
 use Rattle.calculus.specs.State.{count, same, occurrences, without, Included}
 use Rattle.calculus.specs.Log.{RD, WT}
 use Rattle.calculus.proofs.States.{same-other, length-without, count-without}
@@ -32,11 +32,14 @@ use Rattle.logs.specs.Places.{LogAt, CountsAt}
 use Rattle.logs.proofs.Needing.{needs-count, needs-sixteen}
 use Rattle.logs.proofs.Counting.{covered, all-covered, lowered-count, lowered-length, lowered-before}
 use Rattle.logs.proofs.Writing.{output-length}
-use Rattle.logs.proofs.Keeping.{map-snoc}
 
 -- a log on the channels that there are
 abbrev Named : Log → Type 0
 Named δ = All (λ α. channelOf α < channels) δ
+
+map-snoc : (δ : Log) (α : Action) → map actionByte (δ ++ (α ∷ [])) ≡ map actionByte δ ++ (actionByte α ∷ [])
+map-snoc [] α = refl
+map-snoc (β ∷ δ) α = ap (_∷_ (actionByte β)) (map-snoc δ α)
 
 -- ---- reads
 

@@ -9,8 +9,8 @@ use lib.Dec.{ltb}
 use lib.ListN.{length, getD, take, drop, set, replicate, length-append}
 use borrow.Author.Tests.{lt-ltb, le-ltb}
 use Rattle.semantics.specs.Definitions.Basics.{padded}
-use Rattle.semantics.specs.Definitions.Layout.{writeOffset, outputKind}
-use Rattle.logs.specs.Writes.{writesOf, outputBytes}
+use Rattle.semantics.specs.Definitions.Layout.{maxActions, writeOffset, outputKind}
+use Rattle.logs.specs.Writes.{writesOf, outputsSize, outputBytes}
 use Rattle.logs.specs.Values.{OutputsAre}
 use Rattle.logs.proofs.Padding.{padded-two}
 use Rattle.logs.proofs.Needing.{one-more}
@@ -67,16 +67,16 @@ Made bytes count ws = OutputsAre (record { bytes = bytes; count = count }) ws
 abbrev more : List ℕ → ℕ → ℕ → List ℕ
 more bytes count a = set (set bytes (count * 2) outputKind) (count * 2 + 1) a
 
-made-more : (bytes : List ℕ) (count : ℕ) (ws : List ℕ) (a : ℕ) → Made bytes count ws → length ws < 16 →
+made-more : (bytes : List ℕ) (count : ℕ) (ws : List ℕ) (a : ℕ) → Made bytes count ws → length ws < maxActions →
     Made (more bytes count a) (count + 1) (ws ++ (a ∷ []))
 unfolding outputBytes
 made-more bytes count ws a h l =
     let n = h .counted in
     let k : length (outputBytes ws) ≡ count * 2 = output-length ws ∙ ap (λ (j : ℕ). j * 2) (sym n) in
-    let p = padded-two 32 (outputBytes ws) outputKind a (count * 2) k (omega arith) in
+    let p = padded-two outputsSize (outputBytes ws) outputKind a (count * 2) k (omega arith) in
     record { counted = rw (n, length-append ws (a ∷ [])) refl; bytes = rw (h .bytes, output-append ws (a ∷ [])) p }
 
-pub made-start : Made (replicate 32 0) 0 (writesOf [])
+pub made-start : Made (replicate outputsSize 0) 0 (writesOf [])
 unfolding outputBytes padded writesOf
 made-start = record { counted = refl; bytes = refl }
 
@@ -88,7 +88,7 @@ module _ (s : List ℕ) (at size i : ℕ) (bytes : List ℕ) (count b : ℕ) (so
   pub made-read : b < writeOffset → Made bytes count (writesOf (take (i + 1) (drop at s)))
   made-read h = rw (next, writes-read (take i (drop at s)) b h) sofar
 
-  pub made-write : writeOffset ≤ b → size ≤ 16 → count ≤ i →
+  pub made-write : writeOffset ≤ b → size ≤ maxActions → count ≤ i →
       Made (more bytes count (b - writeOffset)) (count + 1) (writesOf (take (i + 1) (drop at s)))
   made-write h k l =
       let n = sofar .counted in

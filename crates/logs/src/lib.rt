@@ -8,6 +8,7 @@ use stored::CHANNELS;
 use stored::IDLE_SIZE;
 use stored::KIND_OUTPUT;
 use stored::LOG_SIZE;
+use stored::WRITE_OFFSET;
 ghost use mathlib.Core.Path.{_≡_};
 ghost use mathlib.Core.Bool.{true};
 ghost use mathlib.Core.List.{[], _∷_, _++_};
@@ -17,27 +18,27 @@ ghost use Rattle.semantics.specs.Definitions.Layout.{maxByte, channels, maxActi
 ghost use Rattle.semantics.specs.Definitions.Logs.{emptyLog};
 ghost use Rattle.logs.specs.Needs.{needsOf, takenBy, withinAt, lowered};
 ghost use Rattle.logs.specs.Writes.{writesOf};
-ghost use Rattle.logs.specs.Values.{LogIs, LogWith, OutputsAre, LeftOf};
+ghost use Rattle.logs.specs.Values.{LogIs, OutputsAre, LeftOf};
 
-// A write's byte is its channel and this; a read's is its channel.
-pub const WRITES: u8 = stored::WRITE_OFFSET;
+// The components that a log of writes alone becomes, in bytes.
+const OUTPUTS_SIZE: usize = IDLE_SIZE * LOG_SIZE;
 
 // A log: how many actions it has, and a byte for each of them, with zeros behind.
 pub struct Log {
     pub length: u8,
-    pub actions: [u8; 16],
+    pub actions: [u8; LOG_SIZE],
 }
 
 // The components (stations) that the writes of a log become, as bytes with zeros behind, and how many they are.
 pub struct Outputs {
-    pub bytes: [u8; 32],
+    pub bytes: [u8; OUTPUTS_SIZE],
     pub count: usize,
 }
 
 // What is left of counts when reads are taken from them, and whether they sufficed.
 pub struct Left {
     pub enough: bool,
-    pub counts: [u8; 16],
+    pub counts: [u8; CHANNELS],
 }
 
 impl Log {
@@ -47,49 +48,23 @@ impl Log {
     {
         Log {
             length: 0,
-            actions: [0u8; 16],
-        }
-    }
-
-    // The log of so many actions whose bytes begin at an offset.
-    pub fn read(s: &[u8], at: usize, size: u8) -> Self
-        requires { ⌜ at + maxActions ≤ length (now s) ⌝ }
-        ensures { λ r. ⌜ (r .length ≡ size) × (r .actions ≡ take maxActions (drop at (now (s .entry)))) ⌝ }
-    {
-        Log {
-            length: size,
-            actions: sixteen_at(s, at),
-        }
-    }
-
-    // The log with one action more.
-    pub fn with(self, action: u8) -> Self
-        requires { ⌜ self .length < maxActions ⌝ }
-        ensures { λ r. ⌜ LogWith self action r ⌝ }
-    {
-        let mut actions = self.actions;
-        let length = self.length;
-        let at = wide(length);
-        actions[at] = action;
-        Log {
-            length: length + 1,
-            actions,
+            actions: [0u8; LOG_SIZE],
         }
     }
 }
 
-// The 16 bytes that begin at an offset: the actions of a log, or counts.
-fn sixteen_at(s: &[u8], at: usize) -> [u8; 16]
-    requires { ⌜ at + maxActions ≤ length (now s) ⌝ }
-    ensures { λ r. ⌜ r ≡ take maxActions (drop at (now (s .entry))) ⌝ }
+// The counts that begin at an offset.
+fn counts_at(s: &[u8], at: usize) -> [u8; CHANNELS]
+    requires { ⌜ at + channels ≤ length (now s) ⌝ }
+    ensures { λ r. ⌜ r ≡ take channels (drop at (now (s .entry))) ⌝ }
 {
-    let mut bytes = [0u8; 16];
+    let mut counts = [0u8; CHANNELS];
     let mut i: usize = 0;
-    while i < LOG_SIZE {
-        bytes[i] = s[at + i];
+    while i < CHANNELS {
+        counts[i] = s[at + i];
         i += 1;
     }
-    bytes
+    counts
 }
 
 // A channel is needed once more.
@@ -101,11 +76,11 @@ fn one_more(times: u8) -> u8
 }
 
 // How often each channel is read by the log of so many actions whose bytes begin at an offset.
-pub fn needs_of(s: &[u8], at: usize, size: usize) -> [u8; 16]
+pub fn needs_of(s: &[u8], at: usize, size: usize) -> [u8; CHANNELS]
     requires { ⌜ (size ≤ maxActions) × (at + size ≤ length (now s)) ⌝ }
     ensures { λ r. ⌜ r ≡ needsOf (take size (drop at (now (s .entry)))) ⌝ }
 {
-    let mut need = [0u8; 16];
+    let mut need = [0u8; CHANNELS];
     let mut i: usize = 0;
     while i < size {
         let action = wide(s[at + i]);
@@ -121,7 +96,7 @@ pub fn needs_of(s: &[u8], at: usize, size: usize) -> [u8; 16]
 fn taken_by(action: u8) -> u8
     ensures { λ r. ⌜ r ≡ takenBy action ⌝ }
 {
-    if action < WRITES { 1 } else { 0 }
+    if action < WRITE_OFFSET { 1 } else { 0 }
 }
 
 // The one test of reads against counts: the reads of the stored log of so many actions at an offset, taken one by one
@@ -131,7 +106,7 @@ fn left_of(s: &[u8], at: usize, size: usize, counts: usize) -> Left
     requires { ⌜ (size ≤ maxActions) × (at + size ≤ length (now s)) × (counts + channels ≤ length (now s)) ⌝ }
     ensures { λ r. ⌜ LeftOf r (now (s .entry)) counts (take size (drop at (now (s .entry)))) ⌝ }
 {
-    let mut left = sixteen_at(s, counts);
+    let mut left = counts_at(s, counts);
     let mut i: usize = 0;
     while i < size {
         let byte = s[at + i];
@@ -178,7 +153,7 @@ pub fn readable_with(s: &[u8], at: usize, size: usize, channel: u8, counts: usiz
 }
 
 // The counts of a hall, lowered by needs that they cover.
-pub fn take_needs(s: &mut [u8], need: [u8; 16])
+pub fn take_needs(s: &mut [u8], need: [u8; CHANNELS])
     requires { ⌜ (channels ≤ length (now s)) × (withinAt need (now s) 0 ≡ true) ⌝ }
     ensures { λ _. ⌜ now (s .exit) ≡ lowered need (now (s .entry)) ⌝ }
 {
@@ -194,16 +169,16 @@ pub fn outputs_of(s: &[u8], at: usize, size: usize) -> Outputs
     requires { ⌜ (size ≤ maxActions) × (at + size ≤ length (now s)) ⌝ }
     ensures { λ r. ⌜ OutputsAre r (writesOf (take size (drop at (now (s .entry))))) ⌝ }
 {
-    let mut bytes = [0u8; 32];
+    let mut bytes = [0u8; OUTPUTS_SIZE];
     let mut count: usize = 0;
     let mut i: usize = 0;
     while i < size {
         let action = s[at + i];
         i += 1;
-        if WRITES <= action {
+        if WRITE_OFFSET <= action {
             let end = count * IDLE_SIZE;
             bytes[end] = KIND_OUTPUT;
-            bytes[end + 1] = action - WRITES;
+            bytes[end + 1] = action - WRITE_OFFSET;
             count += 1;
         }
     }

@@ -1,46 +1,23 @@
--- The entry at an offset of a schedule, from what was parsed there; an entry that was made, by what it was answered.
+-- An entry that was made, by what it was answered; and that no refusal has number 0.
 -- Assumes nothing.
 use Prim.Native.Nat.{ℕ, _<_}
 use native.Mathlib.Omega.{arith}
 use mathlib.Core.Path.{_≡_, refl, sym, ap, subst, _∙_}
 use mathlib.Core.List.{List, [], _∷_}
-use lib.ListN.{drop}
 use Rattle.calculus.specs.Reduction.{Rule}
 use Rattle.semantics.specs.Definitions.Basics.{All}
 use Rattle.semantics.specs.Definitions.Terms.{Term}
 use Rattle.semantics.specs.Definitions.Configuration.{Configuration}
-use Rattle.semantics.specs.Definitions.Moves.{Entry, Answer, moved, refused, answerTo, ruleNumber, movedBy, refusedBy, replyOf}
+use Rattle.semantics.specs.Definitions.Moves.{Entry, Answer, moved, refused, answerTo, ruleNumber, refusedBy, replyOf}
 use Rattle.semantics.specs.Definitions.Run.{ScheduleItem, malformed, schedule}
 use Rattle.theorems.proofs.CallsAsOne.{AnswerHigh, ItemHigh, schedule-high, choose-high}
 use Rattle.terms.specs.Decoded.{Decoded}
 use Rattle.rules.specs.declared.Reply.{Reply}
 use Rattle.rules.specs.declared.Reply.the-variants.{Moved, Refused}
 use Rattle.rules.specs.Replies.{replyIs}
-use Rattle.schedule.specs.declared.Parsed.{Parsed}
-use Rattle.schedule.specs.declared.Parsed.the-variants as parsed
-use Rattle.schedule.specs.Parsing.{headAt}
-use Rattle.schedule.proofs.Heads.{act-continues, inside-continues, malformed-stops, end-stops}
 use Rattle.index.specs.Holds.{Holds}
 use Rattle.index.specs.Choices.{afterwards, Chosen}
-use Rattle.choices.specs.declared.Entry.the-variants as entry
-use Rattle.runs.specs.declared.Next.the-variants as next
-use Rattle.runs.specs.Answers.{NextIs}
-
--- ---- what stands at an offset
-
-module _ (s : List ℕ) (at : ℕ) (r : Parsed) (answered : r ≡ headAt at (schedule (drop at s))) where
-  pub next-act : (p behind : ℕ) → r ≡ parsed.Act p behind → NextIs s at (next.Entry (entry.Act p) behind)
-  next-act p behind e = record { size = 2; some = omega arith; continues = act-continues s at r answered p behind e }
-
-  pub next-inside : (p k behind : ℕ) → r ≡ parsed.Inside p k behind → NextIs s at (next.Entry (entry.Inside p k) behind)
-  next-inside p k behind e =
-      record { size = 3; some = omega arith; continues = inside-continues s at r answered p k behind e }
-
-  pub next-malformed : (n : ℕ) → r ≡ parsed.Malformed n → NextIs s at (next.Malformed n)
-  next-malformed n e = malformed-stops s at r answered n e
-
-  pub next-end : r ≡ parsed.End → NextIs s at next.End
-  next-end e = end-stops s at r answered e
+use Rattle.index.proofs.Acting.{by-number}
 
 -- ---- no refusal has number 0
 
@@ -69,13 +46,16 @@ module _ {d s starts : List ℕ} {n : ℕ} {e : Entry} {r : Reply} {s′ starts�
   reply = c .looked .found ts h y x
 
   pub made-moved : (rule : ℕ) → r ≡ Moved rule → MovedTo ts h e rule s′ starts′ n′
-  unfolding replyIs replyOf afterwards
-  made-moved rule q = go (answerTo h e) refl (sym reply ∙ ap replyIs q) (c .found ts h y x)
-    where
-      go : (a : Answer) → answerTo h e ≡ a → replyOf a ≡ movedBy rule → Holds ts (afterwards a h) s′ starts′ n′ →
-          MovedTo ts h e rule s′ starts′ n′
-      go (moved done g) f k z = record { done = done; result = g; answer = f; number = cc; holds = z }
-      go (refused m) f k z = absurd (let z : _≡_ {A = ℕ} 0 1 = cc in omega arith)
+  unfolding replyIs afterwards
+  made-moved rule q =
+      let a = by-number h e rule (sym reply ∙ ap replyIs q) in
+      record {
+        done = a .rule;
+        result = a .result;
+        answer = a .answer;
+        number = a .number;
+        holds = rw (a .answer) at (c .found ts h y x);
+      }
 
   -- it was refused: with the number told, and the configuration is held as it was
   pub made-refused : (m : ℕ) → r ≡ Refused m → (answerTo h e ≡ refused m) × Holds ts h s′ starts′ n′

@@ -23,13 +23,13 @@ use Rattle.counters.specs.Counted.{countersOf}
 use Rattle.index.specs.Holds.{Holds, Running}
 use Rattle.index.specs.Choices.{Chosen}
 use Rattle.index.proofs.Holding.{hall-length}
-use Rattle.runs.specs.declared.Next.{Next}
-use Rattle.runs.specs.declared.Next.the-variants as next
+use Rattle.schedule.specs.declared.Parsed.{Parsed}
+use Rattle.schedule.specs.declared.Parsed.the-variants as parsed
 use Rattle.runs.specs.declared.RunAnswer.the-variants.{Completed, Refused}
-use Rattle.choices.specs.declared.Entry as code-entry
-use Rattle.choices.specs.Entries.{entryOf}
+use Rattle.schedule.specs.declared.Entry as code-entry
+use Rattle.schedule.specs.Entries.{entryOf, EntryAt, Found}
 use Rattle.choices.proofs.Making.{chosen-running}
-use Rattle.runs.specs.Answers.{EntryAt, NextIs, refusalOf, Ran}
+use Rattle.runs.specs.Answers.{refusalOf, Ran}
 use Rattle.runs.proofs.Entries.{malformed-positive, refused-positive, made-moved, made-refused}
 
 -- a configuration is held from which the rest of the schedule gives what the run from h gives
@@ -75,10 +75,10 @@ unfolding runFrom continueRun
 turn g h e size behind at done items t u by answer counts b = rw (answer, counts, b, add-one done)
 
 module _ {d s₀ starts₀ : List ℕ} {n₀ : ℕ} {choices : List ℕ} {t₀ : Counters} {s starts : List ℕ} {n at done : ℕ}
-    {t : code.Counters} (g : Going d s₀ starts₀ n₀ choices t₀ s starts n at done (countersOf t)) {a : Next}
-    (f : NextIs choices at a) where
+    {t : code.Counters} (g : Going d s₀ starts₀ n₀ choices t₀ s starts n at done (countersOf t)) {a : Parsed}
+    (f : Found choices at a) where
   -- the schedule has come to its end
-  pub run-ends : a ≡ next.End → Ran d s₀ starts₀ n₀ choices t₀ (Completed at done t) s
+  pub run-ends : a ≡ parsed.End → Ran d s₀ starts₀ n₀ choices t₀ (Completed at done t) s
   unfolding runFrom runResult
   run-ends q = record {
     found = λ ts h y x. let w = g .follows ts h y x in rw (w .same, rw q at f, ← w .holds .bytes);
@@ -86,14 +86,14 @@ module _ {d s₀ starts₀ : List ℕ} {n₀ : ℕ} {choices : List ℕ} {t₀ :
   }
 
   -- what stands there is no entry
-  pub run-malformed : {m : ℕ} → a ≡ next.Malformed m → Ran d s₀ starts₀ n₀ choices t₀ (Refused m at done t) s
+  pub run-malformed : {m : ℕ} → a ≡ parsed.Malformed m → Ran d s₀ starts₀ n₀ choices t₀ (Refused m at done t) s
   unfolding runFrom runResult
   run-malformed {m} q = record {
     found = λ ts h y x. let w = g .follows ts h y x in rw (w .same, rw q at f, ← w .holds .bytes);
     decided = malformed-positive (drop at choices) m (rw q at f);
   }
 
-  module _ {e : code-entry.Entry} {behind : ℕ} (q : a ≡ next.Entry e behind) where
+  module _ {e : code-entry.Entry} {behind : ℕ} (q : a ≡ parsed.Entry e behind) where
     there : EntryAt choices at (entryOf e) behind
     there = rw q at f
 
@@ -101,15 +101,15 @@ module _ {d s₀ starts₀ : List ℕ} {n₀ : ℕ} {choices : List ℕ} {t₀ :
     pub nearer : length choices - behind < length choices - at
     nearer =
         let w = there .some in
-        let o = there .continues .behind in
-        let l = there .continues .held in omega arith
+        let o = there .behind in
+        let l = there .held in omega arith
 
     -- the entries done stay fewer than the schedule's bytes
     pub done-fits : Fits w64 (length choices) → Fits w64 (done + 1)
     done-fits f =
         let w = there .some in
-        let o = there .continues .behind in
-        let l = there .continues .held in let m = g .few in omega arith
+        let o = there .behind in
+        let l = there .held in let m = g .few in omega arith
 
     module _ {r : Reply} {s′ starts′ : List ℕ} {n′ : ℕ} (c : Chosen d s starts n (entryOf e) r s′ starts′ n′) where
       pub made-keeps-length : length s′ ≡ length s₀
@@ -126,7 +126,7 @@ module _ {d s₀ starts₀ : List ℕ} {n₀ : ℕ} {choices : List ℕ} {t₀ :
         found = λ ts h y x.
             let w = g .follows ts h y x in
             let (b, after) = made-refused c ts (w .configuration) y (w .holds) m z in
-            rw (w .same, there .continues .here, b, ← after .bytes);
+            rw (w .same, there .here, b, ← after .bytes);
         decided =
             let x = g .running in
             refused-positive (x .configuration) (entryOf e) m
@@ -141,17 +141,17 @@ module _ {d s₀ starts₀ : List ℕ} {n₀ : ℕ} {choices : List ℕ} {t₀ :
         running = chosen-running (g .running) c;
         first = g .first;
         follows = λ ts h y x. goes ts h (g .follows ts h y x) y;
-        inside = there .continues .held;
+        inside = there .held;
         few =
-            let w = there .some in let o = there .continues .behind in let l = g .few in omega arith;
+            let w = there .some in let o = there .behind in let l = g .few in omega arith;
       }
         where
           goes : (ts : List Term) (h : Configuration) → Follows ts h choices t₀ s starts n at done (countersOf t) →
               Decoded ts d → Follows ts h choices t₀ s′ starts′ n′ behind (done + 1) (countersOf u)
           goes ts h w y =
               let b = made-moved c ts (w .configuration) y (w .holds) rule z in
-              let here = ap (λ l. runFrom (w .configuration) (countersOf t) at done l) (there .continues .here) in
+              let here = ap (λ l. runFrom (w .configuration) (countersOf t) at done l) (there .here) in
               let next = turn (w .configuration) (b .result) (entryOf e) (there .size) behind at done
               (schedule (drop behind choices)) (countersOf t) (countersOf u) (b .done) (b .answer)
-              (counts (b .done) (b .number)) (there .continues .behind) in
+              (counts (b .done) (b .number)) (there .behind) in
               record { configuration = b .result; holds = b .holds; same = w .same ∙ here ∙ next }

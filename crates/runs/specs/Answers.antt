@@ -5,37 +5,18 @@
 -- Assumes nothing.
 use Prim.Native.Nat.{ℕ, _<_}
 use mathlib.Core.Path.{_≡_}
-use mathlib.Core.List.{List, [], _∷_}
-use lib.ListN.{drop}
+use mathlib.Core.List.{List}
 use Rattle.semantics.specs.Definitions.Terms.{Term}
 use Rattle.semantics.specs.Definitions.Configuration.{Configuration}
-use Rattle.semantics.specs.Definitions.Moves as moves
-use Rattle.semantics.specs.Definitions.Run.{Counters, malformed, schedule, run}
+use Rattle.semantics.specs.Definitions.Run.{Counters, run}
 use Rattle.semantics.specs.Definitions.Calls.{RunCall, runResult}
 use Rattle.terms.specs.Decoded.{Decoded}
 use Rattle.rules.specs.declared.Reply.{Reply}
 use Rattle.rules.specs.declared.Reply.the-variants as reply
 use Rattle.counters.specs.Counted.{countersOf}
-use Rattle.schedule.specs.Parsing.{Continues}
 use Rattle.index.specs.Holds.{Holds}
-use Rattle.choices.specs.Entries.{entryOf}
-use Rattle.runs.specs.declared.Next.{Next}
-use Rattle.runs.specs.declared.Next.the-variants as next
 use Rattle.runs.specs.declared.RunAnswer.{RunAnswer}
 use Rattle.runs.specs.declared.RunAnswer.the-variants.{Completed, Refused}
-
--- ---- the entry at an offset of a schedule
-
--- it has some bytes, and the rest of the schedule stands behind them
-pub record EntryAt (s : List ℕ) (at : ℕ) (e : moves.Entry) (behind : ℕ) : Type 0 where
-  pub size : ℕ
-  pub some : 0 < size
-  pub continues : Continues s at e size behind
-
-abbrev pub NextIs : List ℕ → ℕ → Next → Type 0
-NextIs s at (next.Entry e behind) = EntryAt s at (entryOf e) behind
-NextIs s at (next.Malformed n) = schedule (drop at s) ≡ malformed n ∷ []
-NextIs s at next.End = schedule (drop at s) ≡ []
 
 -- the number of a refusal
 abbrev pub refusalOf : Reply → ℕ

@@ -1,6 +1,5 @@
 // The run of a schedule (document 01's list of choices) on a configuration (hall) that is held: entry after entry, up to
 // the end or to the first that is refused.
-use choices::Entry;
 use counters::Counters;
 use rules::Reply;
 use schedule::Parsed;
@@ -9,14 +8,7 @@ use terms::DECODED;
 ghost use mathlib.Core.Path.{_≡_};
 ghost use Rattle.counters.specs.Counted.{countersOf};
 ghost use Rattle.index.specs.Holds.{Running};
-ghost use Rattle.runs.specs.Answers.{NextIs, refusalOf, Ran};
-
-// The entry at an offset of a schedule, with the offset behind it; what is refused there; or the schedule's end.
-pub enum Next {
-    Entry { entry: Entry, behind: usize },
-    Malformed(u8),
-    End,
-}
+ghost use Rattle.runs.specs.Answers.{refusalOf, Ran};
 
 // The answer of a run: where it stopped, how many entries were done, and the counters after them. A run that is refused
 // has the refusal's number, and the place of the entry that was refused.
@@ -32,27 +24,6 @@ pub enum RunAnswer {
         done: usize,
         counters: Counters,
     },
-}
-
-fn next_entry(schedule: &[u8], at: usize) -> Next
-    ensures { λ r. ⌜ NextIs (now (schedule .entry)) at r ⌝ }
-{
-    match schedule::parse_entry(schedule, at) {
-        Parsed::Act { position, next } => Next::Entry {
-            entry: Entry::Act { position },
-            behind: next,
-        },
-        Parsed::Inside {
-            position,
-            node,
-            next,
-        } => Next::Entry {
-            entry: Entry::Inside { position, node },
-            behind: next,
-        },
-        Parsed::Malformed(number) => Next::Malformed(number),
-        Parsed::End => Next::End,
-    }
 }
 
 // The number of a refusal; 0 for a move.
@@ -83,15 +54,15 @@ pub fn run_held(
     let mut held = components;
     let mut tally = counters;
     loop {
-        match next_entry(schedule, at) {
-            Next::End => {
+        match schedule::parse_entry(schedule, at) {
+            Parsed::End => {
                 return RunAnswer::Completed {
                     place: at,
                     done,
                     counters: tally,
                 };
             }
-            Next::Malformed(number) => {
+            Parsed::Malformed(number) => {
                 return RunAnswer::Refused {
                     number,
                     place: at,
@@ -99,7 +70,7 @@ pub fn run_held(
                     counters: tally,
                 };
             }
-            Next::Entry { entry, behind } => {
+            Parsed::Entry { entry, next } => {
                 let made = choices::make(decoded, hall, starts, held, entry);
                 let reply = made.reply;
                 let Reply::Moved(rule) = reply else {
@@ -112,7 +83,7 @@ pub fn run_held(
                 };
                 held = made.components;
                 tally = tally.count(rule);
-                at = behind;
+                at = next;
                 done += 1;
             }
         }

@@ -6,9 +6,9 @@ use mathlib.Core.List.{List, [], _∷_}
 use Rattle.semantics.specs.Definitions.Calls.{runCall, stepCall, SuggestAllowed}
 use Rattle.counters.specs.declared.Counters.{Counters}
 use Rattle.counters.specs.Counted.{countersOf}
-use Rattle.choices.specs.declared.Entry.{Entry}
-use Rattle.choices.specs.declared.Entry.the-variants as entry
-use Rattle.choices.specs.Entries.{entryOf}
+use Rattle.schedule.specs.declared.Entry.{Entry}
+use Rattle.schedule.specs.declared.Entry.the-variants as entry
+use Rattle.schedule.specs.Entries.{entryOf}
 use Rattle.runs.specs.declared.RunAnswer.{RunAnswer}
 use Rattle.runs.specs.declared.RunAnswer.the-variants as run
 use Rattle.runs.specs.Answers.{runCallOf}

@@ -5,7 +5,6 @@
 // An enum does not pass to C: a call returns the number, 0 for none, and sets the rest in every case. A tally is three
 // numbers: commits, failed, retries; runs and steps count on from what it holds. A suggestion is three bytes: kind,
 // position, node.
-use choices::Entry;
 use counters::Counters;
 use engine::HallVerdict;
 use engine::OpenAnswer;
@@ -13,6 +12,7 @@ use engine::RunAnswer;
 use engine::StepAnswer;
 use engine::SuggestAnswer;
 use report::OUTPUT;
+use schedule::Entry;
 use schedule::KIND_ACT;
 use schedule::KIND_INSIDE;
 use table::TableVerdict;
@@ -24,7 +24,7 @@ ghost use Rattle.semantics.specs.Definitions.Calls.{checkTable, checkHall, open
 ghost use Rattle.semantics.specs.Definitions.Report.{printedRun};
 ghost use Rattle.decimals.specs.Wrote.{Wrote};
 ghost use Rattle.counters.specs.Counted.{countersOf};
-ghost use Rattle.choices.specs.Entries.{entryOf};
+ghost use Rattle.schedule.specs.Entries.{entryOf};
 ghost use Rattle.report.specs.Limits.{linesMost};
 ghost use Rattle.ruonfidd.specs.Answered.{verdict, VerdictAnswered, OpeningAnswered, tallyWords, countersIn, buffersIn, RunSet, StepSet, RunAnswered, StepAnswered, choiceWords, SuggestionSet, SuggestionAnswered};
 

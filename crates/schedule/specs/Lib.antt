@@ -1,1 +1,1 @@
-pub mod Parsing
+pub mod Entries

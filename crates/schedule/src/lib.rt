@@ -1,10 +1,7 @@
-// The bytes of a schedule (document 01's list of choices): the entry that begins at an offset.
+// The entries of a schedule (document 01's list of choices), and the one whose bytes begin at an offset.
 use rules::CUT_SHORT;
 use rules::UNKNOWN_KIND;
-ghost use mathlib.Core.Path.{_≡_};
-ghost use lib.ListN.{drop};
-ghost use Rattle.semantics.specs.Definitions.Run.{schedule};
-ghost use Rattle.schedule.specs.Parsing.{headAt};
+ghost use Rattle.schedule.specs.Entries.{Found};
 
 // Kinds of entries: to act, and to move inside a transaction (attempt).
 pub const KIND_ACT: u8 = 1;
@@ -16,16 +13,21 @@ pub const ACT_SIZE: usize = 2;
 
 pub const INSIDE_SIZE: usize = 3;
 
+// An entry (choice): to act at a position, or to move inside the transaction at a position, at a node.
+pub enum Entry {
+    Act { position: u8 },
+    Inside { position: u8, node: u8 },
+}
+
 // What stands at an offset of a schedule: an entry with the offset behind it, what is refused, or nothing any more.
 pub enum Parsed {
-    Act { position: u8, next: usize },
-    Inside { position: u8, node: u8, next: usize },
+    Entry { entry: Entry, next: usize },
     Malformed(u8),
     End,
 }
 
 pub fn parse_entry(choices: &[u8], at: usize) -> Parsed
-    ensures { λ r. ⌜ r ≡ headAt at (schedule (drop at (now (choices .entry)))) ⌝ }
+    ensures { λ r. ⌜ Found (now (choices .entry)) at r ⌝ }
 {
     if choices.len() <= at {
         return Parsed::End;
@@ -36,20 +38,20 @@ pub fn parse_entry(choices: &[u8], at: usize) -> Parsed
         if left < ACT_SIZE {
             return Parsed::Malformed(CUT_SHORT);
         }
-        return Parsed::Act {
-            position: choices[at + 1],
-            next: at + ACT_SIZE,
-        };
+        let position = choices[at + 1];
+        let next = at + ACT_SIZE;
+        let entry = Entry::Act { position };
+        return Parsed::Entry { entry, next };
     }
     if kind == KIND_INSIDE {
         if left < INSIDE_SIZE {
             return Parsed::Malformed(CUT_SHORT);
         }
-        return Parsed::Inside {
-            position: choices[at + 1],
-            node: choices[at + 2],
-            next: at + INSIDE_SIZE,
-        };
+        let position = choices[at + 1];
+        let node = choices[at + 2];
+        let next = at + INSIDE_SIZE;
+        let entry = Entry::Inside { position, node };
+        return Parsed::Entry { entry, next };
     }
     Parsed::Malformed(UNKNOWN_KIND)
 }

@@ -36,6 +36,10 @@ leafLog = suc leafHead
 abbrev pub logSize : ℕ
 logSize = maxActions
 
+-- what a read adds to its channel in a log; a write adds `writeOffset`
+abbrev pub readOffset : ℕ
+readOffset = 0
+
 -- where each component begins, and behind the last of them the used length
 abbrev pub indexSize : ℕ
 indexSize = suc maxComponents

@@ -1,10 +1,14 @@
 // The stored hall (document 01, "The stored hall"): its numbers, and the walk over a transaction's nodes.
 //
-// Every number of the stored form is a constant of this crate, and no other crate has one of its own: `records` has the
-// number of channels, which tables name too, and other crates give some of these a second name. The walk only reads,
-// and takes any bytes: what lies past their end counts as a leaf.
+// Every number of the stored form stands here, each under one name: the channels are those of `records`, and what
+// follows from a limit of a table is made from the number that `terms` has for it. The walk only reads, and takes any
+// bytes: what lies past their end counts as a leaf.
 use buffer::byte_at;
 use buffer::wide;
+pub use records::CHANNELS;
+use terms::MAX_BRANCHES;
+use terms::MAX_LENGTH;
+use terms::MAX_WIDTH;
 ghost use mathlib.Core.Path.{_≡_};
 ghost use Prim.Native.Nat.{_≤_, _<_};
 ghost use lib.ListN.{length};
@@ -24,8 +28,8 @@ pub const KIND_OUTPUT: u8 = 24;
 // A hall, in bytes.
 pub const HALL_SIZE: usize = 11344;
 
-// Channels (trays). As many counts come first, then the components.
-pub const CHANNELS: usize = records::CHANNELS;
+// A channel's (tray's) largest count. A hall begins with the counts of all channels.
+pub const MAX_COUNT: u8 = 255;
 
 // A component that is no transaction: its kind, and a term or a channel behind it.
 pub const IDLE_SIZE: usize = 2;
@@ -38,19 +42,20 @@ pub const TRANSACTION_HEAD: usize = IDLE_SIZE + CHANNELS;
 // A fork, without its sides.
 pub const FORK_SIZE: usize = 1;
 
-// A leaf's parts, behind its kind: its term, its log's length, its log. A log and the longest path that remains have at
-// most as many actions as a log has bytes.
+// A leaf's parts, behind its kind: its term, its log's length, its log. A log has room for the longest path.
 pub const LEAF_TERM: usize = 1;
 
 pub const LEAF_LOG_LENGTH: usize = 2;
 
 pub const LEAF_LOG: usize = 3;
 
-pub const LOG_SIZE: usize = 16;
+pub const LOG_SIZE: usize = MAX_LENGTH as usize;
 
 pub const LEAF_SIZE: usize = LEAF_LOG + LOG_SIZE;
 
-// A log's byte for a read is its channel, for a write its channel and this. All are below ACTIONS.
+// A log's byte is a channel and what a read or a write adds to it. All are below ACTIONS.
+pub const READ_OFFSET: u8 = 0;
+
 pub const WRITE_OFFSET: u8 = CHANNELS as u8;
 
 pub const ACTIONS: u8 = 2 * WRITE_OFFSET;
@@ -58,15 +63,14 @@ pub const ACTIONS: u8 = 2 * WRITE_OFFSET;
 // A leaf's byte for the retry that needs no record.
 pub const NO_TERM: u8 = 255;
 
-pub const MAX_COMPONENTS: usize = 64;
+// A hall has room for what the widest process opens into.
+pub const MAX_COMPONENTS: usize = MAX_WIDTH as usize;
 
 // An index of where components begin: an entry for each, and one for where the last one ends.
 pub const INDEX_SIZE: usize = MAX_COMPONENTS + 1;
 
-// A transaction's branches, and the nodes of a tree of so many: a fork for each leaf but one.
-pub const MAX_BRANCHES: usize = 8;
-
-pub const MAX_NODES: u8 = (2 * MAX_BRANCHES - 1) as u8;
+// The nodes of a transaction of as many branches as there may be: a fork for each leaf but one.
+pub const MAX_NODES: u8 = 2 * MAX_BRANCHES - 1;
 
 // An offset, where there is one.
 pub enum Place {

@@ -8,11 +8,11 @@ use lib.ListN.{length, set}
 use Rattle.calculus.specs.Syntax.{Name, Log}
 use Rattle.semantics.specs.Definitions.Terms.{Expression, Term, pathLength}
 use Rattle.terms.specs.Decoded.{maxTerms, firstAt}
-use Rattle.stored.specs.Layout.{channels, leafSize, leafTerm, logSize, noRecord}
+use Rattle.stored.specs.Layout.{channels, leafSize, leafTerm, logSize, noRecord, readOffset, writeOffset}
 use Rattle.stored.specs.Nodes.{treeEnd}
 use Rattle.index.specs.Holds.{CanAlter, Altered}
 use Rattle.leaves.proofs.Leaves.{left-at}
-use Rattle.transactions.specs.Bytes.{termAt, readLogged, writeLogged, Actionable, splitBytes, Splittable, leftSize, leftBytes}
+use Rattle.transactions.specs.Bytes.{termAt, actionLogged, Actionable, splitBytes, Splittable, leftSize, leftBytes}
 use Rattle.transactions.specs.Moving.{MoveAt, CanMove, HasMoved}
 use Rattle.transactions.proofs.Finding.{LeafAt, leaf-at}
 use Rattle.transactions.proofs.Moving.{ReadLogged, ReadFailed, WriteLogged, ChoiceSplit, LeftDropped, move-inside}
@@ -37,7 +37,7 @@ module _ (d s starts : List ℕ) (n p rule at : ℕ) where
       let l = leaf-at (rw (m .was) at (i .stands)) in
       let room = l .room in can-act l (m .channel) (l .fields .0) (l .fields .1) (l .fields .2) (omega arith)
 
-  pub ardok-does : (s′ : List ℕ) → rule ≡ 8 → s′ ≡ readLogged d s at → HasMoved d s starts n p rule at s′ starts
+  pub ardok-does : (s′ : List ℕ) → rule ≡ 8 → s′ ≡ actionLogged d s at readOffset → HasMoved d s starts n p rule at s′ starts
   ardok-does s′ e q = record { found = λ ts h k x. rw q (ardok-link (rw e at x)) }
 
   -- ---- ARDF
@@ -62,7 +62,7 @@ module _ (d s starts : List ℕ) (n p rule at : ℕ) where
       let l = leaf-at (rw (m .was) at (i .stands)) in
       let room = l .room in can-act l (m .channel) (l .fields .0) (l .fields .1) (l .fields .2) (omega arith)
 
-  pub awr-does : (s′ : List ℕ) → rule ≡ 10 → s′ ≡ writeLogged d s at → HasMoved d s starts n p rule at s′ starts
+  pub awr-does : (s′ : List ℕ) → rule ≡ 10 → s′ ≡ actionLogged d s at writeOffset → HasMoved d s starts n p rule at s′ starts
   awr-does s′ e q = record { found = λ ts h k x. rw q (awr-link (rw e at x)) }
 
   -- ---- AOI

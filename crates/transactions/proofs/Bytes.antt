@@ -12,7 +12,7 @@ use Rattle.buffer.specs.Splice.{written}
 use Rattle.terms.specs.Decoded.{firstAt, secondAt}
 use Rattle.stored.specs.Layout.{leafSize, leafTerm, leafLogLength, leafLog, forkKind, forkSize, writeOffset}
 use Rattle.index.specs.Holds.{CanAlter, Altered}
-use Rattle.transactions.specs.Bytes.{termAt, sizeAt, Actionable, logged, readLogged, writeLogged, splitBytes, leftSize}
+use Rattle.transactions.specs.Bytes.{termAt, sizeAt, Actionable, logged, actionLogged, splitBytes, leftSize}
 
 -- ---- ARDOK and AWR
 
@@ -22,21 +22,16 @@ pub logged-is : (s : List ℕ) (at next action w : ℕ) → w ≡ sizeAt s at �
 unfolding logged
 logged-is s at next action w e = let z : at + leafLog + w ≡ at + (leafLog + sizeAt s at) = omega arith in rw z
 
--- a write's byte is a byte
-pub write-fits : (d s : List ℕ) (at t first : ℕ) → Actionable d s at → t ≡ termAt s at → first ≡ firstAt d t →
-    Fits w8 (writeOffset + first)
-write-fits d s at t first x e f =
+-- an action's byte is a byte
+pub action-fits : (d s : List ℕ) (at t first offset : ℕ) → Actionable d s at → t ≡ termAt s at → first ≡ firstAt d t →
+    offset ≤ writeOffset → Fits w8 (offset + first)
+action-fits d s at t first offset x e f few =
     let l = x .channel in let z : first ≡ firstAt d (termAt s at) = f ∙ rw e in omega arith
 
-module _ (d s s′ : List ℕ) (at t next first : ℕ) (term : t ≡ termAt s at) (second : next ≡ secondAt d t)
-    (channel : first ≡ firstAt d t) where
-  pub read-logged-is : s′ ≡ logged s at next first → s′ ≡ readLogged d s at
-  unfolding readLogged
-  read-logged-is e = e ∙ rw (second, channel, term)
-
-  pub write-logged-is : s′ ≡ logged s at next (writeOffset + first) → s′ ≡ writeLogged d s at
-  unfolding writeLogged
-  write-logged-is e = e ∙ rw (second, channel, term)
+pub action-logged-is : (d s s′ : List ℕ) (at t next first offset : ℕ) → t ≡ termAt s at → next ≡ secondAt d t →
+    first ≡ firstAt d t → s′ ≡ logged s at next (offset + first) → s′ ≡ actionLogged d s at offset
+unfolding actionLogged
+action-logged-is d s s′ at t next first offset term second channel e = e ∙ rw (second, channel, term)
 
 -- ---- copies
 

@@ -18,6 +18,9 @@ use Rattle.semantics.specs.Definitions.Table.{endK, retryK, rdK, wtK, orElseK}
 use Rattle.semantics.specs.Checks.AcceptedTables.{kindByte}
 use Rattle.semantics.specs.Definitions.Moves.{reads, atLeaf, atFork, inner}
 use Rattle.terms.specs.Decoded.{channels, maxTerms, firstAt}
+use Rattle.rules.specs.declared.Reply.{Reply}
+use Rattle.rules.specs.declared.Reply.the-variants.{Moved, Refused}
+use Rattle.rules.specs.Replies.{replyIs}
 use Rattle.stored.specs.Layout.{forkKind, forkSize, leafSize, leafLog, maxActions}
 use Rattle.storedlaws.specs.Reading.{termKind}
 use Rattle.storedlaws.proofs.Nodes.{leaf-bytes}
@@ -28,7 +31,7 @@ use Rattle.logs.proofs.Links.{stored-readable-with}
 use Rattle.leaves.specs.Leaves.{NamesExpression, KindRead, kindOfNode, TreeAt, StandsAt, NodeRead}
 use Rattle.leaves.proofs.Leaves.{as-fork, as-leaf, leaf-first, leaf-named, left-at, FieldsOf, leaf-fields}
 use Rattle.transactions.specs.Bytes.{termAt, sizeAt}
-use Rattle.transactions.specs.Finding.{innerReply, ruleReply, ReadAt, ReadStanding, ReadTried, leafRule, forkRule, Standing, LeafStanding, RuleRead}
+use Rattle.transactions.specs.Finding.{innerReply, ReadAt, ReadStanding, ReadTried, leafRule, forkRule, Standing, LeafStanding, RuleRead}
 
 -- ---- a leaf
 
@@ -69,12 +72,12 @@ module _ (s : List ℕ) (snapshot at a w : ℕ) (r : Bool) (below : a < channels
       stored-readable-with s (at + leafLog) w δ (x .log) (size ∙ x .size) snapshot σ a _ r
       (x .counts) below refl tested
 
-  pub read-allowed : r ≡ true → ReadTried s snapshot at a 8
-  unfolding reads innerReply ruleReply
+  pub read-allowed : r ≡ true → ReadTried s snapshot at a (Moved 8)
+  unfolding reads innerReply replyIs
   read-allowed e = record { found = λ δ σ M x. rw (sym (read-is δ σ x) ∙ e) }
 
-  pub read-failed : r ≡ false → ReadTried s snapshot at a 9
-  unfolding reads innerReply ruleReply
+  pub read-failed : r ≡ false → ReadTried s snapshot at a (Moved 9)
+  unfolding reads innerReply replyIs
   read-failed e = record { found = λ δ σ M x. rw (sym (read-is δ σ x) ∙ e) }
 
 -- ---- the rule for a leaf
@@ -127,10 +130,10 @@ module _ (d s : List ℕ) (snapshot at : ℕ) (x : LeafStanding d s snapshot at)
     read-channel w a e q g = let f = read-fields e .1 in let z : a ≡ firstAt d (termAt s at) = g ∙ rw q in omega arith
 
     -- whichever leaf stands there has an expression of this kind
-    by-leaf : (r : ℕ) →
+    by-leaf : (r : Reply) →
         ((M : Expression) (δ : Log) (σ : State) → k ≡ termKind (expression M) → FieldsOf d (termAt s at) M →
         ReadAt s snapshot at δ σ →
-        ruleReply r ≡ innerReply (atLeaf σ M δ)) → RuleRead d s snapshot at r
+        replyIs r ≡ innerReply (atLeaf σ M δ)) → RuleRead d s snapshot at r
     unfolding inner
     by-leaf r each = record {
       found = λ ts u σ y.
@@ -142,7 +145,7 @@ module _ (d s : List ℕ) (snapshot at : ℕ) (x : LeafStanding d s snapshot at)
           (record { size = l .size; log = l .log; counts = y .counts }));
     }
 
-    pub read-rule-is : (w a r : ℕ) → k ≡ kindByte rdK → w ≡ termAt s at → a ≡ firstAt d w →
+    pub read-rule-is : (w a : ℕ) (r : Reply) → k ≡ kindByte rdK → w ≡ termAt s at → a ≡ firstAt d w →
         ReadTried s snapshot at a r →
         RuleRead d s snapshot at r
     unfolding termKind atLeaf
@@ -150,7 +153,7 @@ module _ (d s : List ℕ) (snapshot at : ℕ) (x : LeafStanding d s snapshot at)
       where
         go : (M : Expression) (δ : Log) (σ : State) → k ≡ termKind (expression M) → FieldsOf d (termAt s at) M →
             ReadAt s snapshot at δ σ →
-            ruleReply r ≡ innerReply (atLeaf σ M δ)
+            replyIs r ≡ innerReply (atLeaf σ M δ)
         go (endT n) δ σ f h y = absurd (omega arith)
         go (retryT n) δ σ f h y = absurd (omega arith)
         go (rdT n b N) δ σ f h y =
@@ -159,49 +162,49 @@ module _ (d s : List ℕ) (snapshot at : ℕ) (x : LeafStanding d s snapshot at)
         go (orElseT n N N′) δ σ f h y = absurd (omega arith)
 
     -- one that reads nothing
-    other-rule-is : (r : ℕ) → (k ≡ kindByte rdK → ⊥) → r ≡ leafRule k → RuleRead d s snapshot at r
-    unfolding termKind atLeaf innerReply ruleReply leafRule
+    other-rule-is : (r : Reply) → (k ≡ kindByte rdK → ⊥) → r ≡ leafRule k → RuleRead d s snapshot at r
+    unfolding termKind atLeaf innerReply replyIs leafRule
     other-rule-is r e q = by-leaf r go
       where
         go : (M : Expression) (δ : Log) (σ : State) → k ≡ termKind (expression M) → FieldsOf d (termAt s at) M →
             ReadAt s snapshot at δ σ →
-            ruleReply r ≡ innerReply (atLeaf σ M δ)
+            replyIs r ≡ innerReply (atLeaf σ M δ)
         go (endT n) δ σ f h y = rw (q, f)
         go (retryT n) δ σ f h y = rw (q, f)
         go (rdT n b N) δ σ f h y = absurd (e f)
         go (wtT n b N) δ σ f h y = rw (q, f)
         go (orElseT n N N′) δ σ f h y = rw (q, f)
 
-    pub write-rule-is : k ≡ kindByte wtK → RuleRead d s snapshot at 10
+    pub write-rule-is : k ≡ kindByte wtK → RuleRead d s snapshot at (Moved 10)
     unfolding leafRule
-    write-rule-is e = other-rule-is 10 (λ q. omega arith) (rw e)
+    write-rule-is e = other-rule-is (Moved 10) (λ q. omega arith) (rw e)
 
-    pub choice-rule-is : k ≡ kindByte orElseK → RuleRead d s snapshot at 11
+    pub choice-rule-is : k ≡ kindByte orElseK → RuleRead d s snapshot at (Moved 11)
     unfolding leafRule
-    choice-rule-is e = other-rule-is 11 (λ q. omega arith) (rw e)
+    choice-rule-is e = other-rule-is (Moved 11) (λ q. omega arith) (rw e)
 
     pub no-rule-is : (k ≡ kindByte rdK → ⊥) → (k ≡ kindByte wtK → ⊥) → (k ≡ kindByte orElseK → ⊥) →
-        RuleRead d s snapshot at 0
+        RuleRead d s snapshot at (Refused 17)
     unfolding leafRule
-    no-rule-is r w o = other-rule-is 0 r (rw (ne-eqb k (kindByte wtK) w, ne-eqb k (kindByte orElseK) o))
+    no-rule-is r w o = other-rule-is (Refused 17) r (rw (ne-eqb k (kindByte wtK) w, ne-eqb k (kindByte orElseK) o))
 
 -- ---- the rule for a fork
 
 module _ (k : ℕ) where
-  pub fork-ends : k ≡ kindByte endK → 13 ≡ forkRule k
+  pub fork-ends : k ≡ kindByte endK → Moved 13 ≡ forkRule k
   unfolding forkRule
   fork-ends e = rw e
 
-  pub fork-retries : k ≡ kindByte retryK → 12 ≡ forkRule k
+  pub fork-retries : k ≡ kindByte retryK → Moved 12 ≡ forkRule k
   unfolding forkRule
   fork-retries e = rw e
 
-  pub fork-waits : (k ≡ kindByte endK → ⊥) → (k ≡ kindByte retryK → ⊥) → 0 ≡ forkRule k
+  pub fork-waits : (k ≡ kindByte endK → ⊥) → (k ≡ kindByte retryK → ⊥) → Refused 17 ≡ forkRule k
   unfolding forkRule
   fork-waits e r = rw (ne-eqb k (kindByte endK) e, ne-eqb k (kindByte retryK) r)
 
-by-left : (l r : Tree) → ruleReply (forkRule (kindOfNode l)) ≡ innerReply (atFork l r)
-unfolding forkRule kindOfNode termKind atFork innerReply ruleReply
+by-left : (l r : Tree) → replyIs (forkRule (kindOfNode l)) ≡ innerReply (atFork l r)
+unfolding forkRule kindOfNode termKind atFork innerReply replyIs
 by-left (leaf (endT n) δ) r = refl
 by-left (leaf (retryT n) δ) r = refl
 by-left (leaf (rdT n a M) δ) r = refl
@@ -215,7 +218,7 @@ module _ (d s : List ℕ) (snapshot at : ℕ) where
       let (l, r, e) = as-fork (x .there .tree) f in
       record { terms = x .terms; tree = l; there = left-at (rw e at (x .there .tree)) }
 
-  pub fork-rule-is : (k r : ℕ) → getD s at 0 ≡ forkKind → NodeRead d s (at + forkSize) k → r ≡ forkRule k →
+  pub fork-rule-is : (k : ℕ) (r : Reply) → getD s at 0 ≡ forkKind → NodeRead d s (at + forkSize) k → r ≡ forkRule k →
       RuleRead d s snapshot at r
   unfolding inner
   fork-rule-is k r f read q = record {

@@ -13,7 +13,7 @@ use Rattle.semantics.specs.Definitions.Terms.{Expression, retryT, orElseT, Term
 use Rattle.semantics.specs.Definitions.Configuration.{leaf, fork, Component, transaction, Configuration}
 use Rattle.semantics.specs.Definitions.Stored.{actionByte, treeBytes}
 use Rattle.semantics.specs.Definitions.Moves.{inside, answerTo}
-use Rattle.stored.specs.Layout.{forkKind, leafSize, leafTerm, leafLog, logSize, noRecord}
+use Rattle.stored.specs.Layout.{forkKind, leafSize, leafTerm, leafLog, logSize, noRecord, readOffset, writeOffset}
 use Rattle.stored.specs.Nodes.{treeEnd}
 use Rattle.storedlaws.specs.Positions.{plug}
 use Rattle.storedlaws.proofs.Nodes.{leaf-bytes}
@@ -22,7 +22,7 @@ use Rattle.index.specs.Choices.{afterwards}
 use Rattle.index.proofs.InPlace.{term-stored, action-stored, node-alters}
 use Rattle.leaves.specs.Leaves.{TreeAt}
 use Rattle.leaves.proofs.Leaves.{left-at}
-use Rattle.transactions.specs.Bytes.{sizeAt, logged, readLogged, writeLogged, splitBytes, leftSize, leftBytes}
+use Rattle.transactions.specs.Bytes.{sizeAt, logged, actionLogged, splitBytes, leftSize, leftBytes}
 use Rattle.transactions.specs.Moving.{MoveAt}
 use Rattle.transactions.proofs.Finding.{leaf-at}
 use Rattle.transactions.proofs.Moving.{ReadLogged, ReadFailed, WriteLogged, ChoiceSplit, LeftDropped, LeftKept, Inside, move-inside}
@@ -53,19 +53,20 @@ module _ {ts : List Term} {h : Configuration} {d s starts : List ℕ} {n p k at 
       (omega arith))
 
   pub ardok-link : MoveAt ts h d s starts n p k 8 at →
-      Holds ts (afterwards (answerTo h (inside p k)) h) (readLogged d s at) starts n
-  unfolding readLogged actionByte pathLength
+      Holds ts (afterwards (answerTo h (inside p k)) h) (actionLogged d s at readOffset) starts n
+  unfolding actionLogged actionByte pathLength
   ardok-link x =
       let i = move-inside x in
       let m : ReadLogged (i .subtree) (i .becomes) = i .makes in
       let l = leaf-at (rw (m .was) at (i .stands)) in
       let room = l .room in
+      let channel = l .fields .1 in
       action-link x i _ (m .next) (m .log) (rd (m .channel)) (m .was) (m .is) (omega arith) _ _ (l .fields .3)
-      (l .fields .1)
+      (omega arith)
 
   pub awr-link : MoveAt ts h d s starts n p k 10 at →
-      Holds ts (afterwards (answerTo h (inside p k)) h) (writeLogged d s at) starts n
-  unfolding writeLogged actionByte pathLength
+      Holds ts (afterwards (answerTo h (inside p k)) h) (actionLogged d s at writeOffset) starts n
+  unfolding actionLogged actionByte pathLength
   awr-link x =
       let i = move-inside x in
       let m : WriteLogged (i .subtree) (i .becomes) = i .makes in

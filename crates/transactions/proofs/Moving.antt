@@ -16,7 +16,7 @@ use Rattle.semantics.specs.Definitions.Terms.{Expression, endT, retryT, rdT, wt
 use Rattle.semantics.specs.Definitions.Logs.{readable}
 use Rattle.semantics.specs.Definitions.Configuration.{Tree, leaf, fork, Component, idle, transaction, Configuration}
 use Rattle.semantics.specs.Definitions.Stored.{WellFormed}
-use Rattle.semantics.specs.Definitions.Moves.{moves, Inner, evolves, noRule, outOfRange, reads, atLeaf, atFork, inner, innerLocal, actsInside, inside, Answer, moved, refused, answerTo, effectOf, ruleNumber, movedBy, replyOf}
+use Rattle.semantics.specs.Definitions.Moves.{moves, Inner, evolves, noRule, outOfRange, reads, atLeaf, atFork, inner, innerLocal, actsInside, inside, moved, answerTo, effectOf, ruleNumber}
 use Rattle.theorems.proofs.Moves.{positionOf, localMove, accepted-inverts}
 use Rattle.theorems.proofs.WellFormedKept.{well-formed-step}
 use Rattle.stored.specs.Layout.{noRecord}
@@ -24,6 +24,7 @@ use Rattle.storedlaws.specs.Positions.{Context, plug, around}
 use Rattle.storedlaws.proofs.Nodes.{inner-node}
 use Rattle.index.specs.Holds.{replacedAt}
 use Rattle.index.specs.Choices.{afterwards}
+use Rattle.index.proofs.Acting.{by-number}
 use Rattle.index.proofs.Holding.{NodeAt, node-found}
 use Rattle.leaves.specs.Leaves.{TreeAt}
 use Rattle.leaves.proofs.Leaves.{node-at}
@@ -31,29 +32,24 @@ use Rattle.transactions.specs.Moving.{MoveAt}
 
 -- ---- what a rule makes of the subtree at its node
 
-pub record ReadLogged (u v : Tree) : Type 0 where
+-- a leaf whose expression begins with an action becomes another leaf
+pub record LeafActs (action : ℕ → Name → Expression → Expression) (after : Name → Expression → Log → Tree) (u v : Tree) :
+    Type 0 where
   pub number : ℕ
   pub channel : Name
   pub next : Expression
   pub log : Log
-  pub was : u ≡ leaf (rdT number channel next) log
-  pub is : v ≡ leaf next (log ++ (rd channel ∷ []))
+  pub was : u ≡ leaf (action number channel next) log
+  pub is : v ≡ after channel next log
 
-pub record ReadFailed (u v : Tree) : Type 0 where
-  pub number : ℕ
-  pub channel : Name
-  pub next : Expression
-  pub log : Log
-  pub was : u ≡ leaf (rdT number channel next) log
-  pub is : v ≡ leaf (retryT noRecord) log
+abbrev pub ReadLogged : Tree → Tree → Type 0
+ReadLogged u v = LeafActs rdT (λ a M δ. leaf M (δ ++ (rd a ∷ []))) u v
 
-pub record WriteLogged (u v : Tree) : Type 0 where
-  pub number : ℕ
-  pub channel : Name
-  pub next : Expression
-  pub log : Log
-  pub was : u ≡ leaf (wtT number channel next) log
-  pub is : v ≡ leaf next (log ++ (wt channel ∷ []))
+abbrev pub ReadFailed : Tree → Tree → Type 0
+ReadFailed u v = LeafActs rdT (λ a M δ. leaf (retryT noRecord) δ) u v
+
+abbrev pub WriteLogged : Tree → Tree → Type 0
+WriteLogged u v = LeafActs wtT (λ a M δ. leaf M (δ ++ (wt a ∷ []))) u v
 
 pub record ChoiceSplit (u v : Tree) : Type 0 where
   pub number : ℕ
@@ -142,8 +138,11 @@ configured g σ cs a b =
 module _ {ts : List Term} {h : Configuration} {d s starts : List ℕ} {n p k rule at : ℕ}
     (x : MoveAt ts h d s starts n p k rule at) where
   pub move-inside : Inside ts h d s starts n p k rule at
-  unfolding positionOf localMove actsInside innerLocal around replyOf afterwards
-  move-inside = byAnswer (answerTo h (inside p k)) refl (x .reply)
+  unfolding positionOf localMove actsInside innerLocal around afterwards
+  move-inside =
+      let b = by-number h (inside p k) rule (x .reply) in
+      let a = accepted-inverts h (inside p k) (b .rule) (b .result) (b .answer) in
+      byComponent (b .rule) (b .result) (a .laid) (b .answer) (b .number) (a .placed) (a .component) (a .found) (a .local)
     where
       byInner : (r : Rule) (g : Configuration) (laid : List Component) → answerTo h (inside p k) ≡ moved r g →
           ruleNumber r ≡ rule →
@@ -185,10 +184,3 @@ module _ {ts : List Term} {h : Configuration} {d s starts : List ℕ} {n p k rul
           let (y, u, w) = node-found (x .holds) p m M σ t e k at (x .place) in
           byInner r g laid q number placed m M σ t e y u w (inner σ u 0) refl
           (ap (innerLocal (h .counts) m M σ) (sym (inner-node σ t k y u (w .there))) ∙ f)
-
-      byAnswer : (A : Answer) → answerTo h (inside p k) ≡ A → replyOf A ≡ movedBy rule →
-          Inside ts h d s starts n p k rule at
-      byAnswer (refused j) q e = let z : _≡_ {A = ℕ} 0 1 = cc in absurd (omega arith)
-      byAnswer (moved r g) q e =
-          let a = accepted-inverts h (inside p k) r g q in
-          byComponent r g (a .laid) q (cc) (a .placed) (a .component) (a .found) (a .local)

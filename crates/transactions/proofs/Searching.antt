@@ -1,6 +1,6 @@
 -- The entry for a node of an open transaction: what is answered follows from the node that stands there.
 -- Assumes nothing.
-use Prim.Native.Nat.{ℕ, zero, suc, _+_, _≤_}
+use Prim.Native.Nat.{ℕ, _+_, _≤_}
 use native.Mathlib.Omega.{arith}
 use mathlib.Core.Path.{_≡_, refl, sym, ap, _∙_}
 use mathlib.Core.Option.{some}
@@ -12,6 +12,8 @@ use Rattle.semantics.specs.Definitions.Configuration.{Tree, transaction, Config
 use Rattle.semantics.specs.Definitions.Moves.{Inner, evolves, noRule, outOfRange, inner, innerLocal, actsInside, inside, applyAt, answerTo, replyOf}
 use Rattle.theorems.proofs.Lists.{found-below, length-replaceAt}
 use Rattle.theorems.proofs.Moves.{positionOf, localMove, chosen-at, accepted-made}
+use Rattle.rules.specs.declared.Reply.{Reply}
+use Rattle.rules.specs.declared.Reply.the-variants as reply
 use Rattle.rules.specs.Replies.{replyIs}
 use Rattle.stored.specs.declared.Place.{Place}
 use Rattle.stored.specs.declared.Place.the-variants.{At, Nowhere}
@@ -20,12 +22,13 @@ use Rattle.stored.specs.Nodes.{nodeStart}
 use Rattle.storedlaws.specs.Positions.{Context, node, beyond, nodeOf, around}
 use Rattle.storedlaws.proofs.Nodes.{inner-node, inner-past}
 use Rattle.index.specs.Holds.{Holds}
-use Rattle.index.proofs.Holding.{NodeAt, component-at, component-here, transaction-here, snapshot-sixteen, node-found, node-nowhere}
+use Rattle.index.proofs.Holding.{NodeAt, component-here, snapshot-sixteen, node-found, node-nowhere}
 use Rattle.logs.specs.Places.{CountsAt}
 use Rattle.logs.proofs.Places.{counts-held, snapshot-counts}
-use Rattle.leaves.proofs.Leaves.{node-at, node-inside}
+use Rattle.leaves.specs.Leaves.{TransactionAt}
+use Rattle.leaves.proofs.Leaves.{node-at, node-inside, Opened, opened}
 use Rattle.transactions.specs.declared.InnerMove.the-variants.{Found, Refused}
-use Rattle.transactions.specs.Finding.{innerReply, ruleReply, replied, StandAt, Standing, RuleRead, OpenAt, Findable, Searched}
+use Rattle.transactions.specs.Finding.{innerReply, replied, StandAt, Standing, RuleRead, Findable, Searched}
 use Rattle.transactions.specs.Moving.{MoveAt}
 
 -- ---- the reply
@@ -68,49 +71,54 @@ module _ {ts : List Term} {h : Configuration} {s starts : List ℕ} {n : ℕ} (x
 -- ---- an open transaction
 
 module _ {ts : List Term} {h : Configuration} {d s starts : List ℕ} {n p at : ℕ}
-    (x : OpenAt ts h d s starts n p at) where
-  pub open-here : (m : ℕ) × (M : Expression) × (σ : State) × (t : Tree) ×
-      (getElem? (h .components) p ≡ some (transaction m M σ t))
-  open-here =
-      let (c, e) = component-at (x .holds) p (x .there) in
-      let (M, σ, t, q) = transaction-here (x .holds) p c e (rw (x .begins) at (x .kind)) in (_, M, σ, t, e ∙ ap some q)
+    (x : TransactionAt ts h d s starts n p at) where
+  abbrev there : Opened ts h d s p at
+  there = opened x
 
-  module _ (m : ℕ) (M : Expression) (σ : State) (t : Tree)
-      (e : getElem? (h .components) p ≡ some (transaction m M σ t)) where
-    -- its snapshot
-    snapshot-at : CountsAt s (at + idleSize) σ
-    snapshot-at =
-        rw (x .begins)
-        (snapshot-counts s (getD starts p 0) m M σ t _ (component-here (x .holds) p (transaction m M σ t) e)
-        (snapshot-sixteen (x .holds) p m M σ t e))
+  -- its snapshot
+  snapshot-of : (m : ℕ) (M : Expression) (σ : State) (t : Tree) →
+      getElem? (h .components) p ≡ some (transaction m M σ t) → CountsAt s (at + idleSize) σ
+  snapshot-of m M σ t e =
+      rw (x .begins)
+      (snapshot-counts s (getD starts p 0) m M σ t _ (component-here (x .holds) p (transaction m M σ t) e)
+      (snapshot-sixteen (x .holds) p m M σ t e))
 
-    -- a node that code has found
-    found-node : (k place : ℕ) → nodeStart s (at + transactionHead) k ≡ At place →
-        (y : Context) × (u : Tree) × NodeAt s starts p t k place y u × StandAt ts u σ d s (at + idleSize) place
-    found-node k place f =
-        let (y, u, w) = node-found (x .holds) p m M σ t e k place (rw (x .begins) at f) in
-        (y, u, w, record { tree = node-at (x .decoded) (x .holds) p m M σ t e w; counts = snapshot-at })
+  snapshot-at : CountsAt s (at + idleSize) (there .snapshot)
+  snapshot-at =
+      let o = there in snapshot-of (o .number) (o .block) (o .snapshot) (o .nodes) (o .there)
 
-    missing-node : (k : ℕ) → nodeStart s (at + transactionHead) k ≡ Nowhere → (j : ℕ) × (nodeOf t k ≡ beyond j)
-    missing-node k f = node-nowhere (x .holds) p m M σ t e k (rw (x .begins) at f)
+  -- a node that code has found
+  found-node : (k place : ℕ) → nodeStart s (at + transactionHead) k ≡ At place →
+      (y : Context) × (u : Tree) × NodeAt s starts p (there .nodes) k place y u ×
+      StandAt ts u (there .snapshot) d s (at + idleSize) place
+  found-node k place f =
+      let o = there in
+      let (y, u, w) =
+      node-found (x .holds) p (o .number) (o .block) (o .snapshot) (o .nodes) (o .there) k place (rw (x .begins) at f) in
+      let tree =
+      node-at (x .decoded) (x .holds) p (o .number) (o .block) (o .snapshot) (o .nodes) (o .there) w in
+      (y, u, w, record { tree = tree; counts = snapshot-at })
+
+  missing-node : (k : ℕ) → nodeStart s (at + transactionHead) k ≡ Nowhere →
+      (j : ℕ) × (nodeOf (there .nodes) k ≡ beyond j)
+  missing-node k f =
+      let o = there in
+      node-nowhere (x .holds) p (o .number) (o .block) (o .snapshot) (o .nodes) (o .there) k (rw (x .begins) at f)
 
 -- ---- what the code asks
 
 module _ (d s : List ℕ) (transaction : ℕ) (x : Findable d s transaction) where
   pub findable-inside : transaction + transactionHead ≤ length s
-  findable-inside =
-      let (m, M, σ, t, e) = open-here (x .there) in
-      let l = counts-held s _ σ (snapshot-at (x .there) m M σ t e) in omega arith
+  findable-inside = let l = counts-held s _ _ (snapshot-at (x .there)) in omega arith
 
   pub node-standing : (k at : ℕ) (r : Place) → r ≡ nodeStart s (transaction + transactionHead) k → r ≡ At at →
       Standing d s (transaction + idleSize) at
   node-standing k at r f g =
-      let (m, M, σ, t, e) = open-here (x .there) in
-      let (y, u, w, z) = found-node (x .there) m M σ t e k at (sym f ∙ g) in
+      let (y, u, w, z) = found-node (x .there) k at (sym f ∙ g) in
       record {
         terms = x .terms;
         tree = u;
-        counts = σ;
+        counts = opened (x .there) .snapshot;
         there = z;
         inside = node-inside d s at (record { terms = x .terms; tree = u; there = z .tree });
       }
@@ -123,41 +131,41 @@ module _ (d s : List ℕ) (transaction k : ℕ) (r : Place)
   unfolding replyIs replied innerReply
   search-missing g = record {
     found = λ ts h starts n p x.
-        let (m, M, σ, t, e) = open-here x in
-        let (j, f) = missing-node x m M σ t e k (sym found ∙ g) in sym (reply-past (x .holds) p m M σ t e k j f);
+        let o = opened x in
+        let (j, f) = missing-node x k (sym found ∙ g) in
+        sym (reply-past (x .holds) p (o .number) (o .block) (o .snapshot) (o .nodes) (o .there) k j f);
     place = λ rule at f. let z : _≡_ {A = ℕ} 0 1 = cc in absurd (omega arith);
   }
 
-  -- the rule that was read
-  by-rule : (at rule : ℕ) → r ≡ At at → RuleRead d s (transaction + idleSize) at rule →
-      (ts : List Term) (h : Configuration) (starts : List ℕ)
-      (n p : ℕ) → OpenAt ts h d s starts n p transaction → ruleReply rule ≡ replyOf (answerTo h (inside p k))
-  by-rule at rule g read ts h starts n p x =
-      let (m, M, σ, t, e) = open-here x in
-      let (y, u, w, z) = found-node x m M σ t e k at (sym found ∙ g) in
-      read .found ts u σ z ∙ sym (reply-node (x .holds) p m M σ t e k y u (w .there))
+  -- what was read at the node
+  module _ (at : ℕ) (a : Reply) (g : r ≡ At at) (read : RuleRead d s (transaction + idleSize) at a) where
+    by-rule : (ts : List Term) (h : Configuration) (starts : List ℕ) (n p : ℕ) →
+        TransactionAt ts h d s starts n p transaction →
+        replyIs a ≡ replyOf (answerTo h (inside p k))
+    by-rule ts h starts n p x =
+        let o = opened x in
+        let (y, u, w, z) = found-node x k at (sym found ∙ g) in
+        read .found ts u (o .snapshot) z
+        ∙ sym (reply-node (x .holds) p (o .number) (o .block) (o .snapshot) (o .nodes) (o .there) k y u (w .there))
 
-  pub search-none : (at rule : ℕ) → r ≡ At at → RuleRead d s (transaction + idleSize) at rule → rule ≡ 0 →
-      Searched d s transaction k (Refused 17)
-  unfolding replyIs replied ruleReply
-  search-none at rule g read z = record {
-    found = λ ts h starts n p x. rw z at (by-rule at rule g read ts h starts n p x);
-    place = λ rule at f. let z : _≡_ {A = ℕ} 0 1 = cc in absurd (omega arith);
-  }
+    pub search-none : (m : ℕ) → a ≡ reply.Refused m → Searched d s transaction k (Refused m)
+    unfolding replied
+    search-none m q = record {
+      found = λ ts h starts n p x. rw q at (by-rule ts h starts n p x);
+      place = λ rule at f. let z : _≡_ {A = ℕ} 0 1 = cc in absurd (omega arith);
+    }
 
-  pub search-found : (at rule : ℕ) → r ≡ At at → RuleRead d s (transaction + idleSize) at rule → (rule ≡ 0 → ⊥) →
-      Searched d s transaction k (Found rule at)
-  unfolding replyIs replied ruleReply
-  search-found at zero g read real = absurd (real refl)
-  search-found at (suc rule) g read real = record {
-    found = λ ts h starts n p x. by-rule at (suc rule) g read ts h starts n p x;
-    place = λ rule′ at′ f. sym found ∙ g ∙ ap At (cc);
-  }
+    pub search-found : (rule : ℕ) → a ≡ reply.Moved rule → Searched d s transaction k (Found rule at)
+    unfolding replied
+    search-found rule q = record {
+      found = λ ts h starts n p x. rw q at (by-rule ts h starts n p x);
+      place = λ rule′ at′ f. sym found ∙ g ∙ ap At (cc);
+    }
 
 -- ---- what was found can be made
 
 pub found-moves : {ts : List Term} {h : Configuration} {d s starts : List ℕ} {n p transaction : ℕ} (k rule at : ℕ) →
-    OpenAt ts h d s starts n p transaction → Searched d s transaction k (Found rule at) →
+    TransactionAt ts h d s starts n p transaction → Searched d s transaction k (Found rule at) →
     MoveAt ts h d s starts n p k rule at
 unfolding replyIs replied
 found-moves {ts} {h} {starts = starts} {n = n} {p = p} k rule at x found = record {

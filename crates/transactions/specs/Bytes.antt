@@ -5,7 +5,7 @@ use mathlib.Core.List.{List, _∷_, _++_}
 use lib.ListN.{length, getD, take, drop, set}
 pub use Rattle.terms.specs.Decoded.{maxTerms}
 use Rattle.terms.specs.Decoded.{firstAt, secondAt}
-use Rattle.stored.specs.Layout.{channels, forkKind, forkSize, leafSize, leafTerm, leafLogLength, leafLog, logSize, writeOffset}
+use Rattle.stored.specs.Layout.{channels, forkKind, forkSize, leafSize, leafTerm, leafLogLength, leafLog, logSize}
 
 -- a leaf's term, and how many actions its log has
 abbrev pub termAt : List ℕ → ℕ → ℕ
@@ -21,14 +21,10 @@ unfoldable pub logged : List ℕ → (at next action : ℕ) → List ℕ
 logged s at next action =
     set (set (set s (at + leafTerm) next) (at + leafLogLength) (sizeAt s at + 1)) (at + (leafLog + sizeAt s at)) action
 
--- what follows the action, and the action: the term's second field and its first
-unfoldable pub readLogged : (d s : List ℕ) → ℕ → List ℕ
+-- what follows the action, and the action: the term's second field, and its first with what a read or a write adds
+unfoldable pub actionLogged : (d s : List ℕ) → (at offset : ℕ) → List ℕ
 unfolding logged
-readLogged d s at = logged s at (secondAt d (termAt s at)) (firstAt d (termAt s at))
-
-unfoldable pub writeLogged : (d s : List ℕ) → ℕ → List ℕ
-unfolding logged
-writeLogged d s at = logged s at (secondAt d (termAt s at)) (writeOffset + firstAt d (termAt s at))
+actionLogged d s at offset = logged s at (secondAt d (termAt s at)) (offset + firstAt d (termAt s at))
 
 -- the log has room
 pub record Loggable (s : List ℕ) (at : ℕ) : Type 0 where

@@ -1,5 +1,4 @@
 // Alternatives (orElse): AOI (rule 11), AOF (rule 12) and AOE (rule 13).
-use crate::NONE;
 use buffer::wide;
 use buffer::write_at;
 use index::replace_part;
@@ -7,6 +6,8 @@ use records::END;
 use records::RETRY;
 use rules::AOE;
 use rules::AOF;
+use rules::NO_RULE;
+use rules::Reply;
 use stored::FORK_SIZE;
 use stored::INDEX_SIZE;
 use stored::KIND_FORK;
@@ -29,14 +30,14 @@ const LEFT_SIZE: usize = FORK_SIZE + LEAF_SIZE;
 // A fork of two leaves.
 const SPLIT_SIZE: usize = FORK_SIZE + 2 * LEAF_SIZE;
 
-// The rule for a fork, by the kind of its left side, or none.
-pub fn fork_rule(left: u8) -> u8
+// The rule for a fork, by the kind of its left side, or that there is none.
+pub fn fork_rule(left: u8) -> Reply
     ensures { λ r. ⌜ r ≡ forkRule left ⌝ }
 {
     match left {
-        END => AOE,
-        RETRY => AOF,
-        _ => NONE,
+        END => Reply::Moved(AOE),
+        RETRY => Reply::Moved(AOF),
+        _ => Reply::Refused(NO_RULE),
     }
 }
 

@@ -2,11 +2,10 @@
 //
 // `find` only reads and tells the rule and where the node stands; `apply` makes the move that was found. A read is
 // tried against the transaction's snapshot, by the one test of reads against counts. The rules of one kind stand in a
-// file of their own: reads (ARDOK, ARDF), writes (AWR), alternatives (AOI, AOF, AOE).
+// file of their own: reads (ARDOK or ARDF), actions (ARDOK, AWR), alternatives (AOI, AOF, AOE).
 mod actions;
 mod alternatives;
 mod reads;
-mod writes;
 
 use buffer::wide;
 use leaves::expression_kind;
@@ -21,19 +20,19 @@ use rules::ARDOK;
 use rules::AWR;
 use rules::NO_NODE;
 use rules::NO_RULE;
+use rules::Reply;
 use stored::FORK_SIZE;
 use stored::IDLE_SIZE;
 use stored::INDEX_SIZE;
 use stored::KIND_FORK;
 use stored::LEAF_TERM;
 use stored::Place;
+use stored::READ_OFFSET;
 use stored::TRANSACTION_HEAD;
+use stored::WRITE_OFFSET;
 use terms::DECODED;
 ghost use Rattle.transactions.specs.Finding.{Standing, LeafStanding, RuleRead, Findable, Searched};
 ghost use Rattle.transactions.specs.Moving.{CanMove, HasMoved};
-
-// No rule has this number.
-const NONE: u8 = 0;
 
 // Where a move would be made and by which rule; or why there is none.
 pub enum InnerMove {
@@ -41,22 +40,22 @@ pub enum InnerMove {
     Refused(u8),
 }
 
-// The rule for the leaf that begins at an offset, or none.
-fn leaf_rule(decoded: &[u8; DECODED], hall: &[u8], snapshot: usize, at: usize) -> u8
+// The rule for the leaf that begins at an offset, or that there is none.
+fn leaf_rule(decoded: &[u8; DECODED], hall: &[u8], snapshot: usize, at: usize) -> Reply
     requires { ⌜ LeafStanding (now decoded) (now hall) snapshot at ⌝ }
     ensures { λ r. ⌜ RuleRead (now (decoded .entry)) (now (hall .entry)) snapshot at r ⌝ }
 {
     let term = hall[at + LEAF_TERM];
     match expression_kind(decoded, term) {
         RD => reads::read_rule(hall, snapshot, at, terms::first_of(decoded, wide(term))),
-        WT => AWR,
-        OR_ELSE => AOI,
-        _ => NONE,
+        WT => Reply::Moved(AWR),
+        OR_ELSE => Reply::Moved(AOI),
+        _ => Reply::Refused(NO_RULE),
     }
 }
 
-// The rule for the node that begins at an offset, or none. A fork moves by its left side alone.
-fn rule_at(decoded: &[u8; DECODED], hall: &[u8], snapshot: usize, at: usize) -> u8
+// The rule for the node that begins at an offset, or that there is none. A fork moves by its left side alone.
+fn rule_at(decoded: &[u8; DECODED], hall: &[u8], snapshot: usize, at: usize) -> Reply
     requires { ⌜ Standing (now decoded) (now hall) snapshot at ⌝ }
     ensures { λ r. ⌜ RuleRead (now (decoded .entry)) (now (hall .entry)) snapshot at r ⌝ }
 {
@@ -74,11 +73,11 @@ pub fn find(decoded: &[u8; DECODED], hall: &[u8], transaction: usize, node: u8) 
     match stored::node_start(hall, transaction + TRANSACTION_HEAD, node) {
         Place::Nowhere => InnerMove::Refused(NO_NODE),
         Place::At(at) => {
-            let rule = rule_at(decoded, hall, transaction + IDLE_SIZE, at);
-            if rule == NONE {
-                return InnerMove::Refused(NO_RULE);
+            let answer = rule_at(decoded, hall, transaction + IDLE_SIZE, at);
+            match answer {
+                Reply::Moved(rule) => InnerMove::Found { rule, at },
+                Reply::Refused(number) => InnerMove::Refused(number),
             }
-            InnerMove::Found { rule, at }
         }
     }
 }
@@ -98,9 +97,9 @@ pub fn apply(
         at (now (hall .exit)) (now (starts .exit)) ⌝ }
 {
     match rule {
-        ARDOK => reads::log_read(decoded, hall, at),
+        ARDOK => actions::log_action(decoded, hall, at, READ_OFFSET),
         ARDF => reads::fail_read(hall, at),
-        AWR => writes::log_write(decoded, hall, at),
+        AWR => actions::log_action(decoded, hall, at, WRITE_OFFSET),
         AOI => alternatives::split(decoded, hall, starts, components, position, at),
         AOF => alternatives::drop_left(hall, starts, components, position, at),
         _ => alternatives::keep_left(hall, starts, components, position, at),

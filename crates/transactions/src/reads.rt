@@ -1,42 +1,29 @@
-// Reads: ARDOK (rule 8) and ARDF (rule 9).
-use crate::actions::log_action;
+// Reads: whether ARDOK (rule 8) or ARDF (rule 9), and ARDF.
 use buffer::wide;
 use rules::ARDF;
 use rules::ARDOK;
+use rules::Reply;
 use stored::LEAF_LOG;
 use stored::LEAF_LOG_LENGTH;
 use stored::LEAF_TERM;
 use stored::NO_TERM;
-use terms::DECODED;
 ghost use mathlib.Core.Path.{_≡_};
 ghost use Prim.Native.Nat.{_+_, _≤_, _<_};
 ghost use lib.ListN.{length, set};
 ghost use Rattle.stored.specs.Layout.{channels, leafTerm, leafSize, noRecord};
-ghost use Rattle.transactions.specs.Bytes.{Actionable, readLogged};
 ghost use Rattle.transactions.specs.Finding.{ReadStanding, ReadTried};
 
 // ARDOK where the log of the leaf at an offset, with one more read, of a channel, is readable at the counts that stand
 // at `snapshot`; else ARDF.
-pub fn read_rule(hall: &[u8], snapshot: usize, at: usize, channel: u8) -> u8
+pub fn read_rule(hall: &[u8], snapshot: usize, at: usize, channel: u8) -> Reply
     requires { ⌜ ReadStanding (now hall) snapshot at × (channel < channels) ⌝ }
     ensures { λ r. ⌜ ReadTried (now (hall .entry)) snapshot at channel r ⌝ }
 {
     let size = wide(hall[at + LEAF_LOG_LENGTH]);
     if logs::readable_with(hall, at + LEAF_LOG, size, channel, snapshot) {
-        ARDOK
-    } else {
-        ARDF
+        return Reply::Moved(ARDOK);
     }
-}
-
-// ARDOK: the leaf goes on with what follows the read, which is logged.
-pub fn log_read(decoded: &[u8; DECODED], hall: &mut [u8], at: usize)
-    requires { ⌜ Actionable (now decoded) (now hall) at ⌝ }
-    ensures { λ _. ⌜ now (hall .exit) ≡ readLogged (now (decoded .entry)) (now (hall .entry)) at ⌝ }
-{
-    let term = wide(hall[at + LEAF_TERM]);
-    let next = terms::second_of(decoded, term);
-    log_action(hall, at, next, terms::first_of(decoded, term));
+    Reply::Moved(ARDF)
 }
 
 // ARDF: the leaf becomes a retry, the one that has no record.

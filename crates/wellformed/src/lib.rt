@@ -16,12 +16,12 @@ use stored::INDEX_SIZE;
 use stored::KIND_OUTPUT;
 use stored::KIND_TRANSACTION;
 use stored::KIND_WAITING;
-use stored::MAX_BRANCHES;
 use stored::MAX_COMPONENTS;
 use stored::TRANSACTION_HEAD;
 use stored::node_size;
 use stored::pending_behind;
 use terms::DECODED;
+use terms::MAX_BRANCHES;
 use terms::larger;
 ghost use mathlib.Core.Path.{_≡_};
 ghost use Prim.Native.Nat.{_≤_, _<_};
@@ -102,7 +102,7 @@ pub fn tree_scan(decoded: &[u8; DECODED], n: usize, s: &[u8], tree: usize) -> Sc
     let mut pending: usize = 1;
     let mut sum: usize = 0;
     let mut at = tree;
-    while sum + pending <= MAX_BRANCHES {
+    while sum + pending <= MAX_BRANCHES as usize {
         if pending == 0 {
             return Scan::Next(at);
         }

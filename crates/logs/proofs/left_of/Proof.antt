@@ -16,8 +16,8 @@ Inv-loop s at size counts left₀ i₀ left i = (i ≤ size) × (length left ≡
 abbrev μ-loop : tie.MeasureT-loop
 μ-loop s at size counts left₀ i₀ left i = size - i
 
-sixteen-at-requires : tie.Need-sixteen-at-requires Inv-loop μ-loop
-sixteen-at-requires c κs = search needs
+counts-at-requires : tie.Need-counts-at-requires Inv-loop μ-loop
+counts-at-requires c κs = search needs
 
 loop-holds : tie.Need-loop-holds Inv-loop μ-loop
 loop-holds c = (omega arith, search left-length, search leaves-start)
@@ -65,7 +65,7 @@ left-of-spec =
     (tie.spec
     Inv-loop
     μ-loop
-    sixteen-at-requires
+    counts-at-requires
     loop-holds
     add-byte
     shared-slice-read-byte

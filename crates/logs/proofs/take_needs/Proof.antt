@@ -3,6 +3,7 @@ use Prim.Native.Nat.{_≤_, _-_}
 use mathlib.Core.Path.{_≡_}
 use native.Mathlib.Omega.{arith}
 use lib.ListN.{length, take, length-set}
+use Rattle.semantics.specs.Definitions.Layout.{channels}
 use Rattle.logs.specs.Needs.{lowered}
 use Rattle.logs.proofs.Counting.{lowered-start, lowered-room, lowered-turn, lowered-end}
 use borrow.Author.Needs.{needs}
@@ -10,10 +11,10 @@ use Rattle.logs.proofs.take_needs.Statement.{statement}
 use Rattle.logs.proofs.take_needs.Tie as tie
 
 abbrev Inv-loop : tie.InvT-loop
-Inv-loop s₀ need channel₀ s channel = (channel ≤ 16) × (length s ≡ length s₀) × (s ≡ lowered (take channel need) s₀)
+Inv-loop s₀ need channel₀ s channel = (channel ≤ channels) × (length s ≡ length s₀) × (s ≡ lowered (take channel need) s₀)
 
 abbrev μ-loop : tie.MeasureT-loop
-μ-loop s₀ need channel₀ s channel = 16 - channel
+μ-loop s₀ need channel₀ s channel = channels - channel
 
 loop-holds : tie.Need-loop-holds Inv-loop μ-loop
 loop-holds c = (omega arith, omega arith, lowered-start _)

@@ -22,8 +22,8 @@ abbrev μ-loop : tie.MeasureT-loop
 loop-holds : tie.Need-loop-holds Inv-loop μ-loop
 loop-holds c = (search needs, search run-begins)
 
-next-entry-requires : tie.Need-next-entry-requires Inv-loop μ-loop
-next-entry-requires c κs = search needs
+parse-entry-requires : tie.Need-parse-entry-requires Inv-loop μ-loop
+parse-entry-requires c κs = search needs
 
 enum-told : tie.Need-enum-told Inv-loop μ-loop
 enum-told c = search needs
@@ -83,7 +83,7 @@ run-held-spec =
     Inv-loop
     μ-loop
     loop-holds
-    next-entry-requires
+    parse-entry-requires
     enum-told
     same-length
     returns

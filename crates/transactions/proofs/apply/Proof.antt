@@ -1,17 +1,18 @@
 -- `apply` meets its contract. Assumes nothing.
 use Rattle.transactions.proofs.Applying.{ardok-can, ardok-does, ardf-can, ardf-does, awr-can, awr-does, aoi-splits, aoi-can, aoi-does, aof-inside, aof-can, aof-does, aoe-inside, aoe-can, aoe-does}
+use native.Mathlib.Omega.{arith}
 use borrow.Author.Needs.{needs}
 use Rattle.transactions.proofs.apply.Statement.{statement}
 use Rattle.transactions.proofs.apply.Tie as tie
 
-log-read-requires : tie.Need-log-read-requires
-log-read-requires c κs = search ardok-can
+log-action-requires : tie.Need-log-action-requires
+log-action-requires c κs = (search ardok-can, omega arith)
 
 fail-read-requires : tie.Need-fail-read-requires
 fail-read-requires c κs = search ardf-can
 
-log-write-requires : tie.Need-log-write-requires
-log-write-requires c κs = search awr-can
+log-action-requires-2 : tie.Need-log-action-requires-2
+log-action-requires-2 c κs = (search awr-can, omega arith)
 
 split-requires : tie.Need-split-requires
 split-requires c κs = (search aoi-splits, search aoi-can)
@@ -62,9 +63,9 @@ pub apply-spec : {M : Type 1} → statement M
 apply-spec =
     tie.close
     (tie.spec
-    log-read-requires
+    log-action-requires
     fail-read-requires
-    log-write-requires
+    log-action-requires-2
     split-requires
     drop-left-requires
     keep-left-requires

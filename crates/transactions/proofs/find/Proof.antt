@@ -23,14 +23,20 @@ add-rule-at c = omega (arith, findable-inside _ _ _ (c .before .before .before .
 rule-at-requires : tie.Need-rule-at-requires
 rule-at-requires c κs = search node-standing
 
+enum-known-answer : tie.Need-enum-known-answer
+enum-known-answer c = search needs
+
+enum-known-answer-2 : tie.Need-enum-known-answer-2
+enum-known-answer-2 c = search needs
+
 returns : tie.Need-returns
-returns c = search search-none
+returns c = search search-missing
 
 returns-2 : tie.Need-returns-2
-returns-2 c = search search-missing
+returns-2 c = search search-found
 
 returns-3 : tie.Need-returns-3
-returns-3 c = search search-found
+returns-3 c = search search-none
 
 pub find-spec : {M : Type 1} → statement M
 find-spec =
@@ -42,6 +48,8 @@ find-spec =
     enum-known-at
     add-rule-at
     rule-at-requires
+    enum-known-answer
+    enum-known-answer-2
     returns
     returns-2
     returns-3)

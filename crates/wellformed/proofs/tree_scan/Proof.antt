@@ -20,6 +20,9 @@ loop-holds c = (tree-begun _ _ _ _ (omega arith), omega arith)
 add-loop : tie.Need-add-loop Inv-loop μ-loop
 add-loop c = search needs
 
+cast-loop : tie.Need-cast-loop Inv-loop μ-loop
+cast-loop c = search needs
+
 returns : tie.Need-returns Inv-loop μ-loop
 returns c = search tree-done
 
@@ -70,6 +73,7 @@ tree-scan-spec =
     μ-loop
     loop-holds
     add-loop
+    cast-loop
     returns
     node-at-requires
     enum-known-branches

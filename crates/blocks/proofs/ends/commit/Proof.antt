@@ -57,14 +57,10 @@ mul-end c =
     let l = outputs-few _ _ _ log _ (read .wide .ensures) _ (written .outputs-of .ensures) in search needs
 
 array-share-prefix-bytes : tie.Need-array-share-prefix-bytes
-array-share-prefix-bytes c =
-    let written = c .before .before .before .before .before .before .before in
-    let l = outputs-inside _ _ (written .outputs-of .ensures) in search needs
+array-share-prefix-bytes c = search (needs, outputs-inside)
 
 slice-aggregate-replace-component : tie.Need-slice-aggregate-replace-component
-slice-aggregate-replace-component c =
-    let written = c .before .before .before .before .before .before .before .before in
-    let l = outputs-inside _ _ (written .outputs-of .ensures) in search (needs, length-take-le)
+slice-aggregate-replace-component c = search (needs, length-take-le, outputs-inside)
 
 replace-component-requires : tie.Need-replace-component-requires
 replace-component-requires c κs = search commit-can

@@ -1,0 +1,13 @@
+-- `take_rule` meets its contract. Assumes nothing.
+use Rattle.communication.proofs.Taking.{rep-rule, in-rule}
+use Rattle.communication.proofs.takes.take_rule.Statement.{statement}
+use Rattle.communication.proofs.takes.take_rule.Tie as tie
+
+returns : tie.Need-returns
+returns c = search rep-rule
+
+returns-2 : tie.Need-returns-2
+returns-2 c = search in-rule
+
+pub take-rule-spec : {M : Type 1} → statement M
+take-rule-spec = tie.close (tie.spec returns returns-2)

@@ -1,0 +1,64 @@
+-- `append_action` meets its contract. Assumes nothing.
+use native.Mathlib.Omega.{arith}
+use lib.ListN.{length-set}
+use Rattle.transactions.proofs.Bytes.{logged-is}
+use borrow.Author.Needs.{needs}
+use Rattle.transactions.proofs.actions.append_action.Statement.{statement}
+use Rattle.transactions.proofs.actions.append_action.Tie as tie
+
+add-length : tie.Need-add-length
+add-length c = search needs
+
+slice-read-length : tie.Need-slice-read-length
+slice-read-length c = search needs
+
+add-hall : tie.Need-add-hall
+add-hall c = search needs
+
+slice-write-hall : tie.Need-slice-write-hall
+slice-write-hall c = search needs
+
+add-hall-2 : tie.Need-add-hall-2
+add-hall-2 c = search needs
+
+add-hall-3 : tie.Need-add-hall-3
+add-hall-3 c = search needs
+
+slice-write-hall-2 : tie.Need-slice-write-hall-2
+slice-write-hall-2 c = simp length-set (omega arith)
+
+add-hall-4 : tie.Need-add-hall-4
+add-hall-4 c = search needs
+
+wide-requires : tie.Need-wide-requires
+wide-requires c κs = search needs
+
+add-hall-5 : tie.Need-add-hall-5
+add-hall-5 c = search needs
+
+slice-write-hall-3 : tie.Need-slice-write-hall-3
+slice-write-hall-3 c = simp length-set (omega arith)
+
+same-length : tie.Need-same-length
+same-length c = search needs
+
+returns : tie.Need-returns
+returns c = search logged-is
+
+pub append-action-spec : {M : Type 1} → statement M
+append-action-spec =
+    tie.close
+    (tie.spec
+    add-length
+    slice-read-length
+    add-hall
+    slice-write-hall
+    add-hall-2
+    add-hall-3
+    slice-write-hall-2
+    add-hall-4
+    wide-requires
+    add-hall-5
+    slice-write-hall-3
+    same-length
+    returns)
