@@ -25,7 +25,7 @@ use Rattle.logs.specs.Needs.{needsOf, withinAt}
 use Rattle.logs.specs.Writes.{writesOf, outputsSize, outputBytes}
 use Rattle.logs.specs.Values.{OutputsAre}
 use Rattle.logs.proofs.Writing.{output-length}
-use Rattle.logs.proofs.Links.{stored-readable, stored-outputs-count}
+use Rattle.logs.proofs.StoredLogs.{stored-readable, stored-outputs-count}
 use Rattle.logs.proofs.Places.{log-held, counts-held, leaf-length, leaf-stored, hall-counts}
 use Rattle.leaves.proofs.Leaves.{whole-at}
 use Rattle.blocks.specs.Ends.{LogHere, CanLookCommit, commitReply, CommitLooked}

@@ -29,7 +29,7 @@ use Rattle.logs.specs.declared.Outputs.{Outputs}
 use Rattle.logs.specs.Needs.{needsOf, withinAt, lowered}
 use Rattle.logs.specs.Writes.{writesOf}
 use Rattle.logs.specs.Values.{OutputsAre}
-use Rattle.logs.proofs.Links.{stored-readable, stored-taken, stored-outputs, stored-outputs-count}
+use Rattle.logs.proofs.StoredLogs.{stored-readable, stored-taken, stored-outputs, stored-outputs-count}
 use Rattle.blocks.specs.Ends.{CanLookCommit, Restarts, CanRestart, Restarted, CanCommit, Committed}
 use Rattle.index.proofs.Acting.{Replacement, replacement-can, replacement-held, replaced-by-one, held-position, acted-replacement}
 use Rattle.blocks.proofs.Numbers.{begins, retries, fails, commits, Made, act-made}

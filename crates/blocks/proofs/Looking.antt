@@ -30,7 +30,7 @@ use Rattle.rules.specs.declared.Reply.the-variants.{Moved, Refused}
 use Rattle.rules.specs.Replies.{replyIs}
 use Rattle.index.specs.Holds.{Holds}
 use Rattle.index.proofs.Holding.{hall-length, few-components}
-use Rattle.leaves.specs.Leaves.{StandsAt, NodeRead, kindOfNode, TransactionAt}
+use Rattle.leaves.specs.Leaves.{NodePresent, LeafKindRead, kindOfNode, TransactionAt}
 use Rattle.leaves.proofs.Leaves.{node-inside, opened}
 use Rattle.blocks.specs.Ends.{LogHere, CanLookEnd, EndLooked, CanLookCommit, commitReply, CommitLooked}
 use Rattle.blocks.proofs.EndLeaves.{log-here}
@@ -127,7 +127,7 @@ module _ {ts : List Term} {h : Configuration} {d s starts : List ℕ} {n p at : 
       LogHere s (at + transactionHead) (h .counts) δ
   log-there m M σ N δ e = rw (w .begins) (log-here (w .decoded) (w .holds) p m M σ N δ e)
 
-  by-end : (C : Type 0) (k : ℕ) → NodeRead d s (at + transactionHead) k → k ≡ kindByte endK →
+  by-end : (C : Type 0) (k : ℕ) → LeafKindRead d s (at + transactionHead) k → k ≡ kindByte endK →
       ((m : ℕ) (M : Expression) (σ : State) (e : ℕ) (δ : Log) →
       getElem? (h .components) p ≡ some (transaction m M σ (leaf (endT e) δ)) → C) → C
   by-end C k q same next =
@@ -140,7 +140,7 @@ module _ {ts : List Term} {h : Configuration} {d s starts : List ℕ} {n p at : 
       ]
 
 module _ (d s : List ℕ) (n at : ℕ) (x : CanLookEnd d s n at) where
-  pub end-stands : StandsAt d s (at + transactionHead)
+  pub end-stands : NodePresent d s (at + transactionHead)
   end-stands =
       let f = opened (x .there) in
       record { terms = x .terms; tree = f .nodes; there = f .stands }
@@ -149,7 +149,7 @@ module _ (d s : List ℕ) (n at : ℕ) (x : CanLookEnd d s n at) where
   pub end-fits : at + transactionHead < hallBytes
   end-fits = rw (hall-length (x .there .holds)) at (node-inside d s (at + transactionHead) end-stands)
 
-  pub end-can : (k : ℕ) → NodeRead d s (at + transactionHead) k → k ≡ kindByte endK →
+  pub end-can : (k : ℕ) → LeafKindRead d s (at + transactionHead) k → k ≡ kindByte endK →
       CanLookCommit s (at + transactionHead) n
   end-can k q same =
       let w = x .there in
@@ -163,7 +163,7 @@ module _ (d s : List ℕ) (n at : ℕ) (x : CanLookEnd d s n at) where
       })
 
 module _ (d s : List ℕ) (n at : ℕ) where
-  pub look-retry : (k : ℕ) → NodeRead d s (at + transactionHead) k → k ≡ kindByte retryK → EndLooked d s n at (Moved 5)
+  pub look-retry : (k : ℕ) → LeafKindRead d s (at + transactionHead) k → k ≡ kindByte retryK → EndLooked d s n at (Moved 5)
   unfolding replyIs
   look-retry k q same = record {
     found = λ ts h starts p w.
@@ -177,14 +177,14 @@ module _ (d s : List ℕ) (n at : ℕ) where
         ];
   }
 
-  pub look-end : (k : ℕ) (r : code.Reply) → NodeRead d s (at + transactionHead) k → k ≡ kindByte endK →
+  pub look-end : (k : ℕ) (r : code.Reply) → LeafKindRead d s (at + transactionHead) k → k ≡ kindByte endK →
       CommitLooked s (at + transactionHead) n r → EndLooked d s n at r
   look-end k r q same looked = record {
     found = λ ts h starts p w. by-end w _ k q same (λ m M σ e δ f.
         looked .found (h .counts) δ (log-there w m M σ (endT e) δ f) ∙ sym (end-reply (w .holds) p m M σ e δ f));
   }
 
-  pub look-more : (k : ℕ) → NodeRead d s (at + transactionHead) k → (k ≡ kindByte endK → ⊥) →
+  pub look-more : (k : ℕ) → LeafKindRead d s (at + transactionHead) k → (k ≡ kindByte endK → ⊥) →
       (k ≡ kindByte retryK → ⊥) →
       EndLooked d s n at (Refused 15)
   unfolding replyIs

@@ -51,7 +51,7 @@ pub fn look_end(
     ensures { λ r. ⌜ EndLooked (now (decoded .entry)) (now (hall .entry)) components transaction r ⌝ }
 {
     let leaf = transaction + TRANSACTION_HEAD;
-    match leaves::leaf_kind(decoded, hall, leaf) {
+    match leaves::expression_kind_at(decoded, hall, leaf) {
         RETRY => Reply::Moved(ATRE),
         END => look_commit(hall, leaf, components),
         _ => Reply::Refused(WRONG_COMPONENT),

@@ -1,4 +1,4 @@
--- Laws of `written`: what stands at each offset, loops that write element by element or block by block, and parts
+-- Laws of `written`: what stands at each offset, loops that write element by element or chunk by chunk, and parts
 -- written one behind another.
 -- Assumes nothing.
 use Prim.Native.Nat.{ℕ, zero, suc, _+_, _-_, _≤_, _<_}
@@ -55,7 +55,7 @@ written-behind s at v n i h k =
     let p = getD-append-add (take at s ++ take n v) (drop (at + n) s) i 0 in
     (rw e at p) ∙ getD-drop (at + n) s i 0
 
--- ---- a block
+-- ---- a chunk
 
 -- what stands behind, untouched
 drop-written : (s : List ℕ) (at : ℕ) (v : List ℕ) (n k : ℕ) → at ≤ length s → n ≤ length v → drop (at + n + k) (written s at v n) ≡ drop (at + n + k) s
@@ -98,7 +98,7 @@ written-previous s at v w k n h e =
     let z : at + k + n ≡ at + (k + n) = omega arith in
     rw (append-assoc x u (drop (at + k + n) s), p, q, e, take-add k n v) (simp append-assoc (rw z))
 
--- the block b has read the n elements of s from `from` on
+-- the chunk b has read the n elements of s from `from` on
 read-back : (s z b : List ℕ) (from n : ℕ) → b ≡ written z 0 (take (from + n - from) (drop from s)) (length (take (from + n - from) (drop from s))) →
     from + n ≤ length s → take n b ≡ take n (drop from s)
 unfolding written
@@ -116,12 +116,12 @@ read-count s z b from n p h =
     let d = length-drop from s in
     rw (read-back s z b from n p h) (sym (length-take-le n (drop from s) (omega arith)))
 
--- what the block has read, written to any place in s
-pub by-block : (s z b t : List ℕ) (from to n : ℕ) → t ≡ written s to (take n b) (length (take n b)) →
+-- what the chunk has read, written to any place in s
+pub by-chunk : (s z b t : List ℕ) (from to n : ℕ) → t ≡ written s to (take n b) (length (take n b)) →
     b ≡ written z 0 (take (from + n - from) (drop from s)) (length (take (from + n - from) (drop from s))) → from + n ≤ length s →
     t ≡ written s to (drop from s) n
 unfolding written
-by-block s z b t from to n q p h =
+by-chunk s z b t from to n q p h =
     let l : length (take n b) ≡ n = sym (read-count s z b from n p h) in
     let twice : take n (take n (drop from s)) ≡ take n (drop from s) = take-take n n (drop from s) (omega arith) in
     q ∙ rw (l, read-back s z b from n p h, twice)

@@ -1,11 +1,11 @@
 // Bytes of a slice: read where there may be none, cleared, written, moved, and a part replaced by another that may be
 // longer or shorter. Every move of a stored hall is one `splice`. No slice is copied whole. Plain loops over bytes,
-// which the compiler makes wide; what moves within a slice goes by way of a block, so that it can do so there too.
+// which the compiler makes wide; what moves within a slice goes by way of a chunk, so that it can do so there too.
 ghost use mathlib.Core.Path.{_≡_};
 ghost use mathlib.Core.List.{[]};
 ghost use Prim.Native.Nat.{_+_, _-_, _≤_, _<_};
 ghost use lib.ListN.{length, getD, drop, replicate};
-ghost use Rattle.buffer.specs.Splice.{written, spliced, block, Room};
+ghost use Rattle.buffer.specs.Splice.{written, spliced, chunk, Room};
 
 // The byte at i, 0 past the end: whoever reads so has no bound to show.
 pub fn byte_at(s: &[u8], i: usize) -> u8
@@ -49,54 +49,54 @@ pub fn write_at(s: &mut [u8], at: usize, new: &[u8])
 }
 
 // The most bytes that are moved at once.
-const BLOCK: usize = 4096;
+const CHUNK: usize = 4096;
 
 // How many of the bytes that are left are moved next.
-fn next_block(left: usize) -> usize
+fn next_chunk(left: usize) -> usize
     requires { ⌜ 0 < left ⌝ }
-    ensures { λ r. ⌜ (0 < r) × (r ≤ left) × (r ≤ block) ⌝ }
+    ensures { λ r. ⌜ (0 < r) × (r ≤ left) × (r ≤ chunk) ⌝ }
 {
-    if left < BLOCK {
+    if left < CHUNK {
         return left;
     }
-    BLOCK
+    CHUNK
 }
 
 // The n bytes from `from` on, moved to any offset: all are read before one is written, since the two ranges may
-// overlap. The compiler leaves the block out and makes one wide move of it.
-fn move_block(s: &mut [u8], from: usize, to: usize, n: usize)
-    requires { ⌜ (n ≤ block) × (from + n ≤ length (now s)) × (to + n ≤ length (now s)) ⌝ }
+// overlap. The compiler leaves the chunk out and makes one wide move of it.
+fn move_chunk(s: &mut [u8], from: usize, to: usize, n: usize)
+    requires { ⌜ (n ≤ chunk) × (from + n ≤ length (now s)) × (to + n ≤ length (now s)) ⌝ }
     ensures { λ _. ⌜ now (s .exit) ≡ written (now (s .entry)) to (drop from (now (s .entry))) n ⌝ }
 {
-    let mut block = [0; BLOCK];
+    let mut chunk = [0; CHUNK];
     let end = from + n;
-    write_at(&mut block, 0, &s[from..end]);
-    write_at(s, to, &block[..n]);
+    write_at(&mut chunk, 0, &s[from..end]);
+    write_at(s, to, &chunk[..n]);
 }
 
-// The n bytes from `from` on, moved to the lower offset `to`: the lowest block first.
+// The n bytes from `from` on, moved to the lower offset `to`: the lowest chunk first.
 pub fn move_down(s: &mut [u8], from: usize, to: usize, n: usize)
     requires { ⌜ (to ≤ from) × (from + n ≤ length (now s)) ⌝ }
     ensures { λ _. ⌜ now (s .exit) ≡ written (now (s .entry)) to (drop from (now (s .entry))) n ⌝ }
 {
     let mut i: usize = 0;
     while i < n {
-        let some = next_block(n - i);
-        move_block(s, from + i, to + i, some);
+        let some = next_chunk(n - i);
+        move_chunk(s, from + i, to + i, some);
         i += some;
     }
 }
 
-// The n bytes from `from` on, moved to the higher offset `to`: the highest block first.
+// The n bytes from `from` on, moved to the higher offset `to`: the highest chunk first.
 pub fn move_up(s: &mut [u8], from: usize, to: usize, n: usize)
     requires { ⌜ (from ≤ to) × (to + n ≤ length (now s)) ⌝ }
     ensures { λ _. ⌜ now (s .exit) ≡ written (now (s .entry)) to (drop from (now (s .entry))) n ⌝ }
 {
     let mut left = n;
     while 0 < left {
-        let some = next_block(left);
+        let some = next_chunk(left);
         left -= some;
-        move_block(s, from + left, to + left, some);
+        move_chunk(s, from + left, to + left, some);
     }
 }
 

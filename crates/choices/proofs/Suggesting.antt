@@ -35,7 +35,7 @@ use Rattle.schedule.specs.declared.Entry.the-variants as entry
 use Rattle.choices.specs.declared.suggests.Suggestion.{Suggestion}
 use Rattle.choices.specs.declared.suggests.Suggestion.the-variants.{Accepted, Still}
 use Rattle.transactions.specs.Finding.{replied}
-use Rattle.choices.specs.Entries.{LookedInside, Always, QuietInside, QuietAt, Suggests, SuggestsInside, SuggestsAt}
+use Rattle.choices.specs.Entries.{LookedInside, Always, QuiescentInside, QuiescentAt, Suggests, SuggestsInside, SuggestsAt}
 use Rattle.choices.proofs.Looking.{past-components, inside-past, inside-idle}
 
 -- ---- a look and its answer
@@ -63,7 +63,7 @@ module _ {d s starts : List ℕ} {n : ℕ} {e : moves.Entry} {r : Reply} (l : Lo
 
 module _ {d s starts : List ℕ} {n p : ℕ} where
   -- at a position past the last component
-  quiet-behind : n ≤ p → Always d s starts n (QuietAt p)
+  quiet-behind : n ≤ p → Always d s starts n (QuiescentAt p)
   unfolding replied
   quiet-behind l ts h y x = record {
     outside = looked-refused (past-components l refl) 14 refl ts h y x;
@@ -71,7 +71,7 @@ module _ {d s starts : List ℕ} {n p : ℕ} where
   }
 
   -- of kind 2, where no transaction is open
-  quiet-idle : p < n → (getD s (getD starts p 0) 0 ≡ transactionKind → ⊥) → Always d s starts n (QuietInside p)
+  quiet-idle : p < n → (getD s (getD starts p 0) 0 ≡ transactionKind → ⊥) → Always d s starts n (QuiescentInside p)
   unfolding replied
   quiet-idle l other ts h y x k b = looked-refused (inside-idle l other refl .looked) 15 refl ts h y x
 
@@ -162,7 +162,7 @@ module _ {d s starts : List ℕ} {n p : ℕ} {r : Reply} (l : Looked d s starts 
 
 -- no entry is accepted at a position below p
 pub record QuietBelow (d s starts : List ℕ) (n p : ℕ) : Type 0 where
-  pub found : Always d s starts n (λ h. (q : ℕ) → q < p → QuietAt q h)
+  pub found : Always d s starts n (λ h. (q : ℕ) → q < p → QuiescentAt q h)
 
 module _ {d s starts : List ℕ} {n : ℕ} where
   pub no-position-yet : {p : ℕ} → p ≡ 0 → QuietBelow d s starts n p
@@ -182,7 +182,7 @@ module _ {d s starts : List ℕ} {n : ℕ} where
   unfolding Suggestable Quiescent InBytes
   all-quiet {p} b l same = record { found = still }
     where
-      everywhere : Always d s starts n (λ h. (q : ℕ) → QuietAt q h)
+      everywhere : Always d s starts n (λ h. (q : ℕ) → QuiescentAt q h)
       everywhere ts h y x = of-all p (b .found ts h y x) (λ q m. quiet-behind (omega arith) ts h y x)
 
       still : Always d s starts n Quiescent

@@ -48,12 +48,12 @@ pub record Suggests (d s starts : List ℕ) (n : ℕ) (r : Suggestion) : Type 0 
   pub found : Always d s starts n (λ h. Suggestable h (suggestionOf r))
 
 -- no entry of kind 2 is accepted at a position; no entry at all
-abbrev pub QuietInside : ℕ → Configuration → Type 0
-QuietInside p h = (k : ℕ) → k ≤ maxByte → IsRefused (moves.answerTo h (moves.inside p k))
+abbrev pub QuiescentInside : ℕ → Configuration → Type 0
+QuiescentInside p h = (k : ℕ) → k ≤ maxByte → IsRefused (moves.answerTo h (moves.inside p k))
 
-pub record QuietAt (p : ℕ) (h : Configuration) : Type 0 where
+pub record QuiescentAt (p : ℕ) (h : Configuration) : Type 0 where
   pub outside : IsRefused (moves.answerTo h (moves.act p))
-  pub within : QuietInside p h
+  pub within : QuiescentInside p h
 
 -- an entry that may be suggested; or else this is so
 abbrev pub SuggestableOr : (Configuration → Type 0) → Suggestion → Configuration → Type 0
@@ -62,7 +62,7 @@ SuggestableOr Q Still h = Q h
 
 -- of the entries of kind 2 at a position one may be suggested, or none is accepted; the same of all entries there
 pub record SuggestsInside (d s starts : List ℕ) (n p : ℕ) (r : Suggestion) : Type 0 where
-  pub found : Always d s starts n (SuggestableOr (QuietInside p) r)
+  pub found : Always d s starts n (SuggestableOr (QuiescentInside p) r)
 
 pub record SuggestsAt (d s starts : List ℕ) (n p : ℕ) (r : Suggestion) : Type 0 where
-  pub found : Always d s starts n (SuggestableOr (QuietAt p) r)
+  pub found : Always d s starts n (SuggestableOr (QuiescentAt p) r)

@@ -1,4 +1,4 @@
 pub mod Acting
-pub mod Links
+pub mod TokenMoves
 pub mod Putting
 pub mod Taking

@@ -17,7 +17,7 @@ use Rattle.index.specs.Holds.{CanReplace, Replaced}
 use Rattle.index.proofs.Holding.{hall-length, count-here, component-ok}
 use Rattle.communication.specs.Tokens.{OutputHeld, OutputLooked, CanPut, TokenPut}
 use Rattle.communication.proofs.Acting.{full-refused, put-accepted, puts-there}
-use Rattle.communication.proofs.Links.{position-inside, body-inside, out-room, out-link}
+use Rattle.communication.proofs.TokenMoves.{position-inside, body-inside, out-room, out-link}
 use Rattle.index.proofs.Acting.{replacement-can, replacement-held}
 
 -- ---- the look

@@ -27,7 +27,7 @@ use Rattle.buffer.proofs.Written.{written-length, written-twice}
 use Rattle.stored.specs.Layout.{channels, idleSize, componentBody, waitingKind}
 use Rattle.storedlaws.specs.Positions.{allBytes}
 use Rattle.storedlaws.proofs.Configurations.{all-bytes-append}
-use Rattle.opening.specs.Opening.{openedBytes, ComponentsFit, ComponentsWritten, OpenedCounted}
+use Rattle.opening.specs.Opening.{componentsBytes, ComponentsFit, ComponentsWritten, ComponentsCounted}
 use Rattle.opening.proofs.Components.{opened-fits}
 use Rattle.opening.proofs.Opening.{process-fits}
 use Rattle.rules.specs.declared.Reply.{Reply}
@@ -35,21 +35,21 @@ use Rattle.rules.specs.declared.Reply.the-variants.{Moved, Refused}
 use Rattle.rules.specs.Replies.{replyIs}
 use Rattle.index.specs.Holds.{Holds, CanReplace, Replaced}
 use Rattle.index.proofs.Holding.{hall-length, few-components, count-here, position-below}
-use Rattle.communication.specs.Tokens.{takeOf, takeTerm, successors, staying, takeNumber, repeats, laidSize, TakeHeld, TakeLooked, RoomAsked, RoomTested, CanWriteSuccessors, SuccessorsWritten, CanTake, TokenTaken}
+use Rattle.communication.specs.Tokens.{takeOf, takeTerm, successors, staying, takeNumber, repeats, laidSize, TakeHeld, TakeLooked, ComponentLimitAsked, ComponentLimitTested, CanWriteSuccessors, SuccessorsWritten, CanTake, TokenTaken}
 use Rattle.communication.proofs.Acting.{TakesHere, takes-there, many-after, empty-refused, crowded-refused, take-accepted, take-number}
-use Rattle.communication.proofs.Links.{takeKind, TakeIn, take-in, position-inside, body-inside, waits-on, take-body, take-token, take-link}
+use Rattle.communication.proofs.TokenMoves.{takeKind, TakeIn, take-in, position-inside, body-inside, waits-on, take-body, take-token, take-link}
 use Rattle.index.proofs.Acting.{replacement-can, replacement-held}
 
 -- ---- room for what opens
 
 module _ (d : List ℕ) (i more n : ℕ) where
-  pub room-inside : RoomAsked d i more n → i < maxTerms
+  pub room-inside : ComponentLimitAsked d i more n → i < maxTerms
   room-inside x =
       let y = x .continuation in
       let l = found-below (y .terms) i _ (y .at) in
       let f = y .decoded .good .few in omega arith
 
-  pub opened-few : (k : ℕ) → RoomAsked d i more n → OpenedCounted d i k → k ≤ maxComponents
+  pub opened-few : (k : ℕ) → ComponentLimitAsked d i more n → ComponentsCounted d i k → k ≤ maxComponents
   opened-few k x w =
       let y = x .continuation in
       let e = w .found (y .terms) (y .tree) (y .decoded) (y .at) in
@@ -58,7 +58,7 @@ module _ (d : List ℕ) (i more n : ℕ) where
 
   module _ (others : ℕ) (o : others ≡ n - 1 + more) where
     -- a process that is not too wide opens into no more
-    pub narrow-enough : (b w : ℕ) → b ≡ breadthAt d i → w ≡ b → others + w ≤ maxComponents → RoomTested d i more n false
+    pub narrow-enough : (b w : ℕ) → b ≡ breadthAt d i → w ≡ b → others + w ≤ maxComponents → ComponentLimitTested d i more n false
     unfolding breadth
     narrow-enough b w p q l = record {
       found = λ ts P y e.
@@ -66,7 +66,7 @@ module _ (d : List ℕ) (i more n : ℕ) where
           let v = width-bounds-opening P in sym (le-ltb maxComponents (n - 1 + more + length (opens P)) (omega arith));
     }
 
-    pub counted-enough : (k : ℕ) → OpenedCounted d i k → RoomTested d i more n (ltb maxComponents (others + k))
+    pub counted-enough : (k : ℕ) → ComponentsCounted d i k → ComponentLimitTested d i more n (ltb maxComponents (others + k))
     counted-enough k w = record {
       found = λ ts P y e.
           let z = w .found ts P y e in
@@ -130,7 +130,7 @@ module _ (d s : List ℕ) (n m i : ℕ) (same : i ≡ m) where
         let v : a ≡ firstAt d m = q ∙ rw same at p in omega arith
 
     room-asked : (g k more kind : ℕ) → g ≡ secondAt d i → k ≡ g → more ≡ staying (repeats kind) →
-        RoomAsked d k more n
+        ComponentLimitAsked d k more n
     room-asked g k more kind p q l =
         let f = staying-few (repeats kind) in
         let v : k ≡ secondAt d m = q ∙ rw same at p in
@@ -165,7 +165,7 @@ module _ (d s : List ℕ) (n m i : ℕ) (same : i ≡ m) where
 
     module _ (z : getD s a 0 ≡ 0 → ⊥) (g k : ℕ) (o : g ≡ secondAt d i) (t : k ≡ g) (kind : ℕ)
         (u : kind ≡ kindAt d i) where
-      room-looked : (b : Bool) → b ≡ repeats kind → (r : Bool) → RoomTested d k (staying b) n r →
+      room-looked : (b : Bool) → b ≡ repeats kind → (r : Bool) → ComponentLimitTested d k (staying b) n r →
           TakeLooked d s n m (roomReply b r)
       unfolding replyIs replyOf
       room-looked b w r told = record {
@@ -192,7 +192,7 @@ module _ (d s : List ℕ) (n m i : ℕ) (same : i ≡ m) where
               let f = many-after h p b m c P e in
               sym (ap replyOf (take-accepted h p b m c P e j (omega arith)) ∙ ap moves.movedBy (take-number b c))
 
-      module _ (more : ℕ) (stays : more ≡ staying (repeats kind)) (r : Bool) (told : RoomTested d k more n r) where
+      module _ (more : ℕ) (stays : more ≡ staying (repeats kind)) (r : Bool) (told : ComponentLimitTested d k more n r) where
         pub crowded-looked : r ≡ true → TakeLooked d s n m (Refused 19)
         crowded-looked e = room-looked (repeats kind) refl true (rw (e, stays) at told)
 
@@ -201,7 +201,7 @@ module _ (d s : List ℕ) (n m i : ℕ) (same : i ≡ m) where
 
 -- the room for what opens may be asked for
 pub can-ask-room : (d s : List ℕ) (n m : ℕ) → TakeHeld d s n m → (i g k more kind : ℕ) → k ≡ g → g ≡ secondAt d i →
-    i ≡ m → more ≡ staying (repeats kind) → RoomAsked d k more n
+    i ≡ m → more ≡ staying (repeats kind) → ComponentLimitAsked d k more n
 can-ask-room d s n m x i g k more kind q p same stays = room-asked d s n m i same x g k more kind p q stays
 
 -- ---- what is laid down
@@ -213,8 +213,8 @@ written-front s v = rw (take-length v) (take-at v _ (length v) refl)
 
 -- the repeated take stays behind what opens
 staying-bytes : (m : ℕ) (a : Name) (P : Program) →
-    allBytes (map idle (successors true m a P)) ≡ openedBytes P ++ (waitingKind ∷ m ∷ [])
-unfolding openedBytes allBytes flatten componentBytes
+    allBytes (map idle (successors true m a P)) ≡ componentsBytes P ++ (waitingKind ∷ m ∷ [])
+unfolding componentsBytes allBytes flatten componentBytes
 staying-bytes m a P =
     rw (map-append idle (opens P) (repeating m a P ∷ []))
     (all-bytes-append (map idle (opens P)) (idle (repeating m a P) ∷ []))
@@ -244,14 +244,14 @@ module _ (d : List ℕ) (m i : ℕ) (same : i ≡ m) (s : List ℕ) (x : CanWrit
     module _ (s₁ : List ℕ) (end : ℕ) (w : ComponentsWritten d k s 0 s₁ end) where
       opened : (ts : List Term) (b : Bool) (a : Name) (P : Program) → Decoded ts d →
           getElem? ts m ≡ some (takeTerm b m a P) →
-          (end ≡ 0 + length (openedBytes P)) × (s₁ ≡ written s 0 (openedBytes P) (length (openedBytes P)))
+          (end ≡ 0 + length (componentsBytes P)) × (s₁ ≡ written s 0 (componentsBytes P) (length (componentsBytes P)))
       opened ts b a P y e = w .found ts P y (rw at-second (take-in y b m a P e .continuation))
 
       -- the take fits behind what opens
       pub behind-fits : end + idleSize ≤ length s₁
       behind-fits =
           let y = x .take in
-          let v = openedBytes (y .continuation) in
+          let v = componentsBytes (y .continuation) in
           let q = opened (y .terms) (y .repeated) (y .channel) (y .continuation) (y .decoded) (y .at) in
           let l = y .decoded .good .limits k _ continuation-at in
           let f = opened-fits (y .continuation) in
@@ -265,13 +265,13 @@ module _ (d : List ℕ) (m i : ℕ) (same : i ≡ m) (s : List ℕ) (x : CanWrit
         of-kind = rw same at u
 
         pub take-laid : (kind ≡ kindByte repeatK → ⊥) → SuccessorsWritten d m s₁ end
-        unfolding openedBytes
+        unfolding componentsBytes
         take-laid h = record {
           found = λ ts b a P y e.
               let like = repeats-is kind b (of-kind ∙ take-in y b m a P e .kind) ∙ no-repeat kind h in
               let q = opened ts b a P y e in
-              let z : end ≡ length (openedBytes P) = omega (arith, q .0) in
-              rw (like, z, q .1) (refl, written-front s (openedBytes P));
+              let z : end ≡ length (componentsBytes P) = omega (arith, q .0) in
+              rw (like, z, q .1) (refl, written-front s (componentsBytes P));
         }
 
         pub repeat-laid : kind ≡ kindByte repeatK → (r : ℕ) → r ≡ end + idleSize → (s₂ : List ℕ) →
@@ -280,11 +280,11 @@ module _ (d : List ℕ) (m i : ℕ) (same : i ≡ m) (s : List ℕ) (x : CanWrit
           found = λ ts b a P y e.
               let like = repeats-is kind b (of-kind ∙ take-in y b m a P e .kind) ∙ a-repeat kind h in
               let q = opened ts b a P y e in
-              let v = openedBytes P ++ (waitingKind ∷ m ∷ []) in
-              let l = length-append (openedBytes P) (waitingKind ∷ m ∷ []) in
+              let v = componentsBytes P ++ (waitingKind ∷ m ∷ []) in
+              let l = length-append (componentsBytes P) (waitingKind ∷ m ∷ []) in
               let z : r ≡ length v = omega (arith, q .0) in
               let all : s₂ ≡ written s 0 v (length v) =
-              p ∙ rw (q .0, q .1) (written-twice s (openedBytes P) (waitingKind ∷ m ∷ []) 0 (omega arith)) in
+              p ∙ rw (q .0, q .1) (written-twice s (componentsBytes P) (waitingKind ∷ m ∷ []) 0 (omega arith)) in
               rw (like, staying-bytes m a P, z, all) (refl, written-front s v);
         }
 

@@ -108,14 +108,14 @@ pub record TakeLooked (d s : List ℕ) (n term : ℕ) (r : Reply) : Type 0 where
       replyIs r ≡ replyOf (answerTo h (act p))
 
 -- one of n components may give way to what process number i opens into and to so many more, at most one
-pub record RoomAsked (d : List ℕ) (i more n : ℕ) : Type 0 where
+pub record ComponentLimitAsked (d : List ℕ) (i more n : ℕ) : Type 0 where
   pub continuation : AProcess d i
   pub any : 0 < n
   pub few : n ≤ maxComponents
   pub one : more ≤ 1
 
 -- whether the components are too many then
-pub record RoomTested (d : List ℕ) (i more n : ℕ) (r : Bool) : Type 0 where
+pub record ComponentLimitTested (d : List ℕ) (i more n : ℕ) (r : Bool) : Type 0 where
   pub found : (ts : List Term) (P : Program) → Decoded ts d → getElem? ts i ≡ some (process P) →
       r ≡ ltb maxComponents (n - 1 + more + length (opens P))
 

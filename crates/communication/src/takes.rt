@@ -2,7 +2,7 @@
 // into; a repeated take stays behind that.
 use buffer::wide;
 use index::replace_component;
-use opening::opened_count;
+use opening::component_count;
 use opening::write_components;
 use opening::write_idle;
 use records::REPEATED_TAKE;
@@ -18,7 +18,7 @@ use stored::KIND_WAITING;
 use stored::MAX_COMPONENTS;
 use terms::DECODED;
 ghost use mathlib.Core.Path.{_≡_};
-ghost use Rattle.communication.specs.Tokens.{takeNumber, staying, repeats, TakeHeld, TakeLooked, RoomAsked, RoomTested, CanWriteSuccessors, SuccessorsWritten, CanTake, TokenTaken};
+ghost use Rattle.communication.specs.Tokens.{takeNumber, staying, repeats, TakeHeld, TakeLooked, ComponentLimitAsked, ComponentLimitTested, CanWriteSuccessors, SuccessorsWritten, CanTake, TokenTaken};
 
 // What a take may lay down, in bytes: as many components as a process is wide, and the take itself.
 const LAID: usize = IDLE_SIZE * (MAX_COMPONENTS + 1);
@@ -39,14 +39,14 @@ fn staying_of(kind: u8) -> usize
 // Whether there are too many components once one has given way to what a process opens into and so many more. The width
 // bounds what opens, so that counting is needed near the limit only.
 fn is_crowded(decoded: &[u8; DECODED], term: usize, more: usize, components: usize) -> bool
-    requires { ⌜ RoomAsked (now decoded) term more components ⌝ }
-    ensures { λ r. ⌜ RoomTested (now (decoded .entry)) term more components r ⌝ }
+    requires { ⌜ ComponentLimitAsked (now decoded) term more components ⌝ }
+    ensures { λ r. ⌜ ComponentLimitTested (now (decoded .entry)) term more components r ⌝ }
 {
     let others = components - 1 + more;
     if others + wide(terms::breadth_of(decoded, term)) <= MAX_COMPONENTS {
         return false;
     }
-    MAX_COMPONENTS < others + opened_count(decoded, term)
+    MAX_COMPONENTS < others + component_count(decoded, term)
 }
 
 // What IN or REP is answered at a component that waits on the take or repeated take of this number. An empty channel is

@@ -23,7 +23,7 @@ use Rattle.terms.specs.Decoded.{Decoded}
 use Rattle.stored.specs.declared.Place.the-variants.{At, Nowhere}
 use Rattle.stored.specs.Layout.{channels, hallBytes, maxComponents, indexSize, waitingKind, transactionKind, outputKind, componentBody, idleSize, transactionHead}
 use Rattle.stored.specs.Nodes.{nodeStart, treeEnd}
-use Rattle.storedlaws.specs.Positions.{allBytes, usedOf, startOf, Context, before, behind, Node, node, beyond, nodeOf}
+use Rattle.storedlaws.specs.Positions.{allBytes, usedOf, startOf, Context, before, behind, Node, node, beyond, subtreeAt}
 use Rattle.storedlaws.proofs.Cursors.{over}
 use Rattle.storedlaws.proofs.Configurations.{well-formed-fits, zeros-behind, bytes-length, component-cursor, node-cursor, hall-node, hall-no-node}
 use Rattle.storedlaws.proofs.Starts.{start-all, start-below, start-next, idle-size}
@@ -111,7 +111,7 @@ module _ (k n : ℕ) where
 
 -- a node of the tree t at position p: where it begins, where its subtree ends, and the bytes from it on
 pub record NodeAt (s starts : List ℕ) (p : ℕ) (t : Tree) (k at : ℕ) (y : Context) (u : Tree) : Type 0 where
-  pub there : nodeOf t k ≡ node y u
+  pub there : subtreeAt t k ≡ node y u
   pub begins : at ≡ getD starts p 0 + transactionHead + length (before y)
   pub found : nodeStart s (getD starts p 0 + transactionHead) k ≡ At at
   pub ends : treeEnd s at ≡ at + length (treeBytes u)
@@ -248,7 +248,7 @@ module _ {ts : List Term} {h : Configuration} {s starts : List ℕ} {n : ℕ} (x
         rw o (take-at σ _ 16 snapshot-sixteen)
 
     -- where a node of it stands
-    pub node-here : (k : ℕ) (y : Context) (u : Tree) → nodeOf t k ≡ node y u →
+    pub node-here : (k : ℕ) (y : Context) (u : Tree) → subtreeAt t k ≡ node y u →
         NodeAt s starts p t k (getD starts p 0 + transactionHead + length (before y)) y u
     unfolding rest
     node-here k y u f =
@@ -261,7 +261,7 @@ module _ {ts : List Term} {h : Configuration} {s starts : List ℕ} {n : ℕ} (x
         let next = sym (rest-here p (transaction m M σ t) e) in
         record { there = f; begins = refl; found = r .0; ends = r .1; bytes = here ∙ ap (λ w. treeBytes u ++ (behind y ++ w)) next }
 
-    pub node-missing : (k j : ℕ) → nodeOf t k ≡ beyond j → nodeStart s (getD starts p 0 + transactionHead) k ≡ Nowhere
+    pub node-missing : (k j : ℕ) → subtreeAt t k ≡ beyond j → nodeStart s (getD starts p 0 + transactionHead) k ≡ Nowhere
     node-missing k j f =
         let l = position-below p (transaction m M σ t) e in
         rw (start-here p (omega arith), x .bytes) (hall-no-node ts h (x .form) p m M σ t e k j f)
@@ -269,17 +269,17 @@ module _ {ts : List Term} {h : Configuration} {s starts : List ℕ} {n : ℕ} (x
     -- what code finds where it looks for a node
     pub node-found : (k at : ℕ) → nodeStart s (getD starts p 0 + transactionHead) k ≡ At at →
         (y : Context) × (u : Tree) × NodeAt s starts p t k at y u
-    node-found k at f = go (nodeOf t k) refl
+    node-found k at f = go (subtreeAt t k) refl
       where
-        go : (N : Node) → nodeOf t k ≡ N → (y : Context) × (u : Tree) × NodeAt s starts p t k at y u
+        go : (N : Node) → subtreeAt t k ≡ N → (y : Context) × (u : Tree) × NodeAt s starts p t k at y u
         go (node y u) g =
             let w = node-here k y u g in
             let z : getD starts p 0 + transactionHead + length (before y) ≡ at = cc in (y, u, rw z at w)
         go (beyond j) g = let w = node-missing k j g in let z : _≡_ {A = ℕ} 0 1 = cc in absurd (omega arith)
 
-    pub node-nowhere : (k : ℕ) → nodeStart s (getD starts p 0 + transactionHead) k ≡ Nowhere → (j : ℕ) × (nodeOf t k ≡ beyond j)
-    node-nowhere k f = go (nodeOf t k) refl
+    pub node-nowhere : (k : ℕ) → nodeStart s (getD starts p 0 + transactionHead) k ≡ Nowhere → (j : ℕ) × (subtreeAt t k ≡ beyond j)
+    node-nowhere k f = go (subtreeAt t k) refl
       where
-        go : (N : Node) → nodeOf t k ≡ N → (j : ℕ) × (nodeOf t k ≡ beyond j)
+        go : (N : Node) → subtreeAt t k ≡ N → (j : ℕ) × (subtreeAt t k ≡ beyond j)
         go (node y u) g = let w = node-here k y u g .found in let z : _≡_ {A = ℕ} 0 1 = cc in absurd (omega arith)
         go (beyond j) g = (j, g)

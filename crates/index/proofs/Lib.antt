@@ -1,4 +1,4 @@
-pub mod Entries
+pub mod Starts
 pub mod Holding
 pub mod Replacing
 pub mod InPlace

@@ -22,9 +22,9 @@ use Rattle.stored.specs.Layout.{idleSize}
 use Rattle.storedlaws.specs.Positions.{allBytes, startOf, IsIndex, BySplice}
 use Rattle.storedlaws.proofs.Configurations.{well-formed-fits, component-by-splice, part-by-splice, one-bytes, splice-can, splice-does}
 use Rattle.storedlaws.proofs.Starts.{bytesBehind, start-below, start-later, start-before, start-inside, start-behind, idle-sizes, take-map}
-use Rattle.index.specs.Entries.{CanRenumber, Renumbered}
+use Rattle.index.specs.Starts.{CanRenumber, Renumbered}
 use Rattle.index.specs.Holds.{Holds, replacedAt, Spaced, Replaces, CanReplace, Replaced, Alters, CanAlter, Altered}
-use Rattle.index.proofs.Entries.{renumbered-none}
+use Rattle.index.proofs.Starts.{renumbered-none}
 use Rattle.index.proofs.Holding.{sixteen, fits, start-here, few-components, used-here, start-below-used, used-inside, component-at, position-below, component-ends}
 
 -- ---- what is laid down

@@ -1,3 +1,3 @@
-pub mod Entries
+pub mod Starts
 pub mod Holds
 pub mod Choices

@@ -10,12 +10,12 @@ use stored::INDEX_SIZE;
 ghost use Prim.Native.Nat.{_+_, _≤_};
 ghost use lib.ListN.{getD};
 ghost use Rattle.stored.specs.Layout.{indexSize};
-ghost use Rattle.index.specs.Entries.{Entered, moved, spaced, Movable, CanSpace, CanRenumber, Renumbered};
+ghost use Rattle.index.specs.Starts.{StartsSet, moved, spaced, Movable, CanSpace, CanRenumber, Renumbered};
 ghost use Rattle.index.specs.Holds.{CanReplace, Replaced, CanAlter, Altered};
 
 // The n entries from `from` on, moved to the same or a lower place: the lowest first. Each becomes lower by `less` and
 // then higher by `more`.
-fn lower_entries(
+fn lower_starts(
     starts: &mut [usize; INDEX_SIZE],
     from: usize,
     to: usize,
@@ -24,7 +24,7 @@ fn lower_entries(
     more: usize,
 )
     requires { ⌜ (to ≤ from) × Movable (now starts) from n less more ⌝ }
-    ensures { λ _. ⌜ Entered (now (starts .entry)) to 0 n (moved (now (starts .entry)) from less more)
+    ensures { λ _. ⌜ StartsSet (now (starts .entry)) to 0 n (moved (now (starts .entry)) from less more)
         (now (starts .exit)) ⌝ }
 {
     let mut i: usize = 0;
@@ -35,7 +35,7 @@ fn lower_entries(
 }
 
 // The same to a higher place: the highest first.
-fn raise_entries(
+fn raise_starts(
     starts: &mut [usize; INDEX_SIZE],
     from: usize,
     to: usize,
@@ -44,7 +44,7 @@ fn raise_entries(
     more: usize,
 )
     requires { ⌜ (from ≤ to) × (to + n ≤ indexSize) × Movable (now starts) from n less more ⌝ }
-    ensures { λ _. ⌜ Entered (now (starts .entry)) to 0 n (moved (now (starts .entry)) from less more)
+    ensures { λ _. ⌜ StartsSet (now (starts .entry)) to 0 n (moved (now (starts .entry)) from less more)
         (now (starts .exit)) ⌝ }
 {
     let mut left = n;
@@ -55,9 +55,9 @@ fn raise_entries(
 }
 
 // The entries of n idle components that follow one another: the first has its own.
-fn space_entries(starts: &mut [usize; INDEX_SIZE], first: usize, n: usize)
+fn space_starts(starts: &mut [usize; INDEX_SIZE], first: usize, n: usize)
     requires { ⌜ CanSpace (now starts) first n ⌝ }
-    ensures { λ _. ⌜ Entered (now (starts .entry)) first 1 n (spaced (getD (now (starts .entry)) first 0))
+    ensures { λ _. ⌜ StartsSet (now (starts .entry)) first 1 n (spaced (getD (now (starts .entry)) first 0))
         (now (starts .exit)) ⌝ }
 {
     let begin = starts[first];
@@ -87,15 +87,15 @@ fn renumber(
         if less == more {
             return;
         }
-        lower_entries(starts, next, next, behind, less, more);
+        lower_starts(starts, next, next, behind, less, more);
         return;
     }
     if pieces == 0 {
-        lower_entries(starts, next, position, behind, less, more);
+        lower_starts(starts, next, position, behind, less, more);
         return;
     }
-    raise_entries(starts, next, position + pieces, behind, less, more);
-    space_entries(starts, position, pieces);
+    raise_starts(starts, next, position + pieces, behind, less, more);
+    space_starts(starts, position, pieces);
 }
 
 // The component at a position gives way to as many others as `pieces` says, whose bytes are `new`: idle ones, or one of

@@ -20,14 +20,14 @@ use Rattle.semantics.specs.Checks.AcceptedTables.{kindByte, ChannelBelow}
 use Rattle.theorems.proofs.Lists.{found-below}
 use Rattle.terms.specs.Decoded.{channels, maxTerms, kindAt, firstAt, secondAt, RecordOf, Decoded}
 use Rattle.stored.specs.Layout.{leafKind, forkKind, leafTerm, leafLog, forkSize, noRecord, transactionHead}
-use Rattle.storedlaws.specs.Positions.{Context, top, before, node, nodeOf}
+use Rattle.storedlaws.specs.Positions.{Context, top, before, node, subtreeAt}
 use Rattle.storedlaws.specs.Reading.{termKind}
 use Rattle.storedlaws.proofs.Cursors.{first-byte, over}
 use Rattle.storedlaws.proofs.Nodes.{node-of, plug-ok}
 use Rattle.storedlaws.proofs.TermKinds.{term-kind}
 use Rattle.index.specs.Holds.{Holds}
 use Rattle.index.proofs.Holding.{NodeAt, component-at, component-ok, transaction-here, node-here}
-use Rattle.leaves.specs.Leaves.{NamesExpression, KindRead, kindOfNode, TreeAt, StandsAt, NodeRead, TransactionAt}
+use Rattle.leaves.specs.Leaves.{NamesExpression, ExpressionKindRead, kindOfNode, TreeAt, NodePresent, LeafKindRead, TransactionAt}
 
 -- ---- the byte of a leaf's term
 
@@ -56,11 +56,11 @@ term-below d b i x other z =
     let l = found-below (x .terms) b (expression (x .named)) (named-entry (x .terms) (x .named) b other (x .there)) in
     let f = x .decoded .good .few in omega arith
 
-pub retry-read : (d : List ℕ) (b : ℕ) → b ≡ noRecord → KindRead d b (kindByte retryK)
+pub retry-read : (d : List ℕ) (b : ℕ) → b ≡ noRecord → ExpressionKindRead d b (kindByte retryK)
 unfolding termKind
 retry-read d b z = record { found = λ ts M x e. rw (no-record ts M b z e) }
 
-pub entry-read : (d : List ℕ) (b i k : ℕ) → (b ≡ noRecord → ⊥) → i ≡ b → k ≡ kindAt d i → KindRead d b k
+pub entry-read : (d : List ℕ) (b i k : ℕ) → (b ≡ noRecord → ⊥) → i ≡ b → k ≡ kindAt d i → ExpressionKindRead d b k
 entry-read d b i k other z q =
     record { found = λ ts M x e. rw z at q ∙ term-kind ts d x b (expression M) (named-entry ts M b other e) }
 
@@ -105,7 +105,7 @@ as-leaf {u = u} {s = s} {at = at} x other = go u (node-bytes s at u (x .rest) (x
     go (leaf M δ) n = (M, δ, refl)
     go (fork l r) n = absurd (other (n .0))
 
-pub node-inside : (d s : List ℕ) (at : ℕ) → StandsAt d s at → at < length s
+pub node-inside : (d s : List ℕ) (at : ℕ) → NodePresent d s at → at < length s
 node-inside d s at x = go (x .tree) (node-bytes s at (x .tree) (x .there .rest) (x .there .bytes))
   where
     go : (u : Tree) → Node s at u → at < length s
@@ -129,26 +129,26 @@ unfolding TreeOk
 leaf-named x = rw (leaf-term x) (x .ok .0)
 
 -- one that is no fork has a term behind its kind
-pub term-inside : (d s : List ℕ) (at : ℕ) → StandsAt d s at → (getD s at 0 ≡ forkKind → ⊥) → at + leafTerm < length s
+pub term-inside : (d s : List ℕ) (at : ℕ) → NodePresent d s at → (getD s at 0 ≡ forkKind → ⊥) → at + leafTerm < length s
 term-inside d s at x other = go (x .tree) (node-bytes s at (x .tree) (x .there .rest) (x .there .bytes))
   where
     go : (u : Tree) → Node s at u → at + leafTerm < length s
     go (leaf M δ) n = let l = n .2 in omega arith
     go (fork l r) n = absurd (other (n .0))
 
-pub leaf-names : (d s : List ℕ) (at : ℕ) → StandsAt d s at → (getD s at 0 ≡ forkKind → ⊥) →
+pub leaf-names : (d s : List ℕ) (at : ℕ) → NodePresent d s at → (getD s at 0 ≡ forkKind → ⊥) →
     NamesExpression d (getD s (at + leafTerm) 0)
 leaf-names d s at x other =
     let (M, δ, e) = as-leaf (x .there) other in
     record { terms = x .terms; named = M; decoded = x .there .decoded; there = leaf-named (rw e at (x .there)) }
 
 -- what the code answers, at a fork and at a leaf
-pub fork-read : (d s : List ℕ) (at : ℕ) → getD s at 0 ≡ forkKind → NodeRead d s at 0
+pub fork-read : (d s : List ℕ) (at : ℕ) → getD s at 0 ≡ forkKind → LeafKindRead d s at 0
 unfolding kindOfNode
 fork-read d s at f = record { found = λ ts u x. let (l, r, e) = as-fork x f in rw e }
 
-pub leaf-read : (d s : List ℕ) (at k : ℕ) → (getD s at 0 ≡ forkKind → ⊥) → KindRead d (getD s (at + leafTerm) 0) k →
-    NodeRead d s at k
+pub leaf-read : (d s : List ℕ) (at k : ℕ) → (getD s at 0 ≡ forkKind → ⊥) → ExpressionKindRead d (getD s (at + leafTerm) 0) k →
+    LeafKindRead d s at k
 unfolding kindOfNode
 leaf-read d s at k other q = record {
   found = λ ts u x. let (M, δ, e) = as-leaf x other in rw e (q .found ts M (x .decoded) (leaf-named (rw e at x)));
@@ -167,8 +167,8 @@ left-at {l = l} {r = r} {s = s} {at = at} x = record {
 
 -- ---- in a configuration that is held
 
-first-node : (t : Tree) → nodeOf t 0 ≡ node top t
-unfolding nodeOf
+first-node : (t : Tree) → subtreeAt t 0 ≡ node top t
+unfolding subtreeAt
 first-node (leaf M δ) = refl
 first-node (fork l r) = refl
 

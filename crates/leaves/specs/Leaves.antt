@@ -26,7 +26,7 @@ pub record NamesExpression (d : List ℕ) (b : ℕ) : Type 0 where
   pub there : leafExpression terms b ≡ some named
 
 -- r is the kind of that expression, whichever table it is
-pub record KindRead (d : List ℕ) (b r : ℕ) : Type 0 where
+pub record ExpressionKindRead (d : List ℕ) (b r : ℕ) : Type 0 where
   pub found : (ts : List Term) (M : Expression) → Decoded ts d → leafExpression ts b ≡ some M →
       r ≡ termKind (expression M)
 
@@ -46,13 +46,13 @@ pub record TreeAt (ts : List Term) (u : Tree) (d s : List ℕ) (at : ℕ) : Type
   pub bytes : drop at s ≡ treeBytes u ++ rest
 
 -- some tree of some table does
-pub record StandsAt (d s : List ℕ) (at : ℕ) : Type 0 where
+pub record NodePresent (d s : List ℕ) (at : ℕ) : Type 0 where
   pub terms : List Term
   pub tree : Tree
   pub there : TreeAt terms tree d s at
 
 -- r is the kind at its node, whichever table and tree it is
-pub record NodeRead (d s : List ℕ) (at r : ℕ) : Type 0 where
+pub record LeafKindRead (d s : List ℕ) (at r : ℕ) : Type 0 where
   pub found : (ts : List Term) (u : Tree) → TreeAt ts u d s at → r ≡ kindOfNode u
 
 -- ---- a transaction

@@ -6,7 +6,7 @@ use stored::KIND_FORK;
 use stored::LEAF_TERM;
 use stored::NO_TERM;
 use terms::DECODED;
-ghost use Rattle.leaves.specs.Leaves.{NamesExpression, KindRead, StandsAt, NodeRead};
+ghost use Rattle.leaves.specs.Leaves.{NamesExpression, ExpressionKindRead, NodePresent, LeafKindRead};
 
 // A fork has no expression, and no expression has this kind.
 pub const NO_KIND: u8 = 0;
@@ -14,7 +14,7 @@ pub const NO_KIND: u8 = 0;
 // The kind of the expression that a leaf's byte names. The retry that needs no record is a retry.
 pub fn expression_kind(decoded: &[u8; DECODED], term: u8) -> u8
     requires { ⌜ NamesExpression (now decoded) term ⌝ }
-    ensures { λ r. ⌜ KindRead (now (decoded .entry)) term r ⌝ }
+    ensures { λ r. ⌜ ExpressionKindRead (now (decoded .entry)) term r ⌝ }
 {
     if term == NO_TERM {
         return RETRY;
@@ -23,9 +23,9 @@ pub fn expression_kind(decoded: &[u8; DECODED], term: u8) -> u8
 }
 
 // The kind of the expression at the node that begins at an offset; none for a fork.
-pub fn leaf_kind(decoded: &[u8; DECODED], hall: &[u8], at: usize) -> u8
-    requires { ⌜ StandsAt (now decoded) (now hall) at ⌝ }
-    ensures { λ r. ⌜ NodeRead (now (decoded .entry)) (now (hall .entry)) at r ⌝ }
+pub fn expression_kind_at(decoded: &[u8; DECODED], hall: &[u8], at: usize) -> u8
+    requires { ⌜ NodePresent (now decoded) (now hall) at ⌝ }
+    ensures { λ r. ⌜ LeafKindRead (now (decoded .entry)) (now (hall .entry)) at r ⌝ }
 {
     if hall[at] == KIND_FORK {
         return NO_KIND;

@@ -9,7 +9,7 @@ use Rattle.semantics.specs.Definitions.Run.{net}
 use Rattle.semantics.specs.Definitions.Report.{decimal, signed, line}
 use Rattle.decimals.specs.Wrote.{Wrote}
 use Rattle.decimals.proofs.Digits.{wrote-more, wrote-length}
-use Rattle.lines.specs.Lines.{wordsOf, numberLine, gain, channelHead, channelLine}
+use Rattle.lines.specs.Lines.{wordsOf, numberLine, netWord, channelHead, channelLine}
 
 -- the first pieces of a text are written from an offset on, and there is room for all of it
 pub record Begun (s₀ : List ℕ) (at : ℕ) (v rest : List ℕ) (s : List ℕ) (end : ℕ) : Type 0 where
@@ -68,19 +68,19 @@ module _ (s : List ℕ) (at : ℕ) (v w s₁ : List ℕ) (i : ℕ) where
   pub both-written : at + length (v ++ w) ≤ length s → Wrote s at v s₁ i → (s₂ : List ℕ) (r : ℕ) → Wrote s₁ i w s₂ r → Wrote s at (v ++ w) s₂ r
   both-written room a s₂ r b = (piece-more s at v w [] s₁ i (record { room = rw append-nil room; wrote = a }) s₂ r b) .wrote
 
-module _ (s : List ℕ) (at f l : ℕ) (room : at + length (gain f l) ≤ length s) where
-  pub gain-space-fits : at < length s
-  unfolding gain
-  gain-space-fits = omega arith
+module _ (s : List ℕ) (at f l : ℕ) (room : at + length (netWord f l) ≤ length s) where
+  pub netWord-space-fits : at < length s
+  unfolding netWord
+  netWord-space-fits = omega arith
 
   module _ (s₁ : List ℕ) (i : ℕ) (a : Wrote s at (32 ∷ []) s₁ i) where
-    pub gain-net-fits : i + length (signed (net f l)) ≤ length s₁
-    unfolding gain
-    gain-net-fits = second-fits s at (32 ∷ []) (signed (net f l)) s₁ i room a
+    pub netWord-net-fits : i + length (signed (net f l)) ≤ length s₁
+    unfolding netWord
+    netWord-net-fits = second-fits s at (32 ∷ []) (signed (net f l)) s₁ i room a
 
-    pub gain-written : (s₂ : List ℕ) (r : ℕ) → Wrote s₁ i (signed (net f l)) s₂ r → Wrote s at (gain f l) s₂ r
-    unfolding gain
-    gain-written s₂ r b = both-written s at (32 ∷ []) (signed (net f l)) s₁ i room a s₂ r b
+    pub netWord-written : (s₂ : List ℕ) (r : ℕ) → Wrote s₁ i (signed (net f l)) s₂ r → Wrote s at (netWord f l) s₂ r
+    unfolding netWord
+    netWord-written s₂ r b = both-written s at (32 ∷ []) (signed (net f l)) s₁ i room a s₂ r b
 
 module _ (s : List ℕ) (at n f : ℕ) (room : at + length (channelHead n f) ≤ length s) where
   pub head-letter-fits : at < length s
@@ -111,36 +111,36 @@ module _ (n f l : ℕ) where
   final : List ℕ
   final = wordsOf (l ∷ 0 ∷ 0 ∷ []) 1
 
-  channel-pieces : channelLine n f l ≡ channelHead n f ++ (gain f l ++ (final ++ (10 ∷ [])))
-  unfolding channelLine channelHead gain wordsOf final
+  channel-pieces : channelLine n f l ≡ channelHead n f ++ (netWord f l ++ (final ++ (10 ∷ [])))
+  unfolding channelLine channelHead netWord wordsOf final
   channel-pieces = four-words _ (decimal n) (decimal f) (signed (net f l)) (decimal l) refl
 
   module _ (s : List ℕ) (at : ℕ) (room : at + length (channelLine n f l) ≤ length s) where
-    whole : at + length (channelHead n f ++ (gain f l ++ (final ++ (10 ∷ [])))) ≤ length s
+    whole : at + length (channelHead n f ++ (netWord f l ++ (final ++ (10 ∷ [])))) ≤ length s
     whole = rw channel-pieces at room
 
     pub head-fits : at + length (channelHead n f) ≤ length s
-    head-fits = let a = length-append (channelHead n f) (gain f l ++ (final ++ (10 ∷ []))) in let w = whole in omega arith
+    head-fits = let a = length-append (channelHead n f) (netWord f l ++ (final ++ (10 ∷ []))) in let w = whole in omega arith
 
     module _ (s₁ : List ℕ) (i : ℕ) (a : Wrote s at (channelHead n f) s₁ i) where
-      headed : Begun s at (channelHead n f) (gain f l ++ (final ++ (10 ∷ []))) s₁ i
+      headed : Begun s at (channelHead n f) (netWord f l ++ (final ++ (10 ∷ []))) s₁ i
       headed = record { room = whole; wrote = a }
 
-      pub gain-fits : i + length (gain f l) ≤ length s₁
-      gain-fits = piece-fits s at (channelHead n f) (gain f l) _ s₁ i headed
+      pub netWord-fits : i + length (netWord f l) ≤ length s₁
+      netWord-fits = piece-fits s at (channelHead n f) (netWord f l) _ s₁ i headed
 
-      module _ (s₂ : List ℕ) (j : ℕ) (b : Wrote s₁ i (gain f l) s₂ j) (y : ℕ) (g : y ≡ l) where
-        gained : Begun s at (channelHead n f ++ gain f l) (final ++ (10 ∷ [])) s₂ j
-        gained = piece-more s at (channelHead n f) (gain f l) _ s₁ i headed s₂ j b
+      module _ (s₂ : List ℕ) (j : ℕ) (b : Wrote s₁ i (netWord f l) s₂ j) (y : ℕ) (g : y ≡ l) where
+        netted : Begun s at (channelHead n f ++ netWord f l) (final ++ (10 ∷ [])) s₂ j
+        netted = piece-more s at (channelHead n f) (netWord f l) _ s₁ i headed s₂ j b
 
         pub final-fits : j + length (wordsOf (y ∷ 0 ∷ 0 ∷ []) 1) ≤ length s₂
         unfolding final
-        final-fits = rw g (piece-fits s at _ final (10 ∷ []) s₂ j gained)
+        final-fits = rw g (piece-fits s at _ final (10 ∷ []) s₂ j netted)
 
         module _ (s₃ : List ℕ) (k : ℕ) (c : Wrote s₂ j (wordsOf (y ∷ 0 ∷ 0 ∷ []) 1) s₃ k) where
-          full : Begun s at ((channelHead n f ++ gain f l) ++ final) (10 ∷ []) s₃ k
+          full : Begun s at ((channelHead n f ++ netWord f l) ++ final) (10 ∷ []) s₃ k
           unfolding final
-          full = piece-more s at _ final (10 ∷ []) s₂ j gained s₃ k (rw g at c)
+          full = piece-more s at _ final (10 ∷ []) s₂ j netted s₃ k (rw g at c)
 
           pub channel-end-fits : k < length s₃
           channel-end-fits = let w = piece-fits s at _ (10 ∷ []) [] s₃ k full in omega arith

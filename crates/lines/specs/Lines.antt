@@ -22,9 +22,9 @@ unfoldable pub channelHead : (channel first : ℕ) → List ℕ
 unfolding wordsOf
 channelHead i f = 84 ∷ wordsOf (i ∷ f ∷ 0 ∷ []) 2
 
-unfoldable pub gain : (first last : ℕ) → List ℕ
+unfoldable pub netWord : (first last : ℕ) → List ℕ
 unfolding signed net
-gain f l = 32 ∷ signed (net f l)
+netWord f l = 32 ∷ signed (net f l)
 
 unfoldable pub channelLine : (channel first last : ℕ) → List ℕ
 unfolding line decimal signed net

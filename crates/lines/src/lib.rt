@@ -7,7 +7,7 @@ use decimals::write_net;
 ghost use Prim.Native.Nat.{_+_, _≤_};
 ghost use lib.ListN.{length};
 ghost use Rattle.decimals.specs.Wrote.{Wrote};
-ghost use Rattle.lines.specs.Lines.{wordsOf, numberLine, gain, channelHead, channelLine};
+ghost use Rattle.lines.specs.Lines.{wordsOf, numberLine, netWord, channelHead, channelLine};
 
 // ASCII codes: what stands before a word, and what ends a line.
 const SPACE: u8 = 32;
@@ -54,9 +54,9 @@ pub fn write_line(out: &mut [u8], at: usize, letter: u8, words: [usize; 3], coun
 }
 
 // The net of a channel, behind a space.
-fn write_gain(out: &mut [u8], at: usize, first: u8, last: u8) -> usize
-    requires { ⌜ at + length (gain first last) ≤ length (now out) ⌝ }
-    ensures { λ r. ⌜ Wrote (now (out .entry)) at (gain first last) (now (out .exit)) r ⌝ }
+fn write_net_word(out: &mut [u8], at: usize, first: u8, last: u8) -> usize
+    requires { ⌜ at + length (netWord first last) ≤ length (now out) ⌝ }
+    ensures { λ r. ⌜ Wrote (now (out .entry)) at (netWord first last) (now (out .exit)) r ⌝ }
 {
     let sign = write_byte(out, at, SPACE);
     write_net(out, sign, first, last)
@@ -77,7 +77,7 @@ pub fn write_channel(out: &mut [u8], at: usize, channel: usize, first: u8, last:
     ensures { λ r. ⌜ Wrote (now (out .entry)) at (channelLine channel first last) (now (out .exit)) r ⌝ }
 {
     let counted = write_channel_head(out, at, channel, first);
-    let gained = write_gain(out, counted, first, last);
-    let end = write_words(out, gained, [wide(last), 0, 0], 1);
+    let netted = write_net_word(out, counted, first, last);
+    let end = write_words(out, netted, [wide(last), 0, 0], 1);
     write_byte(out, end, NEWLINE)
 }

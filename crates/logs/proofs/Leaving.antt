@@ -108,7 +108,7 @@ module _ (s : List ℕ) (at size k i : ℕ) (left : List ℕ) (b : ℕ) (sofar :
       rw (one-more s at i (omega arith), ← byte) (snoc-count bs b b h ∙ rw (same-self b)) in
       let f = fewer b (drop at s) (i + 1) size (omega arith) in
       record {
-        told = leaves-none s k left bs b sofar h z (take size (drop at s)) (omega arith);
+        answer = leaves-none s k left bs b sofar h z (take size (drop at s)) (omega arith);
         left = λ t. absurd (true≢false (sym t));
       }
 
@@ -146,7 +146,7 @@ pub left-end : (s : List ℕ) (at size k i : ℕ) (left : List ℕ) → Leaves l
 left-end s at size k i left l h f =
     let z : i ≡ size = omega arith in
     let m : Leaves left s k (take size (drop at s)) = rw z at l in
-    record { told = leaves-enough s k left _ m; left = λ t. m }
+    record { answer = leaves-enough s k left _ m; left = λ t. m }
 
 -- ---- one more read
 
@@ -163,7 +163,7 @@ module _ (l : code.Left) (s : List ℕ) (k : ℕ) (bs : List ℕ) (a : ℕ) (is 
           let all = all-covered (needsOf bs) s k (λ b g.
           let c = covered (needsOf (bs ++ (a ∷ []))) s k b f g in
           let p = grows b g in omega arith) in
-          absurd (true≢false (sym all ∙ sym (is .told) ∙ e))
+          absurd (true≢false (sym all ∙ sym (is .answer) ∙ e))
 
   pub with-left : l .enough ≡ true → (n j : ℕ) → j ≡ a → n ≡ getD (l .counts) j 0 →
       ltb 0 n ≡ withinAt (needsOf (bs ++ (a ∷ []))) s k

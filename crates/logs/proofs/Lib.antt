@@ -5,5 +5,5 @@ pub mod Counting
 pub mod Leaving
 pub mod Writing
 pub mod Copying
-pub mod Links
+pub mod StoredLogs
 pub mod Places

@@ -31,5 +31,5 @@ Leaves left s k bs = (a : ℕ) → a < channels → getD left a 0 + getD (needsO
 
 -- a value of the code says whether the counts at an offset suffice for what these bytes need, and what is left then
 pub record LeftOf (l : code-left.Left) (s : List ℕ) (k : ℕ) (bs : List ℕ) : Type 0 where
-  pub told : l .enough ≡ withinAt (needsOf bs) s k
+  pub answer : l .enough ≡ withinAt (needsOf bs) s k
   pub left : l .enough ≡ true → Leaves (l .counts) s k bs

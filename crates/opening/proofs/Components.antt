@@ -21,18 +21,18 @@ use Rattle.buffer.proofs.Written.{written-none, written-length, written-twice}
 use Rattle.stored.specs.Layout.{waitingKind, outputKind, idleSize}
 use Rattle.storedlaws.specs.Positions.{allBytes}
 use Rattle.storedlaws.proofs.Configurations.{all-bytes-append}
-use Rattle.opening.specs.Opening.{openedBytes, ComponentsFit, ComponentsWritten}
+use Rattle.opening.specs.Opening.{componentsBytes, ComponentsFit, ComponentsWritten}
 
 -- ---- the bytes of what a process opens into
 
 -- side by side: the left side's, then the right side's
-opened-par : (n : ℕ) (P Q : Program) → openedBytes (parT n P Q) ≡ openedBytes P ++ openedBytes Q
-unfolding openedBytes opens
+opened-par : (n : ℕ) (P Q : Program) → componentsBytes (parT n P Q) ≡ componentsBytes P ++ componentsBytes Q
+unfolding componentsBytes opens
 opened-par n P Q = rw (map-append idle (opens P) (opens Q)) (all-bytes-append (map idle (opens P)) (map idle (opens Q)))
 
 -- a component is two bytes
-pub opened-length : (P : Program) → length (openedBytes P) ≡ idleSize * length (opens P)
-unfolding openedBytes opens allBytes flatten componentBytes
+pub opened-length : (P : Program) → length (componentsBytes P) ≡ idleSize * length (opens P)
+unfolding componentsBytes opens allBytes flatten componentBytes
 opened-length (nilT n) = refl
 opened-length (putT n a) = refl
 opened-length (takeT n a P) = refl
@@ -40,11 +40,11 @@ opened-length (repeatT n a P) = refl
 opened-length (parT n P Q) =
     let p = opened-length P in
     let q = opened-length Q in
-    let l = length-append (openedBytes P) (openedBytes Q) in
+    let l = length-append (componentsBytes P) (componentsBytes Q) in
     let m = length-append (opens P) (opens Q) in ap length (opened-par n P Q) ∙ omega arith
 opened-length (atomT n M) = refl
 
-pub opened-fits : (P : Program) → length (openedBytes P) ≤ idleSize * width P
+pub opened-fits : (P : Program) → length (componentsBytes P) ≤ idleSize * width P
 opened-fits P =
     let l = opened-length P in
     let w = width-bounds-opening P in omega arith
@@ -61,13 +61,13 @@ module _ (ts : List Term) (i l r : ℕ) where
     below-left : l < i
     below-right : r < i
     sum : width P ≡ width left + width right
-    bytes : openedBytes P ≡ openedBytes left ++ openedBytes right
+    bytes : componentsBytes P ≡ componentsBytes left ++ componentsBytes right
 
   -- what is written for the process whose record has kind k and fields l and r
   by-kind : (k : ℕ) (P : Program) → RecordOf i k l r (process P) → SubtermsIn ts (process P) → programNumber P ≡ i → (C : Type 0) →
-      (k ≡ 1 → openedBytes P ≡ [] → C) → (k ≡ 2 → openedBytes P ≡ outputKind ∷ l ∷ [] → C) → (k ≡ 5 → Sides P → C) →
-      ((k ≡ 1 → ⊥) → (k ≡ 2 → ⊥) → (k ≡ 5 → ⊥) → openedBytes P ≡ waitingKind ∷ i ∷ [] → C) → C
-  unfolding openedBytes opens width allBytes flatten componentBytes programNumber
+      (k ≡ 1 → componentsBytes P ≡ [] → C) → (k ≡ 2 → componentsBytes P ≡ outputKind ∷ l ∷ [] → C) → (k ≡ 5 → Sides P → C) →
+      ((k ≡ 1 → ⊥) → (k ≡ 2 → ⊥) → (k ≡ 5 → ⊥) → componentsBytes P ≡ waitingKind ∷ i ∷ [] → C) → C
+  unfolding componentsBytes opens width allBytes flatten componentBytes programNumber
   by-kind k (nilT n) e s p C nothing output beside waiting = nothing e refl
   by-kind k (putT n a) e s p C nothing output beside waiting = output (e .0) (rw (e .1))
   by-kind k (takeT n a P) e s p C nothing output beside waiting = let z = e .0 in waiting (λ h. omega arith) (λ h. omega arith) (λ h. omega arith) (rw p)
@@ -92,8 +92,8 @@ module _ (d : List ℕ) (i k : ℕ) (kind : k ≡ kindAt d i) where
     abbrev SidesAt : Type 0
     SidesAt = Sides ts i (firstAt d i) (secondAt d i) P
 
-    at-kind : (C : Type 0) → (k ≡ 1 → openedBytes P ≡ [] → C) → (k ≡ 2 → openedBytes P ≡ outputKind ∷ firstAt d i ∷ [] → C) → (k ≡ 5 → SidesAt → C) →
-        ((k ≡ 1 → ⊥) → (k ≡ 2 → ⊥) → (k ≡ 5 → ⊥) → openedBytes P ≡ waitingKind ∷ i ∷ [] → C) → C
+    at-kind : (C : Type 0) → (k ≡ 1 → componentsBytes P ≡ [] → C) → (k ≡ 2 → componentsBytes P ≡ outputKind ∷ firstAt d i ∷ [] → C) → (k ≡ 5 → SidesAt → C) →
+        ((k ≡ 1 → ⊥) → (k ≡ 2 → ⊥) → (k ≡ 5 → ⊥) → componentsBytes P ≡ waitingKind ∷ i ∷ [] → C) → C
     unfolding termNumber
     at-kind =
         by-kind ts i (firstAt d i) (secondAt d i) k P (rw kind (x .records i (process P) e)) (x .good .subterms i (process P) e) (x .good .numbered i (process P) e)
@@ -101,13 +101,13 @@ module _ (d : List ℕ) (i k : ℕ) (kind : k ≡ kindAt d i) where
     sides-at : k ≡ 5 → SidesAt
     sides-at h = at-kind SidesAt (λ f b. absurd (omega arith)) (λ f b. absurd (omega arith)) (λ f s. s) (λ a b c o. absurd (c h))
 
-    nothing-at : k ≡ 1 → openedBytes P ≡ []
+    nothing-at : k ≡ 1 → componentsBytes P ≡ []
     nothing-at h = at-kind _ (λ f b. b) (λ f b. absurd (omega arith)) (λ f s. absurd (omega arith)) (λ a b c o. absurd (a h))
 
-    output-at : k ≡ 2 → openedBytes P ≡ outputKind ∷ firstAt d i ∷ []
+    output-at : k ≡ 2 → componentsBytes P ≡ outputKind ∷ firstAt d i ∷ []
     output-at h = at-kind _ (λ f b. absurd (omega arith)) (λ f b. b) (λ f s. absurd (omega arith)) (λ a b c o. absurd (b h))
 
-    waiting-at : (k ≡ 5 → ⊥) → (k ≡ 1 → ⊥) → (k ≡ 2 → ⊥) → openedBytes P ≡ waitingKind ∷ i ∷ []
+    waiting-at : (k ≡ 5 → ⊥) → (k ≡ 1 → ⊥) → (k ≡ 2 → ⊥) → componentsBytes P ≡ waitingKind ∷ i ∷ []
     waiting-at h f g = at-kind _ (λ z b. absurd (f z)) (λ z b. absurd (g z)) (λ z s. absurd (h z)) (λ a b c o. o)
 
   module _ (s : List ℕ) (at : ℕ) (x : ComponentsFit d i s at) where
@@ -135,7 +135,7 @@ module _ (d : List ℕ) (i k : ℕ) (kind : k ≡ kindAt d i) where
             let f = x .fits in
             let g = opened-fits (v .left) in
             let m = w .found (x .terms) (v .left) (x .decoded) (rw (p, o) (v .at-left)) in
-            let b = openedBytes (v .left) in ap length (m .1) ∙ written-length s at b (length b) (omega arith) (omega arith)
+            let b = componentsBytes (v .left) in ap length (m .1) ∙ written-length s at b (length b) (omega arith) (omega arith)
 
         -- behind what was written of the left side the right side fits
         pub right-fits : ComponentsFit d r s′ middle
@@ -152,13 +152,13 @@ module _ (d : List ℕ) (i k : ℕ) (kind : k ≡ kindAt d i) where
         both-written s″ end w′ = record { found = λ ts P y e. go ts P y e (sides-at ts P y e h) }
           where
             go : (ts : List Term) (P : Program) (y : Decoded ts d) (e : getElem? ts i ≡ some (process P)) → SidesAt ts P y e →
-                (end ≡ at + length (openedBytes P)) × (s″ ≡ written s at (openedBytes P) (length (openedBytes P)))
+                (end ≡ at + length (componentsBytes P)) × (s″ ≡ written s at (componentsBytes P) (length (componentsBytes P)))
             go ts P y e v =
                 let f = x .fits in
                 let a = w .found ts (v .left) y (rw (p, o) (v .at-left)) in
                 let b = w′ .found ts (v .right) y (rw (q, u) (v .at-right)) in
-                let n = length-append (openedBytes (v .left)) (openedBytes (v .right)) in
-                let twice = written-twice s (openedBytes (v .left)) (openedBytes (v .right)) at (omega arith) in
+                let n = length-append (componentsBytes (v .left)) (componentsBytes (v .right)) in
+                let twice = written-twice s (componentsBytes (v .left)) (componentsBytes (v .right)) at (omega arith) in
                 rw (v .bytes) (omega (arith, a .0, b .0), b .1 ∙ rw (a .1, a .0) twice)
 
     pub right-falls : k ≡ 5 → (g : ℕ) → g ≡ secondAt d i → (r : ℕ) → r ≡ g → (t : ℕ) → i ≡ t → r < t
@@ -167,7 +167,7 @@ module _ (d : List ℕ) (i k : ℕ) (kind : k ≡ kindAt d i) where
     -- ---- one component
 
     -- it is no longer than what fits
-    one-fits : (a b : ℕ) → openedBytes (x .tree) ≡ a ∷ b ∷ [] → at + idleSize ≤ length s
+    one-fits : (a b : ℕ) → componentsBytes (x .tree) ≡ a ∷ b ∷ [] → at + idleSize ≤ length s
     one-fits a b o =
         let n = ap length o in
         let g = opened-fits (x .tree) in

@@ -15,7 +15,7 @@ use Rattle.buffer.specs.Splice.{written}
 use Rattle.buffer.proofs.Written.{filled}
 use Rattle.stored.specs.Layout.{channels, maxComponents, hallBytes, idleSize}
 use Rattle.storedlaws.specs.Positions.{allBytes}
-use Rattle.opening.specs.Opening.{openedBytes, ComponentsFit, ComponentsWritten, OpenedCounted, OpeningWritten}
+use Rattle.opening.specs.Opening.{componentsBytes, ComponentsFit, ComponentsWritten, ComponentsCounted, OpeningWritten}
 use Rattle.opening.proofs.Components.{opened-length, opened-fits}
 
 module _ (d : List ℕ) (i : ℕ) where
@@ -29,7 +29,7 @@ module _ (d : List ℕ) (i : ℕ) where
       let w = x .decoded .good .limits i _ (x .at) in
       record { terms = x .terms; tree = x .tree; decoded = x .decoded; at = x .at; fits = omega arith }
 
-  pub opened-counted : (s s′ : List ℕ) (end : ℕ) → ComponentsWritten d i s 0 s′ end → OpenedCounted d i (end / idleSize)
+  pub opened-counted : (s s′ : List ℕ) (end : ℕ) → ComponentsWritten d i s 0 s′ end → ComponentsCounted d i (end / idleSize)
   opened-counted s s′ end w = record {
     found = λ ts P x e. let l = opened-length P in let m = w .found ts P x e .0 in omega arith;
   }
@@ -46,10 +46,10 @@ module _ (d : List ℕ) (i : ℕ) where
   pub opening-written : (ws s s₁ s₂ s₃ : List ℕ) (end : ℕ) → ws ≡ tokensIn d → length s ≡ hallBytes → s₁ ≡ written s 0 ws (length ws) →
       ComponentsWritten d i s₁ channels s₂ end → s₃ ≡ written s₂ end (replicate (length s₂ - end) 0) (length s₂ - end) → length s₂ ≡ length s →
       OpeningWritten d i s₃
-  unfolding bytesOf opening padded openedBytes allBytes
+  unfolding bytesOf opening padded componentsBytes allBytes
   opening-written ws s s₁ s₂ s₃ end tokens h p w q m = record {
     found = λ t x k e.
-        let v = openedBytes (t .start) in
+        let v = componentsBytes (t .start) in
         let g = x .good .limits i _ e in
         let f = opened-fits (t .start) in
         let a = w .found (t .terms) (t .start) x e in

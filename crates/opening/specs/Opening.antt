@@ -18,8 +18,8 @@ use Rattle.stored.specs.Layout.{idleSize}
 use Rattle.storedlaws.specs.Positions.{allBytes}
 
 -- the bytes of the components that a process opens into
-unfoldable pub openedBytes : Program → List ℕ
-openedBytes P = allBytes (map idle (opens P))
+unfoldable pub componentsBytes : Program → List ℕ
+componentsBytes P = allBytes (map idle (opens P))
 
 -- process number i is one of some table that d decodes, and its components fit into the hall from an offset on: each
 -- takes two bytes, and there are at most as many as the process is wide
@@ -34,10 +34,10 @@ pub record ComponentsFit (d : List ℕ) (i : ℕ) (hall : List ℕ) (from : ℕ)
 -- and all else is as it was before
 pub record ComponentsWritten (d : List ℕ) (i : ℕ) (before : List ℕ) (from : ℕ) (after : List ℕ) (to : ℕ) : Type 0 where
   pub found : (ts : List Term) (P : Program) → Decoded ts d → getElem? ts i ≡ some (process P) →
-      (to ≡ from + length (openedBytes P)) × (after ≡ written before from (openedBytes P) (length (openedBytes P)))
+      (to ≡ from + length (componentsBytes P)) × (after ≡ written before from (componentsBytes P) (length (componentsBytes P)))
 
 -- of any table that d decodes, process number i opens into so many components
-pub record OpenedCounted (d : List ℕ) (i : ℕ) (n : ℕ) : Type 0 where
+pub record ComponentsCounted (d : List ℕ) (i : ℕ) (n : ℕ) : Type 0 where
   pub found : (ts : List Term) (P : Program) → Decoded ts d → getElem? ts i ≡ some (process P) → n ≡ length (opens P)
 
 -- the hall is the opening of any table that d decodes, with its tokens and with process number i as its start

@@ -20,7 +20,7 @@ ghost use Rattle.stored.specs.Layout.{hallBytes, idleSize};
 ghost use Rattle.records.specs.Shapes.{kindByte};
 ghost use Rattle.semantics.specs.Definitions.Table.{parK};
 ghost use Rattle.terms.specs.Decoded.{kindAt, AProcess};
-ghost use Rattle.opening.specs.Opening.{ComponentsFit, ComponentsWritten, OpenedCounted, OpeningWritten};
+ghost use Rattle.opening.specs.Opening.{ComponentsFit, ComponentsWritten, ComponentsCounted, OpeningWritten};
 
 // A component of two bytes, at an offset: the answer is the offset behind it.
 pub fn write_idle(hall: &mut [u8], at: usize, kind: u8, body: u8) -> usize
@@ -70,9 +70,9 @@ pub fn write_components(decoded: &[u8; DECODED], term: usize, hall: &mut [u8], a
 
 // How many components the process at a term number opens into: written into a buffer, and counted there. A process is at
 // most as wide as a hall has components.
-pub fn opened_count(decoded: &[u8; DECODED], term: usize) -> usize
+pub fn component_count(decoded: &[u8; DECODED], term: usize) -> usize
     requires { ⌜ AProcess (now decoded) term ⌝ }
-    ensures { λ r. ⌜ OpenedCounted (now (decoded .entry)) term r ⌝ }
+    ensures { λ r. ⌜ ComponentsCounted (now (decoded .entry)) term r ⌝ }
 {
     let mut opened = [0u8; IDLE_SIZE * MAX_COMPONENTS];
     write_components(decoded, term, &mut opened, 0) / IDLE_SIZE

@@ -27,7 +27,7 @@ use Rattle.decimals.specs.Wrote.{Wrote}
 use Rattle.decimals.proofs.Digits.{decimal-short}
 use Rattle.lines.specs.Lines.{numberLine}
 use Rattle.report.specs.Limits.{componentMost, componentsMost}
-use Rattle.report.specs.Printed.{Printed, Standing, ComponentPrinted, ComponentsPrinted}
+use Rattle.report.specs.Printed.{Printed, ComponentsHeld, ComponentPrinted, ComponentsPrinted}
 use Rattle.report.proofs.Texts.{printed-none, printed-length, printed-room, printed-more}
 use Rattle.report.proofs.NumberLines.{line-one, line-two, one-length, two-length, byte-short}
 
@@ -136,7 +136,7 @@ two-short letter n k l m =
     let b = byte-short n l in
     let d = decimal-short 1 k (omega arith) in omega arith
 
-module _ (s starts : List ℕ) (n p : ℕ) (st : Standing s starts n) (there : p < n) where
+module _ (s starts : List ℕ) (n p : ℕ) (st : ComponentsHeld s starts n) (there : p < n) where
   pub body-fits : Fits w64 (getD starts p 0 + componentBody)
   body-fits =
       let c = component-at (st .holds) p there in
@@ -256,14 +256,14 @@ lines-next cs p c e = rw (add-one p) (go cs p e)
 
 pub record ComponentsSoFar (s starts : List ℕ) (n : ℕ) (out₀ : List ℕ) (at : ℕ) (out : List ℕ) (end i : ℕ) :
     Type 0 where
-  pub standing : Standing s starts n
+  pub standing : ComponentsHeld s starts n
   pub room : at + componentsMost ≤ length out₀
   pub inside : i ≤ n
   pub printed : (ts : List Term) (h : Configuration) → Holds ts h s starts n →
       Printed (componentMost * i) out₀ at (flatten (map componentLine (take i (h .components)))) out end
 
 module _ (s starts : List ℕ) (n : ℕ) (out₀ : List ℕ) (at : ℕ) where
-  pub no-component : Standing s starts n → at + componentsMost ≤ length out₀ →
+  pub no-component : ComponentsHeld s starts n → at + componentsMost ≤ length out₀ →
       ComponentsSoFar s starts n out₀ at out₀ at 0
   unfolding flatten
   no-component st r =

@@ -35,13 +35,13 @@ use Rattle.engine.specs.Answers.{openAnswerOf, openingOf, buffersOf}
 use Rattle.engine.proofs.Admitted.{admitted-hall, refused-hall}
 use Rattle.report.specs.declared.outcomes.Outcome.{Outcome}
 use Rattle.report.specs.Limits.{runMost, countersMost, channelsMost, componentsMost, linesMost}
-use Rattle.report.specs.Printed.{Printed, Standing, ComponentsPrinted}
+use Rattle.report.specs.Printed.{Printed, ComponentsHeld, ComponentsPrinted}
 use Rattle.report.specs.Runs.{callOf, answerOf, OutcomeIs, LinesPrinted, HallPrinted, RunPrinted}
 use Rattle.report.proofs.Texts.{printed-more, printed-wider}
 
 -- ---- a hall that is held
 
-pub hall-long : (s starts : List ℕ) (n : ℕ) → Standing s starts n → channels ≤ length s
+pub hall-long : (s starts : List ℕ) (n : ℕ) → ComponentsHeld s starts n → channels ≤ length s
 hall-long s starts n st = let l = hall-length (st .holds) in omega arith
 
 regrouped : (a b c d : List ℕ) → ((a ++ b) ++ c) ++ d ≡ a ++ (b ++ (c ++ d))
@@ -85,7 +85,7 @@ unfolding admission tableTested sizeTested formTested
 admission-is table s t l reads size stored = rw (reads, eq-eqb (length s) 11344 size, stored) refl
 
 module _ (d table s starts : List ℕ) (a : Admission) (w : AdmissionIs a d s starts (admission table s)) where
-  pub admitted-standing : (n : ℕ) → a ≡ admit.Admitted n → Standing s starts n
+  pub admitted-standing : (n : ℕ) → a ≡ admit.Admitted n → ComponentsHeld s starts n
   admitted-standing n e = admitted-hall d table s starts a w n e
       (λ t h q x. record { terms = t .terms; configuration = h; holds = x .holds })
 

@@ -40,7 +40,7 @@ channelText i f l = cond (eqb f 0 && eqb l 0) [] (channelLine i f l)
 -- ---- components
 
 -- some configuration of some table is held
-pub record Standing (s starts : List ℕ) (n : ℕ) : Type 0 where
+pub record ComponentsHeld (s starts : List ℕ) (n : ℕ) : Type 0 where
   pub terms : List Term
   pub configuration : Configuration
   pub holds : Holds terms configuration s starts n

@@ -14,7 +14,7 @@ use stored::TRANSACTION_HEAD;
 ghost use Prim.Native.Nat.{_+_, _≤_, _<_};
 ghost use lib.ListN.{length};
 ghost use Rattle.report.specs.Limits.{componentMost, componentsMost};
-ghost use Rattle.report.specs.Printed.{Standing, ComponentPrinted, ComponentsPrinted};
+ghost use Rattle.report.specs.Printed.{ComponentsHeld, ComponentPrinted, ComponentsPrinted};
 
 // The line of the component at a position: the channel of an output, the term of one that waits, the term of a
 // transaction and how many nodes it has.
@@ -26,7 +26,7 @@ fn component_line(
     out: &mut [u8],
     at: usize,
 ) -> usize
-    requires { ⌜ Standing (now hall) (now starts) components × (position < components)
+    requires { ⌜ ComponentsHeld (now hall) (now starts) components × (position < components)
         × (at + componentMost ≤ length (now out)) ⌝ }
     ensures { λ r. ⌜ ComponentPrinted (now (hall .entry)) (now (starts .entry)) components position (now (out .entry))
         at (now (out .exit)) r ⌝ }
@@ -53,7 +53,7 @@ pub fn component_lines(
     out: &mut [u8],
     at: usize,
 ) -> usize
-    requires { ⌜ Standing (now hall) (now starts) components × (at + componentsMost ≤ length (now out)) ⌝ }
+    requires { ⌜ ComponentsHeld (now hall) (now starts) components × (at + componentsMost ≤ length (now out)) ⌝ }
     ensures { λ r. ⌜ ComponentsPrinted (now (hall .entry)) (now (starts .entry)) components (now (out .entry)) at
         (now (out .exit)) r ⌝ }
 {

@@ -15,7 +15,7 @@ ghost use Prim.Native.Nat.{_≤_};
 ghost use lib.ListN.{length, take};
 ghost use Rattle.stored.specs.Layout.{channels as Layout·channels, hallBytes};
 ghost use Rattle.report.specs.Limits.{linesMost};
-ghost use Rattle.report.specs.Printed.{Standing};
+ghost use Rattle.report.specs.Printed.{ComponentsHeld};
 ghost use Rattle.report.specs.Runs.{LinesPrinted, HallPrinted, RunPrinted};
 
 // The lines of a run whose last hall is held: of the run, of its counters, of the channels, of the components.
@@ -27,7 +27,7 @@ fn print_lines(
     outcome: Outcome,
     out: &mut [u8],
 ) -> usize
-    requires { ⌜ Standing (now hall) (now starts) components × (Layout·channels ≤ length (now first))
+    requires { ⌜ ComponentsHeld (now hall) (now starts) components × (Layout·channels ≤ length (now first))
         × (linesMost ≤ length (now out)) ⌝ }
     ensures { λ r. ⌜ LinesPrinted (now (hall .entry)) (now (starts .entry)) components (now (first .entry)) outcome
         (now (out .entry)) (now (out .exit)) r ⌝ }

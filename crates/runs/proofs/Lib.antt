@@ -1,3 +1,3 @@
 pub mod Entries
-pub mod Turns
+pub mod RunSteps
 pub mod Cases

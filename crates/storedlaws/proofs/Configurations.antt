@@ -24,7 +24,7 @@ use Rattle.buffer.proofs.Spliced.{getD-padded, spliced-length, spliced-mid}
 use Rattle.stored.specs.declared.Place.the-variants.{At, Nowhere}
 use Rattle.stored.specs.Layout.{transactionKind, channels, hallBytes, transactionHead, maxBranches}
 use Rattle.stored.specs.Nodes.{nodeStart, treeEnd}
-use Rattle.storedlaws.specs.Positions.{allBytes, usedOf, startOf, Fits, BySplice, Context, plug, before, behind, node, beyond, nodeOf}
+use Rattle.storedlaws.specs.Positions.{allBytes, usedOf, startOf, Fits, BySplice, Context, plug, before, behind, node, beyond, subtreeAt}
 use Rattle.storedlaws.proofs.Cursors.{over}
 use Rattle.storedlaws.proofs.Nodes.{tree-ends, node-starts, node-missing, node-of, plug-bytes, plug-ok, plug-branches}
 
@@ -144,7 +144,7 @@ module _ (h : Configuration) (sixteen : length (h .counts) ≡ channels) where
           rw z at (over (bytesOf h) (startOf (h .components) p) (transactionKind ∷ n ∷ σ) _ (c ∙ ap (λ x. transactionKind ∷ n ∷ x) (append-assoc σ (treeBytes t) _)))
 
       -- the bytes from a node of a transaction on
-      pub node-cursor : (k : ℕ) (x : Context) (u : Tree) → nodeOf t k ≡ node x u →
+      pub node-cursor : (k : ℕ) (x : Context) (u : Tree) → subtreeAt t k ≡ node x u →
           drop (tree + length (before x)) (bytesOf h) ≡ treeBytes u ++ (behind x ++ (allBytes (drop (suc p) (h .components)) ++ zeros-behind))
       node-cursor k x u f = over (bytesOf h) tree (before x) _ (nodes-cursor ∙ rw (node-of t k x u f, plug-bytes) (simp append-assoc))
 
@@ -156,7 +156,7 @@ module _ (ts : List Term) (h : Configuration) (w : WellFormed ts h) (p n : ℕ) 
   in-order = all-at (ComponentOk ts) (h .components) p (transaction n M σ t) (w .each) e
 
   -- node number k of a transaction begins where the bytes before it end, and the subtree there ends where its own do
-  pub hall-node : (k : ℕ) (x : Context) (u : Tree) → nodeOf t k ≡ node x u →
+  pub hall-node : (k : ℕ) (x : Context) (u : Tree) → subtreeAt t k ≡ node x u →
       (nodeStart (bytesOf h) (startOf (h .components) p + transactionHead) k ≡ At (startOf (h .components) p + transactionHead + length (before x)))
       × (treeEnd (bytesOf h) (startOf (h .components) p + transactionHead + length (before x))
       ≡ startOf (h .components) p + transactionHead + length (before x) + length (treeBytes u))
@@ -171,7 +171,7 @@ module _ (ts : List Term) (h : Configuration) (w : WellFormed ts h) (p n : ℕ) 
         tree-ends ts u (bytesOf h) _ _ o (node-cursor h (w .channelCounts .0) p n M σ t e (ok .1 .0) k x u f) (omega arith),
       )
 
-  pub hall-no-node : (k j : ℕ) → nodeOf t k ≡ beyond j → nodeStart (bytesOf h) (startOf (h .components) p + transactionHead) k ≡ Nowhere
+  pub hall-no-node : (k j : ℕ) → subtreeAt t k ≡ beyond j → nodeStart (bytesOf h) (startOf (h .components) p + transactionHead) k ≡ Nowhere
   unfolding ComponentOk
   hall-no-node k j f = node-missing ts t (bytesOf h) _ _ (in-order .2) (nodes-cursor h (w .channelCounts .0) p n M σ t e (in-order .1 .0)) k j f
 

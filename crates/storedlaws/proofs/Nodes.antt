@@ -22,7 +22,7 @@ use Rattle.stored.specs.declared.Walk.{Walk}
 use Rattle.stored.specs.Layout.{forkKind, leafKind, leafSize, maxActions, maxBranches, maxNodes, forkSize}
 use Rattle.stored.specs.Nodes.{nodeSize, pendingBehind, passed, nodeStart, treeEnd}
 use Rattle.stored.proofs.Nodes.{passed-over}
-use Rattle.storedlaws.specs.Positions.{Context, top, leftOf, rightOf, plug, before, behind, Node, node, beyond, inRightOf, inLeftOf, nodeOf, filled, withNode, around, innerAt}
+use Rattle.storedlaws.specs.Positions.{Context, top, leftOf, rightOf, plug, before, behind, Node, node, beyond, inRightOf, inLeftOf, subtreeAt, filled, withNode, around, innerAt}
 use Rattle.storedlaws.proofs.Cursors.{first-byte, over}
 
 -- ---- how many
@@ -42,8 +42,8 @@ few-nodes (fork l r) = let h = few-nodes l in let g = few-nodes r in omega arith
 -- ---- the walk
 
 -- past the last node of a tree
-pub beyond-nodes : (t : Tree) (k : ℕ) → nodeOf t (nodes t + k) ≡ beyond k
-unfolding nodes nodeOf inLeftOf inRightOf
+pub beyond-nodes : (t : Tree) (k : ℕ) → subtreeAt t (nodes t + k) ≡ beyond k
+unfolding nodes subtreeAt inLeftOf inRightOf
 beyond-nodes (leaf M δ) k = let z : 1 + k ≡ suc k = omega arith in rw z
 beyond-nodes (fork l r) k =
     let z : 1 + (nodes l + nodes r) + k ≡ suc (nodes l + (nodes r + k)) = omega arith in
@@ -69,12 +69,12 @@ finds-right s p at k l r j (beyond i) e h =
 
 finds-left : (s : List ℕ) (p at k i : ℕ) (l r : Tree) (L : Node) → passed s k (suc p) at ≡ passed s i (suc (suc p)) (at + forkSize) →
     Finds s (suc p) (at + forkSize) i (length (treeBytes l)) L →
-    ((j : ℕ) → Finds s p (at + forkSize + length (treeBytes l)) j (length (treeBytes r)) (nodeOf r j)) →
-    Finds s p at k (length (treeBytes (fork l r))) (inLeftOf r L (λ j. inRightOf l (nodeOf r j)))
+    ((j : ℕ) → Finds s p (at + forkSize + length (treeBytes l)) j (length (treeBytes r)) (subtreeAt r j)) →
+    Finds s p at k (length (treeBytes (fork l r))) (inLeftOf r L (λ j. inRightOf l (subtreeAt r j)))
 unfolding Finds inLeftOf before
 finds-left s p at k i l r (node c t) e h right =
     let z : at + forkSize + length (before c) ≡ at + length (forkKind ∷ before c) = omega arith in (h .0, e ∙ h .1 ∙ rw z)
-finds-left s p at k i l r (beyond j) e h right = finds-right s p at k l r j (nodeOf r j) (e ∙ h) (right j)
+finds-left s p at k i l r (beyond j) e h right = finds-right s p at k l r j (subtreeAt r j) (e ∙ h) (right j)
 
 -- past the first node of a tree
 past-leaf : (s : List ℕ) (k p at : ℕ) → getD s at 0 ≡ leafKind → passed s (suc k) (suc p) at ≡ passed s k p (at + leafSize)
@@ -86,35 +86,35 @@ unfolding passed nodeSize pendingBehind
 past-fork s k p at e = let z : suc p + 1 ≡ suc (suc p) = omega arith in rw (e, z)
 
 finds-node : (ts : List Term) (t : Tree) (s : List ℕ) (at p k : ℕ) (rest : List ℕ) → TreeOk ts t → drop at s ≡ treeBytes t ++ rest →
-    Finds s p at k (length (treeBytes t)) (nodeOf t k)
-unfolding TreeOk treeBytes nodeOf Finds before passed
+    Finds s p at k (length (treeBytes t)) (subtreeAt t k)
+unfolding TreeOk treeBytes subtreeAt Finds before passed
 finds-node ts (leaf M δ) s at p zero rest ok e = let z : at + 0 ≡ at = omega arith in (p, rw z)
 finds-node ts (leaf M δ) s at p (suc k) rest ok e = let h = ok .1 in rw (leaf-bytes M δ (omega arith)) (past-leaf s k p at (first-byte s at leafKind _ e))
 finds-node ts (fork l r) s at p zero rest ok e = let z : at + 0 ≡ at = omega arith in (p, rw z)
 finds-node ts (fork l r) s at p (suc k) rest ok e =
     let e′ : drop (at + forkSize) s ≡ treeBytes l ++ (treeBytes r ++ rest) = over s at (forkKind ∷ []) _ e ∙ append-assoc (treeBytes l) (treeBytes r) rest in
     let e″ = over s (at + forkSize) (treeBytes l) (treeBytes r ++ rest) e′ in
-    finds-left s p at (suc k) k l r (nodeOf l k) (past-fork s k p at (first-byte s at forkKind _ e))
+    finds-left s p at (suc k) k l r (subtreeAt l k) (past-fork s k p at (first-byte s at forkKind _ e))
     (finds-node ts l s (at + forkSize) (suc p) k (treeBytes r ++ rest) (ok .0) e′)
     (λ j. finds-node ts r s (at + forkSize + length (treeBytes l)) p j rest (ok .1) e″)
 
 module _ (ts : List Term) (t : Tree) (s : List ℕ) (at : ℕ) (rest : List ℕ) (ok : TreeOk ts t) (e : drop at s ≡ treeBytes t ++ rest) where
   -- past k nodes, and past all of them
-  passed-to : (k : ℕ) (c : Context) (u : Tree) → nodeOf t k ≡ node c u →
+  passed-to : (k : ℕ) (c : Context) (u : Tree) → subtreeAt t k ≡ node c u →
       (q : ℕ) × (passed s k 1 at ≡ record { at = at + length (before c); pending = suc q; left = 0 })
   unfolding Finds
   passed-to k c u n = rw n at (finds-node ts t s at 0 k rest ok e)
 
-  passed-all : (k j : ℕ) → nodeOf t k ≡ beyond j → passed s k 1 at ≡ record { at = at + length (treeBytes t); pending = 0; left = j }
+  passed-all : (k j : ℕ) → subtreeAt t k ≡ beyond j → passed s k 1 at ≡ record { at = at + length (treeBytes t); pending = 0; left = j }
   unfolding Finds
   passed-all k j n = (rw n at (finds-node ts t s at 0 k rest ok e)) ∙ passed-over s j (at + length (treeBytes t))
 
   -- node number k begins behind the bytes before it, and there is none past the last
-  pub node-starts : (k : ℕ) (c : Context) (u : Tree) → nodeOf t k ≡ node c u → nodeStart s at k ≡ At (at + length (before c))
+  pub node-starts : (k : ℕ) (c : Context) (u : Tree) → subtreeAt t k ≡ node c u → nodeStart s at k ≡ At (at + length (before c))
   unfolding nodeStart
   node-starts k c u n = let w = passed-to k c u n in rw (w .1, ne-eqb (suc (w .0)) 0 (λ z. omega arith))
 
-  pub node-missing : (k j : ℕ) → nodeOf t k ≡ beyond j → nodeStart s at k ≡ Nowhere
+  pub node-missing : (k j : ℕ) → subtreeAt t k ≡ beyond j → nodeStart s at k ≡ Nowhere
   unfolding nodeStart
   node-missing k j n = rw (passed-all k j n)
 
@@ -145,23 +145,23 @@ unfolding Rebuilt inRightOf plug
 rebuilt-right l r (node c u) h = ap (fork l) h
 rebuilt-right l r (beyond k) h = tt
 
-rebuilt-left : (l r : Tree) (L : Node) → Rebuilt l L → ((j : ℕ) → Rebuilt r (nodeOf r j)) → Rebuilt (fork l r) (inLeftOf r L (λ j. inRightOf l (nodeOf r j)))
+rebuilt-left : (l r : Tree) (L : Node) → Rebuilt l L → ((j : ℕ) → Rebuilt r (subtreeAt r j)) → Rebuilt (fork l r) (inLeftOf r L (λ j. inRightOf l (subtreeAt r j)))
 unfolding Rebuilt inLeftOf plug
 rebuilt-left l r (node c u) h right = ap (λ x. fork x r) h
-rebuilt-left l r (beyond k) h right = rebuilt-right l r (nodeOf r k) (right k)
+rebuilt-left l r (beyond k) h right = rebuilt-right l r (subtreeAt r k) (right k)
 
-rebuilt : (t : Tree) (k : ℕ) → Rebuilt t (nodeOf t k)
-unfolding Rebuilt nodeOf plug
+rebuilt : (t : Tree) (k : ℕ) → Rebuilt t (subtreeAt t k)
+unfolding Rebuilt subtreeAt plug
 rebuilt (leaf M δ) zero = refl
 rebuilt (leaf M δ) (suc k) = tt
 rebuilt (fork l r) zero = refl
-rebuilt (fork l r) (suc k) = rebuilt-left l r (nodeOf l k) (rebuilt l k) (λ j. rebuilt r j)
+rebuilt (fork l r) (suc k) = rebuilt-left l r (subtreeAt l k) (rebuilt l k) (λ j. rebuilt r j)
 
-pub node-of : (t : Tree) (k : ℕ) (c : Context) (u : Tree) → nodeOf t k ≡ node c u → t ≡ plug c u
+pub node-of : (t : Tree) (k : ℕ) (c : Context) (u : Tree) → subtreeAt t k ≡ node c u → t ≡ plug c u
 unfolding Rebuilt
 node-of t k c u e = rw e at (rebuilt t k)
 
-pub with-node : (t : Tree) (k : ℕ) (c : Context) (u v : Tree) → nodeOf t k ≡ node c u → withNode t k v ≡ plug c v
+pub with-node : (t : Tree) (k : ℕ) (c : Context) (u v : Tree) → subtreeAt t k ≡ node c u → withNode t k v ≡ plug c v
 unfolding withNode filled
 with-node t k c u v e = rw e refl
 
@@ -239,27 +239,27 @@ inner-right s l (node c u) = around-right l c (inner s u 0)
 inner-right s l (beyond k) = refl
 
 inner-left : (s : State) (l r : Tree) (L : Node) →
-    inLeft r (innerAt s L) (λ j. innerAt s (inRightOf l (nodeOf r j))) ≡ innerAt s (inLeftOf r L (λ j. inRightOf l (nodeOf r j)))
+    inLeft r (innerAt s L) (λ j. innerAt s (inRightOf l (subtreeAt r j))) ≡ innerAt s (inLeftOf r L (λ j. inRightOf l (subtreeAt r j)))
 unfolding innerAt inLeftOf inLeft
 inner-left s l r (node c u) = around-left r c (inner s u 0) _ (inner-here s u)
 inner-left s l r (beyond k) = refl
 
 -- a move at node number k is the move of the subtree there, in its place; past the last node there is none
-pub inner-at : (s : State) (t : Tree) (k : ℕ) → inner s t k ≡ innerAt s (nodeOf t k)
-unfolding inner nodeOf innerAt
+pub inner-at : (s : State) (t : Tree) (k : ℕ) → inner s t k ≡ innerAt s (subtreeAt t k)
+unfolding inner subtreeAt innerAt
 inner-at s (leaf M δ) zero = around-here s (leaf M δ)
 inner-at s (leaf M δ) (suc k) = refl
 inner-at s (fork l r) zero = around-here s (fork l r)
 inner-at s (fork l r) (suc k) =
-    let right : _≡_ {A = ℕ → Inner} (λ j. inRight l (inner s r j)) (λ j. innerAt s (inRightOf l (nodeOf r j))) =
-    fun-ext (λ j. ap (inRight l) (inner-at s r j) ∙ inner-right s l (nodeOf r j)) in
-    rw (inner-at s l k, right) (inner-left s l r (nodeOf l k))
+    let right : _≡_ {A = ℕ → Inner} (λ j. inRight l (inner s r j)) (λ j. innerAt s (inRightOf l (subtreeAt r j))) =
+    fun-ext (λ j. ap (inRight l) (inner-at s r j) ∙ inner-right s l (subtreeAt r j)) in
+    rw (inner-at s l k, right) (inner-left s l r (subtreeAt l k))
 
-pub inner-node : (s : State) (t : Tree) (k : ℕ) (c : Context) (u : Tree) → nodeOf t k ≡ node c u → inner s t k ≡ around c (inner s u 0)
+pub inner-node : (s : State) (t : Tree) (k : ℕ) (c : Context) (u : Tree) → subtreeAt t k ≡ node c u → inner s t k ≡ around c (inner s u 0)
 unfolding innerAt
 inner-node s t k c u e = inner-at s t k ∙ ap (innerAt s) e
 
-pub inner-past : (s : State) (t : Tree) (k j : ℕ) → nodeOf t k ≡ beyond j → inner s t k ≡ outOfRange j
+pub inner-past : (s : State) (t : Tree) (k j : ℕ) → subtreeAt t k ≡ beyond j → inner s t k ≡ outOfRange j
 unfolding innerAt
 inner-past s t k j e = inner-at s t k ∙ ap (innerAt s) e
 
@@ -268,15 +268,15 @@ pub record Evolved (s : State) (t : Tree) (k : ℕ) (r : Rule) (u : Tree) : Type
   pub context : Context
   pub subtree : Tree
   pub makes : Tree
-  pub there : nodeOf t k ≡ node context subtree
+  pub there : subtreeAt t k ≡ node context subtree
   pub move : inner s subtree 0 ≡ evolves r makes
   pub whole : u ≡ withNode t k makes
 
 pub inner-evolves : (s : State) (t : Tree) (k : ℕ) (r : Rule) (u : Tree) → inner s t k ≡ evolves r u → Evolved s t k r u
 unfolding around
-inner-evolves s t k r u e = go (nodeOf t k) refl
+inner-evolves s t k r u e = go (subtreeAt t k) refl
   where
-    atNode : (c : Context) (w : Tree) → nodeOf t k ≡ node c w → (I : Inner) → inner s w 0 ≡ I → around c I ≡ evolves r u → Evolved s t k r u
+    atNode : (c : Context) (w : Tree) → subtreeAt t k ≡ node c w → (I : Inner) → inner s w 0 ≡ I → around c I ≡ evolves r u → Evolved s t k r u
     atNode c w p (evolves q v) m h =
         let z : plug c v ≡ u = cc in
         let y : q ≡ r = cc in
@@ -284,6 +284,6 @@ inner-evolves s t k r u e = go (nodeOf t k) refl
     atNode c w p noRule m h = let z : _≡_ {A = ℕ} 0 1 = cc in absurd (omega arith)
     atNode c w p (outOfRange j) m h = let z : _≡_ {A = ℕ} 0 1 = cc in absurd (omega arith)
 
-    go : (N : Node) → nodeOf t k ≡ N → Evolved s t k r u
+    go : (N : Node) → subtreeAt t k ≡ N → Evolved s t k r u
     go (node c w) p = atNode c w p (inner s w 0) refl (sym (inner-node s t k c w p) ∙ e)
     go (beyond j) p = let q = sym (inner-past s t k j p) ∙ e in let z : _≡_ {A = ℕ} 0 1 = cc in absurd (omega arith)

@@ -86,12 +86,12 @@ inLeftOf r (node c t) right = node (leftOf c r) t
 inLeftOf r (beyond k) right = right k
 
 -- node number k in preorder
-unfoldable pub nodeOf : Tree → ℕ → Node
+unfoldable pub subtreeAt : Tree → ℕ → Node
 unfolding inLeftOf inRightOf
-nodeOf (leaf M δ) zero = node top (leaf M δ)
-nodeOf (leaf M δ) (suc k) = beyond k
-nodeOf (fork l r) zero = node top (fork l r)
-nodeOf (fork l r) (suc k) = inLeftOf r (nodeOf l k) (λ j. inRightOf l (nodeOf r j))
+subtreeAt (leaf M δ) zero = node top (leaf M δ)
+subtreeAt (leaf M δ) (suc k) = beyond k
+subtreeAt (fork l r) zero = node top (fork l r)
+subtreeAt (fork l r) (suc k) = inLeftOf r (subtreeAt l k) (λ j. inRightOf l (subtreeAt r j))
 
 -- the tree with another subtree at a node; past the last node nothing changes
 unfoldable pub filled : Node → Tree → Tree → Tree
@@ -100,8 +100,8 @@ filled (node c u) t v = plug c v
 filled (beyond k) t v = t
 
 unfoldable pub withNode : Tree → ℕ → Tree → Tree
-unfolding filled nodeOf
-withNode t k v = filled (nodeOf t k) t v
+unfolding filled subtreeAt
+withNode t k v = filled (subtreeAt t k) t v
 
 -- a move of the subtree at a node, as a move of the whole tree
 unfoldable pub around : Context → Inner → Inner

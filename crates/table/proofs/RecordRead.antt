@@ -24,7 +24,7 @@ use Rattle.terms.specs.TermMeasures.{TermAt, Measurable, MeasuresOf, LimitTeste
 use Rattle.terms.proofs.Stores.{tokens-set, tokens-decoded, record-length, record-measurable, term-tokens, term-decoded}
 use Rattle.tablelaws.specs.Refusals.{KindAt, content, refusal}
 use Rattle.tablelaws.proofs.KindBytes.{kind-at}
-use Rattle.tablelaws.proofs.Turns.{afterTests, end-turn, unknown-turn, short-turn, whole-turn}
+use Rattle.tablelaws.proofs.RecordsRead.{afterTests, end-turn, unknown-turn, short-turn, whole-turn}
 use Rattle.tablelaws.proofs.Contents.{fields-refused, FieldsPass, fields-pass, fields-then, NewTerm, Describes, as-term, as-tokens, as-start, describes}
 use Rattle.table.specs.declared.Read.the-variants.{Accepted, Refused}
 use Rattle.table.specs.declared.AfterRecord.{AfterRecord}

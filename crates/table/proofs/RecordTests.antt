@@ -23,16 +23,16 @@ use Rattle.records.proofs.FieldTests.{both-fields}
 use Rattle.terms.specs.Decoded.{tokensIn, kindAt, Decoded}
 use Rattle.terms.proofs.TermKinds.{record-class}
 use Rattle.tablelaws.specs.Refusals.{KindAt, fieldRefusal}
-use Rattle.table.specs.RecordTests.{DecodedSoFar, RoomTested, EarlierReference, ClassTested, HasFields, FieldsTested}
+use Rattle.table.specs.RecordTests.{DecodedSoFar, TermLimitTested, EarlierReference, ClassTested, HasFields, FieldsTested}
 
 -- ---- 3
 
 -- c is the class of kind k
 module _ (k n c : ℕ) (class : c ≡ classOf k) where
-  by-content : (b : Bool) → ((ts : List Term) (x : Content) → length ts ≡ n → c ≡ contentClass x → b ≡ tooManyTerms ts x) → RoomTested k n b
+  by-content : (b : Bool) → ((ts : List Term) (x : Content) → length ts ≡ n → c ≡ contentClass x → b ≡ tooManyTerms ts x) → TermLimitTested k n b
   by-content b f = record { found = λ ts K l r count. f ts _ count (class ∙ rw (← (K .byte)) at (class-of-content ts (l ∷ r ∷ []) (K .kind))) }
 
-  pub other-room : c ≡ 0 → RoomTested k n false
+  pub other-room : c ≡ 0 → TermLimitTested k n false
   unfolding tooManyTerms
   other-room h = by-content false go
     where
@@ -42,7 +42,7 @@ module _ (k n c : ℕ) (class : c ≡ classOf k) where
       go ts (tokensRecord a m) count s = refl
       go ts (startRecord P) count s = refl
 
-  pub term-room : (c ≡ 0 → ⊥) → RoomTested k n (leb maxTerms n)
+  pub term-room : (c ≡ 0 → ⊥) → TermLimitTested k n (leb maxTerms n)
   unfolding tooManyTerms
   term-room h = by-content (leb maxTerms n) go
     where
@@ -158,7 +158,7 @@ module _ (d : List ℕ) (n : ℕ) (x : Record) (f : ℕ) (pf : fieldFrom f ≡ g
       anyField fails (fields (K .kind)) (x .first ∷ x .second ∷ []) ≡ (first-fails fails || second-fails fails)
   on-both fails K = both-fields fails (x .first) (x .second) (x .kind) (K .kind) (K .named) f pf g pg
 
-  module _ (b3 : Bool) (e3 : RoomTested (x .kind) n b3) where
+  module _ (b3 : Bool) (e3 : TermLimitTested (x .kind) n b3) where
     in-order : (ts : List Term) (K : KindAt (x .kind)) → length ts ≡ n →
         fieldRefusal ts (K .kind) (x .first) (x .second) 0
         ≡ cond b3 3

@@ -19,7 +19,7 @@ pub record DecodedSoFar (d : List ℕ) (n : ℕ) : Type 0 where
   pub counted : length terms ≡ n
 
 -- 3, of a record of kind k after n terms
-pub record RoomTested (k n : ℕ) (b : Bool) : Type 0 where
+pub record TermLimitTested (k n : ℕ) (b : Bool) : Type 0 where
   pub found : (ts : List Term) (K : KindAt k) (l r : ℕ) → length ts ≡ n → b ≡ tooManyTerms ts (content ts (K .kind) l r)
 
 -- a field that is no reference, or one to an earlier term

@@ -28,14 +28,14 @@ ghost use Rattle.semantics.specs.Definitions.Table.{tokensRecord, badTokens, re
 ghost use Rattle.semantics.specs.Definitions.Calls.{checkTable};
 ghost use Rattle.records.specs.Parsing.{IsKind, WholeRecord};
 ghost use Rattle.terms.specs.Decoded.{decodedBytes, tokensIn};
-ghost use Rattle.table.specs.RecordTests.{DecodedSoFar, RoomTested, EarlierReference, ClassTested, HasFields, FieldsTested};
+ghost use Rattle.table.specs.RecordTests.{DecodedSoFar, TermLimitTested, EarlierReference, ClassTested, HasFields, FieldsTested};
 ghost use Rattle.table.specs.RecordRead.{startRead, TokensRead, TermReady, TermRead, ReadsRecord};
 ghost use Rattle.table.specs.Answers.{Answers, verdictOf};
 
 // The refusals' numbers.
-pub const UNKNOWN_KIND: u8 = 1;
+pub const UNKNOWN_RECORD: u8 = 1;
 
-pub const CUT_SHORT: u8 = 2;
+pub const RECORD_CUT_SHORT: u8 = 2;
 
 pub const TOO_MANY_TERMS: u8 = 3;
 
@@ -73,7 +73,7 @@ pub enum TableVerdict {
 
 // 3: a term record comes after as many terms as a table may have.
 fn too_many_terms(kind: u8, terms: usize) -> bool
-    ensures { λ r. ⌜ RoomTested kind terms r ⌝ }
+    ensures { λ r. ⌜ TermLimitTested kind terms r ⌝ }
 {
     if records::class_of(kind) == NO_CLASS {
         return false;
@@ -255,11 +255,11 @@ fn read_record(table: &[u8], at: usize, terms: usize, decoded: &mut [u8; DECODED
             place: at,
         }),
         Parsed::UnknownKind => AfterRecord::Answer(Read::Refused {
-            number: UNKNOWN_KIND,
+            number: UNKNOWN_RECORD,
             place: at,
         }),
         Parsed::CutShort => AfterRecord::Answer(Read::Refused {
-            number: CUT_SHORT,
+            number: RECORD_CUT_SHORT,
             place: at,
         }),
         Parsed::Whole(parsed) => apply_record(table, at, terms, parsed, decoded),

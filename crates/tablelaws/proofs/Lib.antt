@@ -1,3 +1,3 @@
 pub mod KindBytes
-pub mod Turns
+pub mod RecordsRead
 pub mod Contents

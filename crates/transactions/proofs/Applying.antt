@@ -12,11 +12,11 @@ use Rattle.stored.specs.Layout.{channels, leafSize, leafTerm, logSize, noRecord
 use Rattle.stored.specs.Nodes.{treeEnd}
 use Rattle.index.specs.Holds.{CanAlter, Altered}
 use Rattle.leaves.proofs.Leaves.{left-at}
-use Rattle.transactions.specs.Bytes.{termAt, actionLogged, Actionable, splitBytes, Splittable, leftSize, leftBytes}
+use Rattle.transactions.specs.Bytes.{termAt, actionLogged, Actionable, forkBytes, Splittable, leftSize, leftBytes}
 use Rattle.transactions.specs.Moving.{MoveAt, CanMove, HasMoved}
 use Rattle.transactions.proofs.Finding.{LeafAt, leaf-at}
 use Rattle.transactions.proofs.Moving.{ReadLogged, ReadFailed, WriteLogged, ChoiceSplit, LeftDropped, move-inside}
-use Rattle.transactions.proofs.Links.{ardok-link, ardf-link, awr-link, aoi-link, aof-link, aoe-made, aoe-link}
+use Rattle.transactions.proofs.InnerMoves.{ardok-link, ardf-link, awr-link, aoi-link, aof-link, aoe-made, aoe-link}
 
 -- a leaf whose term has a channel, and whose log has room
 can-act : {ts : List Term} {M : Expression} {δ : Log} {d s : List ℕ} {at : ℕ} → LeafAt ts M δ d s at → (a : Name) →
@@ -74,12 +74,12 @@ module _ (d s starts : List ℕ) (n p rule at : ℕ) where
       let l = leaf-at (rw (m .was) at (i .stands)) in record { inside = l .inside; term = l .fields .0 }
 
   pub aoi-can : CanMove d s starts n p rule at → rule ≡ 11 →
-      CanAlter s starts n p at (at + leafSize) (splitBytes d s at)
+      CanAlter s starts n p at (at + leafSize) (forkBytes d s at)
   aoi-can x e =
       record { terms = x .terms; configuration = x .configuration; becomes = _; alters = aoi-link (rw e at (x .move)) }
 
   pub aoi-does : (s′ starts′ : List ℕ) → rule ≡ 11 →
-      Altered s starts n p at (at + leafSize) (splitBytes d s at) s′ starts′ →
+      Altered s starts n p at (at + leafSize) (forkBytes d s at) s′ starts′ →
       HasMoved d s starts n p rule at s′ starts′
   aoi-does s′ starts′ e r = record {
     found = λ ts h k x.

@@ -12,7 +12,7 @@ use Rattle.buffer.specs.Splice.{written}
 use Rattle.terms.specs.Decoded.{firstAt, secondAt}
 use Rattle.stored.specs.Layout.{leafSize, leafTerm, leafLogLength, leafLog, forkKind, forkSize, writeOffset}
 use Rattle.index.specs.Holds.{CanAlter, Altered}
-use Rattle.transactions.specs.Bytes.{termAt, sizeAt, Actionable, logged, actionLogged, splitBytes, leftSize}
+use Rattle.transactions.specs.Bytes.{termAt, sizeAt, Actionable, logged, actionLogged, forkBytes, leftSize}
 
 -- ---- ARDOK and AWR
 
@@ -70,8 +70,8 @@ pub split-made : (d s l r a b : List ℕ) (at t f g : ℕ) →
     a ≡ written (replicate 39 0) forkSize (set l leafTerm f) (length (set l leafTerm f)) →
     l ≡ take leafSize (drop at s) →
     r ≡ take leafSize (drop at s) → f ≡ firstAt d t → g ≡ secondAt d t → t ≡ termAt s at → at + leafSize ≤ length s →
-    set b 0 forkKind ≡ splitBytes d s at
-unfolding splitBytes written
+    set b 0 forkKind ≡ forkBytes d s at
+unfolding forkBytes written
 split-made d s l r a b at t f g y x p q first second term i =
     let v = set l leafTerm f in
     let w = set r leafTerm g in

@@ -27,11 +27,11 @@ use Rattle.storedlaws.proofs.Nodes.{leaf-bytes}
 use Rattle.logs.specs.Needs.{needsOf, withinAt}
 use Rattle.logs.specs.Places.{LogAt}
 use Rattle.logs.proofs.Places.{counts-held, leaf-length, leaf-stored}
-use Rattle.logs.proofs.Links.{stored-readable-with}
-use Rattle.leaves.specs.Leaves.{NamesExpression, KindRead, kindOfNode, TreeAt, StandsAt, NodeRead}
+use Rattle.logs.proofs.StoredLogs.{stored-readable-with}
+use Rattle.leaves.specs.Leaves.{NamesExpression, ExpressionKindRead, kindOfNode, TreeAt, NodePresent, LeafKindRead}
 use Rattle.leaves.proofs.Leaves.{as-fork, as-leaf, leaf-first, leaf-named, left-at, FieldsOf, leaf-fields}
 use Rattle.transactions.specs.Bytes.{termAt, sizeAt}
-use Rattle.transactions.specs.Finding.{innerReply, ReadAt, ReadStanding, ReadTried, leafRule, forkRule, Standing, LeafStanding, RuleRead}
+use Rattle.transactions.specs.Finding.{innerReply, ReadAt, ReadHeld, ReadTried, leafRule, forkRule, NodeHeld, LeafHeld, RuleRead}
 
 -- ---- a leaf
 
@@ -82,7 +82,7 @@ module _ (s : List ℕ) (snapshot at a w : ℕ) (r : Bool) (below : a < channels
 
 -- ---- the rule for a leaf
 
-module _ (d s : List ℕ) (snapshot at : ℕ) (x : LeafStanding d s snapshot at) where
+module _ (d s : List ℕ) (snapshot at : ℕ) (x : LeafHeld d s snapshot at) where
   pub leaf-standing-names : NamesExpression d (termAt s at)
   leaf-standing-names =
       record {
@@ -93,7 +93,7 @@ module _ (d s : List ℕ) (snapshot at : ℕ) (x : LeafStanding d s snapshot at)
       }
 
   -- where a log stands, and counts
-  pub read-standing : ReadStanding s snapshot at
+  pub read-standing : ReadHeld s snapshot at
   read-standing =
       let l = leaf-at (x .there .tree) in
       let n = l .size in
@@ -107,7 +107,7 @@ module _ (d s : List ℕ) (snapshot at : ℕ) (x : LeafStanding d s snapshot at)
         counted = counts-held s snapshot (x .counts) (x .there .counts);
       }
 
-  module _ (k : ℕ) (kind : KindRead d (termAt s at) k) where
+  module _ (k : ℕ) (kind : ExpressionKindRead d (termAt s at) k) where
     -- a read's record has a channel
     read-fields : k ≡ kindByte rdK → (termAt s at < maxTerms) × (firstAt d (termAt s at) < channels)
     unfolding termKind
@@ -213,12 +213,12 @@ by-left (leaf (orElseT n M N) δ) r = refl
 by-left (fork l m) r = refl
 
 module _ (d s : List ℕ) (snapshot at : ℕ) where
-  pub left-stands : Standing d s snapshot at → getD s at 0 ≡ forkKind → StandsAt d s (at + forkSize)
+  pub left-stands : NodeHeld d s snapshot at → getD s at 0 ≡ forkKind → NodePresent d s (at + forkSize)
   left-stands x f =
       let (l, r, e) = as-fork (x .there .tree) f in
       record { terms = x .terms; tree = l; there = left-at (rw e at (x .there .tree)) }
 
-  pub fork-rule-is : (k : ℕ) (r : Reply) → getD s at 0 ≡ forkKind → NodeRead d s (at + forkSize) k → r ≡ forkRule k →
+  pub fork-rule-is : (k : ℕ) (r : Reply) → getD s at 0 ≡ forkKind → LeafKindRead d s (at + forkSize) k → r ≡ forkRule k →
       RuleRead d s snapshot at r
   unfolding inner
   fork-rule-is k r f read q = record {
@@ -227,7 +227,7 @@ module _ (d s : List ℕ) (snapshot at : ℕ) where
         let z = read .found ts l (left-at (rw e at (y .tree))) in rw (e, q, z) (by-left l m);
   }
 
-  pub leaf-stands : Standing d s snapshot at → (getD s at 0 ≡ forkKind → ⊥) → LeafStanding d s snapshot at
+  pub leaf-stands : NodeHeld d s snapshot at → (getD s at 0 ≡ forkKind → ⊥) → LeafHeld d s snapshot at
   leaf-stands x other =
       let (M, δ, e) = as-leaf (x .there .tree) other in
       let z : TreeAt (x .terms) (leaf M δ) d s at = rw e at (x .there .tree) in

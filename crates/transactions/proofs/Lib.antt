@@ -3,5 +3,5 @@ pub mod Bytes
 pub mod Finding
 pub mod Searching
 pub mod Moving
-pub mod Links
+pub mod InnerMoves
 pub mod Applying

@@ -19,7 +19,7 @@ use Rattle.stored.specs.declared.Place.{Place}
 use Rattle.stored.specs.declared.Place.the-variants.{At, Nowhere}
 use Rattle.stored.specs.Layout.{idleSize, transactionHead}
 use Rattle.stored.specs.Nodes.{nodeStart}
-use Rattle.storedlaws.specs.Positions.{Context, node, beyond, nodeOf, around}
+use Rattle.storedlaws.specs.Positions.{Context, node, beyond, subtreeAt, around}
 use Rattle.storedlaws.proofs.Nodes.{inner-node, inner-past}
 use Rattle.index.specs.Holds.{Holds}
 use Rattle.index.proofs.Holding.{NodeAt, component-here, snapshot-sixteen, node-found, node-nowhere}
@@ -28,7 +28,7 @@ use Rattle.logs.proofs.Places.{counts-held, snapshot-counts}
 use Rattle.leaves.specs.Leaves.{TransactionAt}
 use Rattle.leaves.proofs.Leaves.{node-at, node-inside, Opened, opened}
 use Rattle.transactions.specs.declared.InnerMove.the-variants.{Found, Refused}
-use Rattle.transactions.specs.Finding.{innerReply, replied, StandAt, Standing, RuleRead, Findable, Searched}
+use Rattle.transactions.specs.Finding.{innerReply, replied, HeldAt, NodeHeld, RuleRead, Findable, Searched}
 use Rattle.transactions.specs.Moving.{MoveAt}
 
 -- ---- the reply
@@ -54,7 +54,7 @@ module _ {ts : List Term} {h : Configuration} {s starts : List ℕ} {n : ℕ} (x
       go (outOfRange j) q = rw (chosen-at h (inside p k) (transaction m M σ t) e, q)
 
   -- at a node
-  pub reply-node : (k : ℕ) (y : Context) (u : Tree) → nodeOf t k ≡ node y u →
+  pub reply-node : (k : ℕ) (y : Context) (u : Tree) → subtreeAt t k ≡ node y u →
       replyOf (answerTo h (inside p k)) ≡ innerReply (inner σ u 0)
   unfolding around innerReply
   reply-node k y u f = reply-inside k ∙ ap innerReply (inner-node σ t k y u f) ∙ go (inner σ u 0)
@@ -65,7 +65,7 @@ module _ {ts : List Term} {h : Configuration} {s starts : List ℕ} {n : ℕ} (x
       go (outOfRange j) = refl
 
   -- past the last one
-  pub reply-past : (k j : ℕ) → nodeOf t k ≡ beyond j → replyOf (answerTo h (inside p k)) ≡ innerReply (outOfRange j)
+  pub reply-past : (k j : ℕ) → subtreeAt t k ≡ beyond j → replyOf (answerTo h (inside p k)) ≡ innerReply (outOfRange j)
   reply-past k j f = reply-inside k ∙ ap innerReply (inner-past σ t k j f)
 
 -- ---- an open transaction
@@ -90,7 +90,7 @@ module _ {ts : List Term} {h : Configuration} {d s starts : List ℕ} {n p at : 
   -- a node that code has found
   found-node : (k place : ℕ) → nodeStart s (at + transactionHead) k ≡ At place →
       (y : Context) × (u : Tree) × NodeAt s starts p (there .nodes) k place y u ×
-      StandAt ts u (there .snapshot) d s (at + idleSize) place
+      HeldAt ts u (there .snapshot) d s (at + idleSize) place
   found-node k place f =
       let o = there in
       let (y, u, w) =
@@ -100,7 +100,7 @@ module _ {ts : List Term} {h : Configuration} {d s starts : List ℕ} {n p at : 
       (y, u, w, record { tree = tree; counts = snapshot-at })
 
   missing-node : (k : ℕ) → nodeStart s (at + transactionHead) k ≡ Nowhere →
-      (j : ℕ) × (nodeOf (there .nodes) k ≡ beyond j)
+      (j : ℕ) × (subtreeAt (there .nodes) k ≡ beyond j)
   missing-node k f =
       let o = there in
       node-nowhere (x .holds) p (o .number) (o .block) (o .snapshot) (o .nodes) (o .there) k (rw (x .begins) at f)
@@ -112,7 +112,7 @@ module _ (d s : List ℕ) (transaction : ℕ) (x : Findable d s transaction) whe
   findable-inside = let l = counts-held s _ _ (snapshot-at (x .there)) in omega arith
 
   pub node-standing : (k at : ℕ) (r : Place) → r ≡ nodeStart s (transaction + transactionHead) k → r ≡ At at →
-      Standing d s (transaction + idleSize) at
+      NodeHeld d s (transaction + idleSize) at
   node-standing k at r f g =
       let (y, u, w, z) = found-node (x .there) k at (sym f ∙ g) in
       record {

@@ -44,8 +44,8 @@ abbrev pub renamed : ℕ → List ℕ → List ℕ
 renamed b bytes = set bytes leafTerm b
 
 -- a fork of two leaves that differ from the one there in their terms, which are the fields of its own
-unfoldable pub splitBytes : (d s : List ℕ) → ℕ → List ℕ
-splitBytes d s at =
+unfoldable pub forkBytes : (d s : List ℕ) → ℕ → List ℕ
+forkBytes d s at =
     let bytes = take leafSize (drop at s) in
     forkKind ∷ (renamed (firstAt d (termAt s at)) bytes ++ renamed (secondAt d (termAt s at)) bytes)
 

@@ -49,7 +49,7 @@ pub record ReadAt (s : List ℕ) (snapshot at : ℕ) (δ : Log) (σ : State) : T
   pub counts : CountsAt s snapshot σ
 
 -- some log and some counts do, inside the bytes
-pub record ReadStanding (s : List ℕ) (snapshot at : ℕ) : Type 0 where
+pub record ReadHeld (s : List ℕ) (snapshot at : ℕ) : Type 0 where
   pub log : Log
   pub counts : State
   pub there : ReadAt s snapshot at log counts
@@ -79,30 +79,30 @@ forkRule k =
 -- ---- a node
 
 -- a tree and counts
-pub record StandAt (ts : List Term) (u : Tree) (σ : State) (d s : List ℕ) (snapshot at : ℕ) : Type 0 where
+pub record HeldAt (ts : List Term) (u : Tree) (σ : State) (d s : List ℕ) (snapshot at : ℕ) : Type 0 where
   pub tree : TreeAt ts u d s at
   pub counts : CountsAt s snapshot σ
 
 -- some tree and some counts do, inside the bytes
-pub record Standing (d s : List ℕ) (snapshot at : ℕ) : Type 0 where
+pub record NodeHeld (d s : List ℕ) (snapshot at : ℕ) : Type 0 where
   pub terms : List Term
   pub tree : Tree
   pub counts : State
-  pub there : StandAt terms tree counts d s snapshot at
+  pub there : HeldAt terms tree counts d s snapshot at
   pub inside : at < length s
 
 -- and the tree is a leaf
-pub record LeafStanding (d s : List ℕ) (snapshot at : ℕ) : Type 0 where
+pub record LeafHeld (d s : List ℕ) (snapshot at : ℕ) : Type 0 where
   pub terms : List Term
   pub body : Expression
   pub log : Log
   pub counts : State
-  pub there : StandAt terms (leaf body log) counts d s snapshot at
+  pub there : HeldAt terms (leaf body log) counts d s snapshot at
   pub inside : at + leafSize ≤ length s
 
 -- r is what a move of the tree at its first node is answered, whatever the tree and the counts are
 pub record RuleRead (d s : List ℕ) (snapshot at : ℕ) (r : code.Reply) : Type 0 where
-  pub found : (ts : List Term) (u : Tree) (σ : State) → StandAt ts u σ d s snapshot at →
+  pub found : (ts : List Term) (u : Tree) (σ : State) → HeldAt ts u σ d s snapshot at →
       replyIs r ≡ innerReply (inner σ u 0)
 
 -- ---- a transaction

@@ -21,7 +21,7 @@ ghost use lib.ListN.{length, take, drop};
 ghost use Rattle.stored.specs.Layout.{leafSize};
 ghost use Rattle.stored.specs.Nodes.{treeEnd};
 ghost use Rattle.index.specs.Holds.{CanAlter, Altered};
-ghost use Rattle.transactions.specs.Bytes.{leftSize, splitBytes, leftBytes, Splittable};
+ghost use Rattle.transactions.specs.Bytes.{leftSize, forkBytes, leftBytes, Splittable};
 ghost use Rattle.transactions.specs.Finding.{forkRule};
 
 // A fork and the leaf that is its left side.
@@ -53,9 +53,9 @@ fn leaf_bytes(hall: &[u8], at: usize) -> [u8; LEAF_SIZE]
 }
 
 // A fork of two leaves with the terms of the choice at an offset, each with its log.
-fn split_bytes(decoded: &[u8; DECODED], hall: &[u8], at: usize) -> [u8; SPLIT_SIZE]
+fn fork_bytes(decoded: &[u8; DECODED], hall: &[u8], at: usize) -> [u8; SPLIT_SIZE]
     requires { ⌜ Splittable (now hall) at ⌝ }
-    ensures { λ r. ⌜ r ≡ splitBytes (now (decoded .entry)) (now (hall .entry)) at ⌝ }
+    ensures { λ r. ⌜ r ≡ forkBytes (now (decoded .entry)) (now (hall .entry)) at ⌝ }
 {
     let term = wide(hall[at + LEAF_TERM]);
     let mut left = leaf_bytes(hall, at);
@@ -79,11 +79,11 @@ pub fn split(
     at: usize,
 )
     requires { ⌜ Splittable (now hall) at × CanAlter (now hall) (now starts) components position at (at + leafSize)
-        (splitBytes (now decoded) (now hall) at) ⌝ }
+        (forkBytes (now decoded) (now hall) at) ⌝ }
     ensures { λ _. ⌜ Altered (now (hall .entry)) (now (starts .entry)) components position at (at + leafSize)
-        (splitBytes (now (decoded .entry)) (now (hall .entry)) at) (now (hall .exit)) (now (starts .exit)) ⌝ }
+        (forkBytes (now (decoded .entry)) (now (hall .entry)) at) (now (hall .exit)) (now (starts .exit)) ⌝ }
 {
-    let new = split_bytes(decoded, hall, at);
+    let new = fork_bytes(decoded, hall, at);
     replace_part(hall, starts, components, position, at, at + LEAF_SIZE, &new);
 }
 

@@ -9,7 +9,7 @@ mod reads;
 
 use buffer::wide;
 use leaves::expression_kind;
-use leaves::leaf_kind;
+use leaves::expression_kind_at;
 use records::OR_ELSE;
 use records::RD;
 use records::WT;
@@ -31,7 +31,7 @@ use stored::READ_OFFSET;
 use stored::TRANSACTION_HEAD;
 use stored::WRITE_OFFSET;
 use terms::DECODED;
-ghost use Rattle.transactions.specs.Finding.{Standing, LeafStanding, RuleRead, Findable, Searched};
+ghost use Rattle.transactions.specs.Finding.{NodeHeld, LeafHeld, RuleRead, Findable, Searched};
 ghost use Rattle.transactions.specs.Moving.{CanMove, HasMoved};
 
 // Where a move would be made and by which rule; or why there is none.
@@ -42,7 +42,7 @@ pub enum InnerMove {
 
 // The rule for the leaf that begins at an offset, or that there is none.
 fn leaf_rule(decoded: &[u8; DECODED], hall: &[u8], snapshot: usize, at: usize) -> Reply
-    requires { ⌜ LeafStanding (now decoded) (now hall) snapshot at ⌝ }
+    requires { ⌜ LeafHeld (now decoded) (now hall) snapshot at ⌝ }
     ensures { λ r. ⌜ RuleRead (now (decoded .entry)) (now (hall .entry)) snapshot at r ⌝ }
 {
     let term = hall[at + LEAF_TERM];
@@ -56,11 +56,11 @@ fn leaf_rule(decoded: &[u8; DECODED], hall: &[u8], snapshot: usize, at: usize) -
 
 // The rule for the node that begins at an offset, or that there is none. A fork moves by its left side alone.
 fn rule_at(decoded: &[u8; DECODED], hall: &[u8], snapshot: usize, at: usize) -> Reply
-    requires { ⌜ Standing (now decoded) (now hall) snapshot at ⌝ }
+    requires { ⌜ NodeHeld (now decoded) (now hall) snapshot at ⌝ }
     ensures { λ r. ⌜ RuleRead (now (decoded .entry)) (now (hall .entry)) snapshot at r ⌝ }
 {
     if hall[at] == KIND_FORK {
-        return alternatives::fork_rule(leaf_kind(decoded, hall, at + FORK_SIZE));
+        return alternatives::fork_rule(expression_kind_at(decoded, hall, at + FORK_SIZE));
     }
     leaf_rule(decoded, hall, snapshot, at)
 }

@@ -11,12 +11,12 @@ ghost use mathlib.Core.Path.{_≡_};
 ghost use Prim.Native.Nat.{_+_, _≤_, _<_};
 ghost use lib.ListN.{length, set};
 ghost use Rattle.stored.specs.Layout.{channels, leafTerm, leafSize, noRecord};
-ghost use Rattle.transactions.specs.Finding.{ReadStanding, ReadTried};
+ghost use Rattle.transactions.specs.Finding.{ReadHeld, ReadTried};
 
 // ARDOK where the log of the leaf at an offset, with one more read, of a channel, is readable at the counts that stand
 // at `snapshot`; else ARDF.
 pub fn read_rule(hall: &[u8], snapshot: usize, at: usize, channel: u8) -> Reply
-    requires { ⌜ ReadStanding (now hall) snapshot at × (channel < channels) ⌝ }
+    requires { ⌜ ReadHeld (now hall) snapshot at × (channel < channels) ⌝ }
     ensures { λ r. ⌜ ReadTried (now (hall .entry)) snapshot at channel r ⌝ }
 {
     let size = wide(hall[at + LEAF_LOG_LENGTH]);

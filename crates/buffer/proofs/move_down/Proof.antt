@@ -15,20 +15,20 @@ abbrev μ-loop : tie.MeasureT-loop
 loop-holds : tie.Need-loop-holds Inv-loop μ-loop
 loop-holds c = written-start _ _ _ _
 
-sub-next-block : tie.Need-sub-next-block Inv-loop μ-loop
-sub-next-block c = omega arith
+sub-next-chunk : tie.Need-sub-next-chunk Inv-loop μ-loop
+sub-next-chunk c = omega arith
 
-next-block-requires : tie.Need-next-block-requires Inv-loop μ-loop
-next-block-requires c κs = omega arith
+next-chunk-requires : tie.Need-next-chunk-requires Inv-loop μ-loop
+next-chunk-requires c κs = omega arith
 
-add-move-block : tie.Need-add-move-block Inv-loop μ-loop
-add-move-block c = omega arith
+add-move-chunk : tie.Need-add-move-chunk Inv-loop μ-loop
+add-move-chunk c = omega arith
 
-add-move-block-2 : tie.Need-add-move-block-2 Inv-loop μ-loop
-add-move-block-2 c = omega arith
+add-move-chunk-2 : tie.Need-add-move-chunk-2 Inv-loop μ-loop
+add-move-chunk-2 c = omega arith
 
-move-block-requires : tie.Need-move-block-requires Inv-loop μ-loop
-move-block-requires c κs = (omega arith, omega arith, omega arith)
+move-chunk-requires : tie.Need-move-chunk-requires Inv-loop μ-loop
+move-chunk-requires c κs = (omega arith, omega arith, omega arith)
 
 add-i : tie.Need-add-i Inv-loop μ-loop
 add-i c = omega arith
@@ -52,11 +52,11 @@ move-down-spec =
     Inv-loop
     μ-loop
     loop-holds
-    sub-next-block
-    next-block-requires
-    add-move-block
-    add-move-block-2
-    move-block-requires
+    sub-next-chunk
+    next-chunk-requires
+    add-move-chunk
+    add-move-chunk-2
+    move-chunk-requires
     add-i
     loop-less
     loop-again

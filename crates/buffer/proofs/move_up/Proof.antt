@@ -13,20 +13,20 @@ abbrev μ-loop : tie.MeasureT-loop
 loop-holds : tie.Need-loop-holds Inv-loop μ-loop
 loop-holds c = up-start _ _ _ _
 
-next-block-requires : tie.Need-next-block-requires Inv-loop μ-loop
-next-block-requires c κs = omega arith
+next-chunk-requires : tie.Need-next-chunk-requires Inv-loop μ-loop
+next-chunk-requires c κs = omega arith
 
 sub-left : tie.Need-sub-left Inv-loop μ-loop
 sub-left c = omega arith
 
-add-move-block : tie.Need-add-move-block Inv-loop μ-loop
-add-move-block c = omega arith
+add-move-chunk : tie.Need-add-move-chunk Inv-loop μ-loop
+add-move-chunk c = omega arith
 
-add-move-block-2 : tie.Need-add-move-block-2 Inv-loop μ-loop
-add-move-block-2 c = omega arith
+add-move-chunk-2 : tie.Need-add-move-chunk-2 Inv-loop μ-loop
+add-move-chunk-2 c = omega arith
 
-move-block-requires : tie.Need-move-block-requires Inv-loop μ-loop
-move-block-requires c κs = (omega arith, omega arith, omega arith)
+move-chunk-requires : tie.Need-move-chunk-requires Inv-loop μ-loop
+move-chunk-requires c κs = (omega arith, omega arith, omega arith)
 
 loop-less : tie.Need-loop-less Inv-loop μ-loop
 loop-less c = omega arith
@@ -47,11 +47,11 @@ move-up-spec =
     Inv-loop
     μ-loop
     loop-holds
-    next-block-requires
+    next-chunk-requires
     sub-left
-    add-move-block
-    add-move-block-2
-    move-block-requires
+    add-move-chunk
+    add-move-chunk-2
+    move-chunk-requires
     loop-less
     loop-again
     same-length

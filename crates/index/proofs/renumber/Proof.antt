@@ -1,5 +1,5 @@
 -- `renumber` meets its contract, return by return. Assumes nothing.
-use Rattle.index.proofs.Entries.{can-space, renumbered-none, renumbered-in-place, renumbered-down, renumbered-up}
+use Rattle.index.proofs.Starts.{can-space, renumbered-none, renumbered-in-place, renumbered-down, renumbered-up}
 use borrow.Author.Needs.{needs}
 use Rattle.index.proofs.renumber.Statement.{statement}
 use Rattle.index.proofs.renumber.Tie as tie
@@ -13,26 +13,26 @@ sub-behind c = search needs
 returns : tie.Need-returns
 returns c = search renumbered-none
 
-lower-entries-requires : tie.Need-lower-entries-requires
-lower-entries-requires c κs = search needs
+lower-starts-requires : tie.Need-lower-starts-requires
+lower-starts-requires c κs = search needs
 
 returns-2 : tie.Need-returns-2
 returns-2 c = search renumbered-in-place
 
-lower-entries-requires-2 : tie.Need-lower-entries-requires-2
-lower-entries-requires-2 c κs = search needs
+lower-starts-requires-2 : tie.Need-lower-starts-requires-2
+lower-starts-requires-2 c κs = search needs
 
 returns-3 : tie.Need-returns-3
 returns-3 c = search renumbered-down
 
-add-raise-entries : tie.Need-add-raise-entries
-add-raise-entries c = search needs
+add-raise-starts : tie.Need-add-raise-starts
+add-raise-starts c = search needs
 
-raise-entries-requires : tie.Need-raise-entries-requires
-raise-entries-requires c κs = search needs
+raise-starts-requires : tie.Need-raise-starts-requires
+raise-starts-requires c κs = search needs
 
-space-entries-requires : tie.Need-space-entries-requires
-space-entries-requires c κs = search can-space
+space-starts-requires : tie.Need-space-starts-requires
+space-starts-requires c κs = search can-space
 
 returns-4 : tie.Need-returns-4
 returns-4 c = search renumbered-up
@@ -44,11 +44,11 @@ renumber-spec =
     add-next
     sub-behind
     returns
-    lower-entries-requires
+    lower-starts-requires
     returns-2
-    lower-entries-requires-2
+    lower-starts-requires-2
     returns-3
-    add-raise-entries
-    raise-entries-requires
-    space-entries-requires
+    add-raise-starts
+    raise-starts-requires
+    space-starts-requires
     returns-4)

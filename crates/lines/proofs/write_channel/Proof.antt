@@ -1,15 +1,15 @@
 -- Writing the line of a channel meets its contract.
 -- Assumes nothing.
 use borrow.Author.Needs.{needs}
-use Rattle.lines.proofs.Pieces.{head-fits, gain-fits, final-fits, channel-end-fits, channel-written}
+use Rattle.lines.proofs.Pieces.{head-fits, netWord-fits, final-fits, channel-end-fits, channel-written}
 use Rattle.lines.proofs.write_channel.Statement.{statement}
 use Rattle.lines.proofs.write_channel.Tie as tie
 
 write-channel-head-requires : tie.Need-write-channel-head-requires
 write-channel-head-requires c κs = search head-fits
 
-write-gain-requires : tie.Need-write-gain-requires
-write-gain-requires c κs = search gain-fits
+write-net-word-requires : tie.Need-write-net-word-requires
+write-net-word-requires c κs = search netWord-fits
 
 wide-requires : tie.Need-wide-requires
 wide-requires c κs = search needs
@@ -31,7 +31,7 @@ write-channel-spec =
     tie.close
     (tie.spec
     write-channel-head-requires
-    write-gain-requires
+    write-net-word-requires
     wide-requires
     write-words-requires
     write-byte-requires

@@ -6,7 +6,7 @@ use mir.Syntax.{w64}
 use mir.Val.{Fits}
 use Rattle.counters.specs.Counted.{countersOf}
 use borrow.Author.Needs.{needs}
-use Rattle.runs.proofs.Turns.{Going, run-begins, run-keeps-length, run-ends, run-malformed, nearer, done-fits, made-keeps-length, run-refused, run-goes-on}
+use Rattle.runs.proofs.RunSteps.{Going, run-begins, run-keeps-length, run-ends, run-malformed, nearer, done-fits, made-keeps-length, run-refused, run-goes-on}
 use Rattle.runs.proofs.run_held.Statement.{statement}
 use Rattle.runs.proofs.run_held.Tie as tie
 

@@ -7,11 +7,11 @@ use Rattle.transactions.proofs.rule_at.Tie as tie
 shared-slice-read-if1 : tie.Need-shared-slice-read-if1
 shared-slice-read-if1 c = search needs
 
-add-leaf-kind : tie.Need-add-leaf-kind
-add-leaf-kind c = search needs
+add-expression-kind-at : tie.Need-add-expression-kind-at
+add-expression-kind-at c = search needs
 
-leaf-kind-requires : tie.Need-leaf-kind-requires
-leaf-kind-requires c κs = search left-stands
+expression-kind-at-requires : tie.Need-expression-kind-at-requires
+expression-kind-at-requires c κs = search left-stands
 
 fork-rule-requires : tie.Need-fork-rule-requires
 fork-rule-requires c κs = search needs
@@ -30,8 +30,8 @@ rule-at-spec =
     tie.close
     (tie.spec
     shared-slice-read-if1
-    add-leaf-kind
-    leaf-kind-requires
+    add-expression-kind-at
+    expression-kind-at-requires
     fork-rule-requires
     returns
     leaf-rule-requires

@@ -23,11 +23,11 @@ add-if1 c = search needs
 returns : tie.Need-returns
 returns c = search narrow-enough
 
-opened-count-requires : tie.Need-opened-count-requires
-opened-count-requires c κs = search needs
+component-count-requires : tie.Need-component-count-requires
+component-count-requires c κs = search needs
 
 add-result : tie.Need-add-result
-add-result c = omega (arith, opened-few _ _ _ _ _ (c .before .before .before .before .pre) (c .opened-count .ensures))
+add-result c = omega (arith, opened-few _ _ _ _ _ (c .before .before .before .before .pre) (c .component-count .ensures))
 
 returns-2 : tie.Need-returns-2
 returns-2 c = search counted-enough
@@ -42,6 +42,6 @@ is-crowded-spec =
     wide-requires
     add-if1
     returns
-    opened-count-requires
+    component-count-requires
     add-result
     returns-2)

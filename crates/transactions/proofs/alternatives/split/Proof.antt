@@ -4,8 +4,8 @@ use borrow.Author.Needs.{needs}
 use Rattle.transactions.proofs.alternatives.split.Statement.{statement}
 use Rattle.transactions.proofs.alternatives.split.Tie as tie
 
-split-bytes-requires : tie.Need-split-bytes-requires
-split-bytes-requires c κs = search needs
+fork-bytes-requires : tie.Need-fork-bytes-requires
+fork-bytes-requires c κs = search needs
 
 add-replace-part : tie.Need-add-replace-part
 add-replace-part c = search needs
@@ -26,7 +26,7 @@ pub split-spec : {M : Type 1} → statement M
 split-spec =
     tie.close
     (tie.spec
-    split-bytes-requires
+    fork-bytes-requires
     add-replace-part
     slice-aggregate-replace-part
     replace-part-requires

@@ -9,7 +9,7 @@ use Rattle.stored.specs.Layout.{idleSize, hallBytes, indexSize}
 -- ---- one loop
 
 -- of the places from `at` on, those numbered from lo up to hi have new values, and all others are as they were
-pub record Entered (old : List ℕ) (at lo hi : ℕ) (value : ℕ → ℕ) (new : List ℕ) : Type 0 where
+pub record StartsSet (old : List ℕ) (at lo hi : ℕ) (value : ℕ → ℕ) (new : List ℕ) : Type 0 where
   pub sized : length new ≡ length old
   pub inside : (k : ℕ) → lo ≤ k → k < hi → getD new (at + k) 0 ≡ value k
   pub before : (i : ℕ) → i < at + lo → getD new i 0 ≡ getD old i 0

@@ -22,7 +22,7 @@ use Rattle.index.specs.Choices.{afterwards}
 use Rattle.index.proofs.InPlace.{term-stored, action-stored, node-alters}
 use Rattle.leaves.specs.Leaves.{TreeAt}
 use Rattle.leaves.proofs.Leaves.{left-at}
-use Rattle.transactions.specs.Bytes.{sizeAt, logged, actionLogged, splitBytes, leftSize, leftBytes}
+use Rattle.transactions.specs.Bytes.{sizeAt, logged, actionLogged, forkBytes, leftSize, leftBytes}
 use Rattle.transactions.specs.Moving.{MoveAt}
 use Rattle.transactions.proofs.Finding.{leaf-at}
 use Rattle.transactions.proofs.Moving.{ReadLogged, ReadFailed, WriteLogged, ChoiceSplit, LeftDropped, LeftKept, Inside, move-inside}
@@ -104,8 +104,8 @@ module _ {ts : List Term} {h : Configuration} {d s starts : List ℕ} {n p k at 
       (i .form) [] old new back was is at to (omega arith) ends
 
   pub aoi-link : (x : MoveAt ts h d s starts n p k 11 at) →
-      Alters ts h (after-move (move-inside x)) s starts n p at (at + leafSize) (splitBytes d s at)
-  unfolding splitBytes treeBytes
+      Alters ts h (after-move (move-inside x)) s starts n p at (at + leafSize) (forkBytes d s at)
+  unfolding forkBytes treeBytes
   aoi-link x =
       let i = move-inside x in
       let m : ChoiceSplit (i .subtree) (i .becomes) = i .makes in
@@ -113,9 +113,9 @@ module _ {ts : List Term} {h : Configuration} {d s starts : List ℕ} {n p k at 
       rw (m .was) at (i .stands) in
       let l = leaf-at u in
       let size = leaf-bytes (orElseT (m .number) (m .first) (m .second)) (m .log) (l .log .few) in
-      let new : splitBytes d s at ≡ treeBytes (fork (leaf (m .first) (m .log)) (leaf (m .second) (m .log))) =
+      let new : forkBytes d s at ≡ treeBytes (fork (leaf (m .first) (m .log)) (leaf (m .second) (m .log))) =
       rw (leaf-here u, l .fields .1, l .fields .2) in
-      part-link x i (treeBytes (leaf (orElseT (m .number) (m .first) (m .second)) (m .log))) (splitBytes d s at) []
+      part-link x i (treeBytes (leaf (orElseT (m .number) (m .first) (m .second)) (m .log))) (forkBytes d s at) []
       (ap treeBytes (m .was) ∙ sym (append-nil _)) (ap treeBytes (m .is) ∙ sym new ∙ sym (append-nil _)) (at + leafSize)
       (omega arith)
 

@@ -12,18 +12,18 @@ use borrow.Author.Tests.{ltb-true, ltb-false}
 use mir.Syntax.{w64}
 use mir.Val.{Fits}
 use Rattle.stored.specs.Layout.{idleSize, indexSize}
-use Rattle.index.specs.Entries.{Entered, moved, spaced, Movable, CanSpace, CanRenumber, Renumbered}
+use Rattle.index.specs.Starts.{StartsSet, moved, spaced, Movable, CanSpace, CanRenumber, Renumbered}
 
 -- ---- a loop
 
 -- before the first turn
-pub entered-none : (old : List ℕ) (at k : ℕ) (f : ℕ → ℕ) → Entered old at k k f old
-entered-none old at k f = record { sized = refl; inside = λ i l m. absurd (omega arith); before = λ i l. refl; behind = λ i l. refl }
+pub starts-set-none : (old : List ℕ) (at k : ℕ) (f : ℕ → ℕ) → StartsSet old at k k f old
+starts-set-none old at k f = record { sized = refl; inside = λ i l m. absurd (omega arith); before = λ i l. refl; behind = λ i l. refl }
 
-module _ (old : List ℕ) (at lo hi : ℕ) (f : ℕ → ℕ) (new : List ℕ) (x : Entered old at lo hi f new) where
+module _ (old : List ℕ) (at lo hi : ℕ) (f : ℕ → ℕ) (new : List ℕ) (x : StartsSet old at lo hi f new) where
   -- a value behind those entered
-  pub entered-next : (v : ℕ) → v ≡ f hi → lo ≤ hi → at + hi < length old → Entered old at lo (hi + 1) f (set new (at + hi) v)
-  entered-next v e l m = record {
+  pub starts-set-next : (v : ℕ) → v ≡ f hi → lo ≤ hi → at + hi < length old → StartsSet old at lo (hi + 1) f (set new (at + hi) v)
+  starts-set-next v e l m = record {
     sized = length-set new (at + hi) v ∙ x .sized;
     inside = λ k a b. go k a b (ltb k hi) refl;
     before = λ i a. getD-set-other new (at + hi) i v 0 (λ z. omega arith) ∙ x .before i a;
@@ -38,9 +38,9 @@ module _ (old : List ℕ) (at lo hi : ℕ) (f : ℕ → ℕ) (new : List ℕ) (x
           let s = x .sized in rw z (getD-set-same new (at + hi) v 0 (omega arith) ∙ e)
 
   -- a value before them
-  pub entered-previous : (v : ℕ) → v ≡ f (lo - 1) → 0 < lo → lo ≤ hi → at + hi ≤ length old →
-      Entered old at (lo - 1) hi f (set new (at + (lo - 1)) v)
-  entered-previous v e l m o = record {
+  pub starts-set-previous : (v : ℕ) → v ≡ f (lo - 1) → 0 < lo → lo ≤ hi → at + hi ≤ length old →
+      StartsSet old at (lo - 1) hi f (set new (at + (lo - 1)) v)
+  starts-set-previous v e l m o = record {
     sized = length-set new (at + (lo - 1)) v ∙ x .sized;
     inside = λ k a b. go k a b (ltb k lo) refl;
     before = λ i a. getD-set-other new (at + (lo - 1)) i v 0 (λ z. omega arith) ∙ x .before i (omega arith);
@@ -69,7 +69,7 @@ module _ (old new : List ℕ) (from n less more : ℕ) (x : Movable old from n l
   value = rw same
 
 -- to a lower place, or in place: those from i on still stand
-module _ (old new : List ℕ) (from to i n less more : ℕ) (x : Entered old to 0 i (moved old from less more) new)
+module _ (old new : List ℕ) (from to i n less more : ℕ) (x : StartsSet old to 0 i (moved old from less more) new)
     (m : Movable old from n less more) (o : to ≤ from) (l : i < n) where
   pub lower-above : less ≤ getD new (from + i) 0
   lower-above = above old new from n less more m i l (x .behind (from + i) (omega arith))
@@ -77,15 +77,15 @@ module _ (old new : List ℕ) (from to i n less more : ℕ) (x : Entered old to 
   pub lower-fits : Fits w64 (getD new (from + i) 0 - less + more)
   lower-fits = fits old new from n less more m i l (x .behind (from + i) (omega arith))
 
-  pub lower-turn : Entered old to 0 (i + 1) (moved old from less more) (set new (to + i) (getD new (from + i) 0 - less + more))
+  pub lower-turn : StartsSet old to 0 (i + 1) (moved old from less more) (set new (to + i) (getD new (from + i) 0 - less + more))
   lower-turn =
       let a = m .inside in
       let s = m .sized in
-      entered-next old to 0 i (moved old from less more) new x _
+      starts-set-next old to 0 i (moved old from less more) new x _
       (value old new from n less more m i l (x .behind (from + i) (omega arith))) (omega arith) (omega arith)
 
 -- to a higher place: those before number `left` still stand
-module _ (old new : List ℕ) (from to left n less more : ℕ) (x : Entered old to left n (moved old from less more) new)
+module _ (old new : List ℕ) (from to left n less more : ℕ) (x : StartsSet old to left n (moved old from less more) new)
     (m : Movable old from n less more) (o : from ≤ to) (room : to + n ≤ indexSize) (l : left ≤ n) (some : 0 < left) where
   pub raise-above : less ≤ getD new (from + (left - 1)) 0
   raise-above = above old new from n less more m (left - 1) (omega arith) (x .before (from + (left - 1)) (omega arith))
@@ -93,37 +93,37 @@ module _ (old new : List ℕ) (from to left n less more : ℕ) (x : Entered old 
   pub raise-fits : Fits w64 (getD new (from + (left - 1)) 0 - less + more)
   raise-fits = fits old new from n less more m (left - 1) (omega arith) (x .before (from + (left - 1)) (omega arith))
 
-  pub raise-turn : Entered old to (left - 1) n (moved old from less more)
+  pub raise-turn : StartsSet old to (left - 1) n (moved old from less more)
       (set new (to + (left - 1)) (getD new (from + (left - 1)) 0 - less + more))
   raise-turn =
       let s = m .sized in
-      entered-previous old to left n (moved old from less more) new x _
+      starts-set-previous old to left n (moved old from less more) new x _
       (value old new from n less more m (left - 1) (omega arith) (x .before (from + (left - 1)) (omega arith))) some l (omega arith)
 
 -- ---- idle components that follow one another
 
-pub space-turn : (old new : List ℕ) (first i n : ℕ) → Entered old first 1 i (spaced (getD old first 0)) new →
+pub space-turn : (old new : List ℕ) (first i n : ℕ) → StartsSet old first 1 i (spaced (getD old first 0)) new →
     CanSpace old first n → 1 ≤ i → i < n →
-    Entered old first 1 (i + 1) (spaced (getD old first 0)) (set new (first + i) (getD old first 0 + idleSize * i))
+    StartsSet old first 1 (i + 1) (spaced (getD old first 0)) (set new (first + i) (getD old first 0 + idleSize * i))
 space-turn old new first i n x s l m =
     let z = s .sized in
-    let o = s .inside in entered-next old first 1 i (spaced (getD old first 0)) new x _ refl l (omega arith)
+    let o = s .inside in starts-set-next old first 1 i (spaced (getD old first 0)) new x _ refl l (omega arith)
 
 -- ---- after the last turn
 
-pub entered-up : (old : List ℕ) (at lo i n : ℕ) (f : ℕ → ℕ) (new : List ℕ) → Entered old at lo i f new → i ≤ n → n ≤ i →
-    Entered old at lo n f new
-entered-up old at lo i n f new x l m = let z : i ≡ n = omega arith in rw z at x
+pub starts-set-up : (old : List ℕ) (at lo i n : ℕ) (f : ℕ → ℕ) (new : List ℕ) → StartsSet old at lo i f new → i ≤ n → n ≤ i →
+    StartsSet old at lo n f new
+starts-set-up old at lo i n f new x l m = let z : i ≡ n = omega arith in rw z at x
 
-pub entered-down : (old : List ℕ) (at left n : ℕ) (f : ℕ → ℕ) (new : List ℕ) → Entered old at left n f new → left ≤ 0 →
-    Entered old at 0 n f new
-entered-down old at left n f new x l = let z : left ≡ 0 = omega arith in rw z at x
+pub starts-set-down : (old : List ℕ) (at left n : ℕ) (f : ℕ → ℕ) (new : List ℕ) → StartsSet old at left n f new → left ≤ 0 →
+    StartsSet old at 0 n f new
+starts-set-down old at left n f new x l = let z : left ≡ 0 = omega arith in rw z at x
 
 -- ---- the index after all
 
 module _ (old : List ℕ) (n p pieces less more : ℕ) (c : CanRenumber old n p pieces less more) where
   -- one pass over the entries behind, where they move by no place or by one
-  one-pass : (new : List ℕ) → pieces ≤ 1 → Entered old (p + pieces) 0 (n - p) (moved old (p + 1) less more) new →
+  one-pass : (new : List ℕ) → pieces ≤ 1 → StartsSet old (p + pieces) 0 (n - p) (moved old (p + 1) less more) new →
       Renumbered old n p pieces less more new
   one-pass new h x = record {
     sized = x .sized ∙ c .movable .sized;
@@ -137,7 +137,7 @@ module _ (old : List ℕ) (n p pieces less more : ℕ) (c : CanRenumber old n p 
 
   -- in place
   pub renumbered-in-place : (new : List ℕ) → pieces ≡ 1 →
-      Entered old (p + 1) 0 (n - p) (moved old (p + 1) less more) new → Renumbered old n p pieces less more new
+      StartsSet old (p + 1) 0 (n - p) (moved old (p + 1) less more) new → Renumbered old n p pieces less more new
   renumbered-in-place new e x = one-pass new (omega arith) (rw e x)
 
   -- not at all
@@ -150,13 +150,13 @@ module _ (old : List ℕ) (n p pieces less more : ℕ) (c : CanRenumber old n p 
   })
 
   -- by a place down
-  pub renumbered-down : (new : List ℕ) → pieces ≡ 0 → Entered old p 0 (n - p) (moved old (p + 1) less more) new →
+  pub renumbered-down : (new : List ℕ) → pieces ≡ 0 → StartsSet old p 0 (n - p) (moved old (p + 1) less more) new →
       Renumbered old n p pieces less more new
   renumbered-down new e x = let z : p + pieces ≡ p = omega arith in one-pass new (omega arith) (rw z x)
 
   -- up, and the entries of what was laid down
   pub can-space : (mid : List ℕ) → (pieces ≡ 0 → ⊥) →
-      Entered old (p + pieces) 0 (n - p) (moved old (p + 1) less more) mid → CanSpace mid p pieces
+      StartsSet old (p + pieces) 0 (n - p) (moved old (p + 1) less more) mid → CanSpace mid p pieces
   can-space mid h x =
       let l = c .there in
       let r = c .room in
@@ -169,8 +169,8 @@ module _ (old : List ℕ) (n p pieces less more : ℕ) (c : CanRenumber old n p 
       go false t = let o = ltb-false 0 pieces t in absurd (h (omega arith))
 
   pub renumbered-up : (mid new : List ℕ) → (pieces ≡ 0 → ⊥) →
-      Entered old (p + pieces) 0 (n - p) (moved old (p + 1) less more) mid →
-      Entered mid p 1 pieces (spaced (getD mid p 0)) new → Renumbered old n p pieces less more new
+      StartsSet old (p + pieces) 0 (n - p) (moved old (p + 1) less more) mid →
+      StartsSet mid p 1 pieces (spaced (getD mid p 0)) new → Renumbered old n p pieces less more new
   renumbered-up mid new h x y = record {
     sized = y .sized ∙ x .sized ∙ c .movable .sized;
     before = λ i l. y .before i (omega arith) ∙ x .before i (omega arith);

@@ -1,15 +1,15 @@
--- `space_entries` meets its contract: before each turn the entries before number i stand. Assumes nothing.
+-- `space_starts` meets its contract: before each turn the entries before number i stand. Assumes nothing.
 use Prim.Native.Nat.{_≤_, _-_}
 use native.Mathlib.Omega.{arith}
 use lib.ListN.{getD}
-use Rattle.index.specs.Entries.{Entered, spaced}
-use Rattle.index.proofs.Entries.{entered-none, space-turn, entered-up}
+use Rattle.index.specs.Starts.{StartsSet, spaced}
+use Rattle.index.proofs.Starts.{starts-set-none, space-turn, starts-set-up}
 use borrow.Author.Needs.{needs}
-use Rattle.index.proofs.space_entries.Statement.{statement}
-use Rattle.index.proofs.space_entries.Tie as tie
+use Rattle.index.proofs.space_starts.Statement.{statement}
+use Rattle.index.proofs.space_starts.Tie as tie
 
 abbrev Inv-loop : tie.InvT-loop
-Inv-loop starts₀ first n begin i₀ starts i = (1 ≤ i) × (i ≤ n) × Entered starts₀ first 1 i (spaced (getD starts₀ first 0)) starts
+Inv-loop starts₀ first n begin i₀ starts i = (1 ≤ i) × (i ≤ n) × StartsSet starts₀ first 1 i (spaced (getD starts₀ first 0)) starts
 
 abbrev μ-loop : tie.MeasureT-loop
 μ-loop starts₀ first n begin i₀ starts i = n - i
@@ -21,7 +21,7 @@ element-copy-out-begin : tie.Need-element-copy-out-begin Inv-loop μ-loop
 element-copy-out-begin c = search needs
 
 loop-holds : tie.Need-loop-holds Inv-loop μ-loop
-loop-holds c = (omega arith, omega arith, search entered-none)
+loop-holds c = (omega arith, omega arith, search starts-set-none)
 
 mul-starts : tie.Need-mul-starts Inv-loop μ-loop
 mul-starts c = search needs
@@ -48,10 +48,10 @@ loop-again : tie.Need-loop-again Inv-loop μ-loop
 loop-again c = (omega arith, omega arith, search space-turn)
 
 returns : tie.Need-returns Inv-loop μ-loop
-returns c = search entered-up
+returns c = search starts-set-up
 
-pub space-entries-spec : {M : Type 1} → statement M
-space-entries-spec =
+pub space-starts-spec : {M : Type 1} → statement M
+space-starts-spec =
     tie.close
     (tie.spec
     Inv-loop

@@ -1,9 +1,9 @@
--- `opened_count` meets its contract. Assumes nothing.
+-- `component_count` meets its contract. Assumes nothing.
 use native.Mathlib.Omega.{arith}
 use Rattle.opening.proofs.Opening.{process-fits, opened-counted}
 use borrow.Author.Needs.{needs}
-use Rattle.opening.proofs.opened_count.Statement.{statement}
-use Rattle.opening.proofs.opened_count.Tie as tie
+use Rattle.opening.proofs.component_count.Statement.{statement}
+use Rattle.opening.proofs.component_count.Tie as tie
 
 slice-aggregate-write-components : tie.Need-slice-aggregate-write-components
 slice-aggregate-write-components c = search needs
@@ -14,6 +14,6 @@ write-components-requires c κs = process-fits _ _ _ _ (c .before .pre) (omega a
 returns : tie.Need-returns
 returns c = search opened-counted
 
-pub opened-count-spec : {M : Type 1} → statement M
-opened-count-spec =
+pub component-count-spec : {M : Type 1} → statement M
+component-count-spec =
     tie.close (tie.spec slice-aggregate-write-components write-components-requires returns)

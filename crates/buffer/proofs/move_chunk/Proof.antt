@@ -1,10 +1,10 @@
--- `move_block` meets its contract: what the block has read is what is written. Assumes nothing.
+-- `move_chunk` meets its contract: what the chunk has read is what is written. Assumes nothing.
 use native.Mathlib.Omega.{arith}
 use lib.ListN.{length-take}
 use borrow.Author.Needs.{needs}
-use Rattle.buffer.proofs.Written.{read-count, by-block}
-use Rattle.buffer.proofs.move_block.Statement.{statement}
-use Rattle.buffer.proofs.move_block.Tie as tie
+use Rattle.buffer.proofs.Written.{read-count, by-chunk}
+use Rattle.buffer.proofs.move_chunk.Statement.{statement}
+use Rattle.buffer.proofs.move_chunk.Tie as tie
 
 add-end : tie.Need-add-end
 add-end c = search needs
@@ -24,8 +24,8 @@ part-write-at-end c = search needs
 write-at-requires : tie.Need-write-at-requires
 write-at-requires c κs = search needs
 
-array-share-prefix-block : tie.Need-array-share-prefix-block
-array-share-prefix-block c = search needs
+array-share-prefix-chunk : tie.Need-array-share-prefix-chunk
+array-share-prefix-chunk c = search needs
 
 slice-aggregate-write-at-2 : tie.Need-slice-aggregate-write-at-2
 slice-aggregate-write-at-2 c = search read-count
@@ -37,10 +37,10 @@ same-length : tie.Need-same-length
 same-length c = search needs
 
 returns : tie.Need-returns
-returns c = search by-block
+returns c = search by-chunk
 
-pub move-block-spec : {M : Type 1} → statement M
-move-block-spec =
+pub move-chunk-spec : {M : Type 1} → statement M
+move-chunk-spec =
     tie.close
     (tie.spec
     add-end
@@ -49,7 +49,7 @@ move-block-spec =
     part-write-at-start
     part-write-at-end
     write-at-requires
-    array-share-prefix-block
+    array-share-prefix-chunk
     slice-aggregate-write-at-2
     write-at-requires-2
     same-length

@@ -1,8 +1,8 @@
--- `split_bytes` meets its contract. Assumes nothing.
+-- `fork_bytes` meets its contract. Assumes nothing.
 use Rattle.transactions.proofs.Bytes.{left-fits, right-fits, split-made}
 use borrow.Author.Needs.{needs}
-use Rattle.transactions.proofs.alternatives.split_bytes.Statement.{statement}
-use Rattle.transactions.proofs.alternatives.split_bytes.Tie as tie
+use Rattle.transactions.proofs.alternatives.fork_bytes.Statement.{statement}
+use Rattle.transactions.proofs.alternatives.fork_bytes.Tie as tie
 
 add-wide : tie.Need-add-wide
 add-wide c = search needs
@@ -58,8 +58,8 @@ array-write-new c = search needs
 returns : tie.Need-returns
 returns c = search split-made
 
-pub split-bytes-spec : {M : Type 1} → statement M
-split-bytes-spec =
+pub fork-bytes-spec : {M : Type 1} → statement M
+fork-bytes-spec =
     tie.close
     (tie.spec
     add-wide

@@ -1,20 +1,23 @@
--- `lower_entries` meets its contract: before each turn the first i entries are moved. Assumes nothing.
-use Prim.Native.Nat.{_≤_, _-_}
+-- `raise_starts` meets its contract: before each turn all but the first `left` entries are moved. Assumes nothing.
+use Prim.Native.Nat.{_≤_}
 use native.Mathlib.Omega.{arith}
-use Rattle.index.specs.Entries.{Entered, moved}
-use Rattle.index.proofs.Entries.{entered-none, lower-above, lower-fits, lower-turn, entered-up}
+use Rattle.index.specs.Starts.{StartsSet, moved}
+use Rattle.index.proofs.Starts.{starts-set-none, raise-above, raise-fits, raise-turn, starts-set-down}
 use borrow.Author.Needs.{needs}
-use Rattle.index.proofs.lower_entries.Statement.{statement}
-use Rattle.index.proofs.lower_entries.Tie as tie
+use Rattle.index.proofs.raise_starts.Statement.{statement}
+use Rattle.index.proofs.raise_starts.Tie as tie
 
 abbrev Inv-loop : tie.InvT-loop
-Inv-loop starts₀ from to n less more i₀ starts i = (i ≤ n) × Entered starts₀ to 0 i (moved starts₀ from less more) starts
+Inv-loop starts₀ from to n less more left₀ starts left = (left ≤ n) × StartsSet starts₀ to left n (moved starts₀ from less more) starts
 
 abbrev μ-loop : tie.MeasureT-loop
-μ-loop starts₀ from to n less more i₀ starts i = n - i
+μ-loop starts₀ from to n less more left₀ starts left = left
 
 loop-holds : tie.Need-loop-holds Inv-loop μ-loop
-loop-holds c = (omega arith, search entered-none)
+loop-holds c = (omega arith, search starts-set-none)
+
+sub-left : tie.Need-sub-left Inv-loop μ-loop
+sub-left c = search needs
 
 add-starts : tie.Need-add-starts Inv-loop μ-loop
 add-starts c = search needs
@@ -26,10 +29,10 @@ element-copy-out-starts : tie.Need-element-copy-out-starts Inv-loop μ-loop
 element-copy-out-starts c = search needs
 
 sub-starts : tie.Need-sub-starts Inv-loop μ-loop
-sub-starts c = search lower-above
+sub-starts c = search raise-above
 
 add-starts-2 : tie.Need-add-starts-2 Inv-loop μ-loop
-add-starts-2 c = search lower-fits
+add-starts-2 c = search raise-fits
 
 add-starts-3 : tie.Need-add-starts-3 Inv-loop μ-loop
 add-starts-3 c = search needs
@@ -40,25 +43,23 @@ mul-starts-2 c = search needs
 element-write-starts : tie.Need-element-write-starts Inv-loop μ-loop
 element-write-starts c = search needs
 
-add-i : tie.Need-add-i Inv-loop μ-loop
-add-i c = search needs
-
 loop-less : tie.Need-loop-less Inv-loop μ-loop
 loop-less c = search needs
 
 loop-again : tie.Need-loop-again Inv-loop μ-loop
-loop-again c = (omega arith, search lower-turn)
+loop-again c = (omega arith, search raise-turn)
 
 returns : tie.Need-returns Inv-loop μ-loop
-returns c = search entered-up
+returns c = search starts-set-down
 
-pub lower-entries-spec : {M : Type 1} → statement M
-lower-entries-spec =
+pub raise-starts-spec : {M : Type 1} → statement M
+raise-starts-spec =
     tie.close
     (tie.spec
     Inv-loop
     μ-loop
     loop-holds
+    sub-left
     add-starts
     mul-starts
     element-copy-out-starts
@@ -67,7 +68,6 @@ lower-entries-spec =
     add-starts-3
     mul-starts-2
     element-write-starts
-    add-i
     loop-less
     loop-again
     returns)
