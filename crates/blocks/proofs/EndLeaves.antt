@@ -7,6 +7,8 @@ use mathlib.Core.Bool.{Bool, true, false}
 use mathlib.Core.Option.{some}
 use mathlib.Core.List.{List, [], _∷_}
 use lib.ListN.{length, getD, take, drop, replicate, getElem?, length-append}
+use mir.Syntax.{w64}
+use mir.Val.{Fits}
 use borrow.Author.Tests.{le-leb, lt-leb}
 use Rattle.calculus.specs.Syntax.{rd, wt, Log, State}
 use Rattle.calculus.specs.Log.{WT}
@@ -71,6 +73,17 @@ module _ (s : List ℕ) (leaf n : ℕ) (x : CanLookCommit s leaf n) where
   pub length-inside : leaf + leafLogLength < length s
   length-inside = let l = leaf-inside in omega arith
 
+  -- offsets in the leaf are numbers
+  pub length-fits : Fits w64 (length s) → Fits w64 (leaf + leafLogLength)
+  length-fits f = let l = leaf-inside in omega arith
+
+  pub log-fits : Fits w64 (length s) → Fits w64 (leaf + leafLog)
+  log-fits f = let l = leaf-inside in omega arith
+
+  -- counts stand at the hall's front, and before the leaf
+  pub snapshot-inside : leaf - 16 + channels ≤ length s
+  snapshot-inside = let l = leaf-inside in omega arith
+
   pub counts-inside : channels ≤ length s
   counts-inside = counts-held s 0 (x .counts) (x .here .counts)
 
@@ -87,6 +100,11 @@ module _ (s : List ℕ) (leaf n : ℕ) (x : CanLookCommit s leaf n) where
         let c = stored-outputs-count s (leaf + leafLog) size (x .log) (x .here .log) (e ∙ x .here .size) o w in
         let l = writes-few (x .log) in
         let f = x .here .log .few in omega arith
+
+    -- and so is the number of components afterwards
+    pub many-fits : (o : Outputs) → OutputsAre o (writesOf (take size (drop (leaf + leafLog) s))) →
+        Fits w64 (n - 1 + o .count)
+    many-fits o w = let l = outputs-few o w in let f = x .few in omega arith
 
 -- ---- the reply to a commit
 

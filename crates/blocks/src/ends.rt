@@ -30,8 +30,8 @@ fn look_commit(hall: &[u8], leaf: usize, components: usize) -> Reply
     let size = wide(hall[leaf + LEAF_LOG_LENGTH]);
     if logs::readable(hall, leaf + LEAF_LOG, size, 0) {
         let outputs = logs::outputs_of(hall, leaf + LEAF_LOG, size);
-        let others = components - 1;
-        if MAX_COMPONENTS < others + outputs.count {
+        let after = components - 1 + outputs.count;
+        if MAX_COMPONENTS < after {
             return Reply::Refused(TOO_MANY_COMPONENTS);
         }
         return Reply::Moved(ATOK);

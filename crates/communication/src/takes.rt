@@ -77,8 +77,7 @@ fn write_successors(decoded: &[u8; DECODED], term: u8, laid: &mut [u8; LAID]) ->
 {
     let i = wide(term);
     let end = write_components(decoded, wide(terms::second_of(decoded, i)), laid, 0);
-    let kind = terms::kind_of(decoded, i);
-    if kind == REPEATED_TAKE {
+    if terms::kind_of(decoded, i) == REPEATED_TAKE {
         return write_idle(laid, end, KIND_WAITING, term);
     }
     end

@@ -14,7 +14,7 @@ sub-left : tie.Need-sub-left
 sub-left c = search needs
 
 returns-2 : tie.Need-returns-2
-returns-2 c = search found-act-short
+returns-2 c = search (needs, found-act-short)
 
 add-position : tie.Need-add-position
 add-position c = search needs
@@ -29,7 +29,7 @@ returns-3 : tie.Need-returns-3
 returns-3 c = search found-act
 
 returns-4 : tie.Need-returns-4
-returns-4 c = search found-inside-short
+returns-4 c = search (needs, found-inside-short)
 
 add-position-2 : tie.Need-add-position-2
 add-position-2 c = search needs

@@ -1,4 +1,4 @@
--- `lay` meets its contract. Assumes nothing.
+-- `write_successors` meets its contract. Assumes nothing.
 use Rattle.communication.proofs.Taking.{write-successors-inside, continuation-fits, behind-fits, take-laid, repeat-laid}
 use borrow.Author.Needs.{needs}
 use Rattle.communication.proofs.takes.write_successors.Statement.{statement}
