@@ -93,8 +93,8 @@ pub fn printed(line: &Line) -> String {
     match line {
         Line::Heading(text) => format!("{text}\n"),
         Line::Input { name, input } => {
-            let run = String::from_utf8(printed_run(input)).expect("plain text");
-            format!("{name}\n{run}")
+            let run = printed_run(input);
+            format!("{name}\n{}", String::from_utf8_lossy(&run))
         }
         Line::Stored {
             name,
@@ -145,7 +145,8 @@ fn first_step(table: &[u8], hall: &[u8], choices: &[u8]) -> (Answer, u8) {
         2 => vec![2, byte(1), byte(2)],
         kind => vec![kind],
     };
-    match calls::step(table, &mut hall.to_vec(), &mut Tally::FRESH, &choice) {
+    let mut tally = Tally::FRESH;
+    match calls::step(table, &mut hall.to_vec(), &mut tally, &choice) {
         StepAnswer::Moved(rule) => {
             let place = choice.len();
             (Answer { number: 0, place }, rule)

@@ -149,7 +149,9 @@ fn print_run(table: &[u8], hall: &mut [u8], choices: &[u8]) {
 
 // The calls that write to the hall.
 const OPENING: u8 = 0;
+
 const STEP: u8 = 1;
+
 const RUN: u8 = 2;
 
 // One of them, on a copy of the hall.

@@ -22,8 +22,11 @@ pub const BYTES: usize = 16400;
 
 // What is being read.
 const NAME: u8 = 0;
+
 const INPUT: u8 = 1;
+
 const HALL: u8 = 2;
+
 const CHOICES: u8 = 3;
 
 // A line as far as it is read.

@@ -20,7 +20,7 @@ fn numbers(text: &str, letter: &str) -> Option<Vec<usize>> {
 
 /// The numbers that follow these words in a name, at most two of them.
 fn said(name: &str, words: &str) -> Option<Vec<usize>> {
-    let rest = name.split_once(words)?.1;
+    let rest = name.rsplit_once(words)?.1;
     let words = rest.split_whitespace().filter(|word| *word != "at");
     Some(words.map_while(|word| word.parse().ok()).collect())
 }
