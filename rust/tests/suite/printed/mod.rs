@@ -1,0 +1,126 @@
+//! The printed run: every byte of the report, and none behind it.
+
+use reference::build::Builder;
+use reference::edges::{lines, Line};
+use reference::generator::{self, Random};
+use reference::print::printed_run;
+use ruonfidd::{ffi, print_run, print_run_into, REPORT_BYTES};
+
+use crate::common::seeds::{say, seeds};
+
+/// The list of edges that the proved program runs.
+const EDGES: &str = include_str!("../../../../crates/edges/stdin");
+
+/// The report on an input by all calls that make one, each as the second
+/// implementation has it, and with the bytes behind it as they were.
+#[track_caller]
+fn report(input: &[u8]) -> Vec<u8> {
+    let expected = printed_run(input);
+    assert!(expected.len() <= 947, "{} bytes", expected.len());
+    for before in [0, 170, b'\n'] {
+        let mut bare = [before; REPORT_BYTES];
+        let mut length = usize::MAX;
+        ffi::report(input, &mut bare, &mut length);
+        let mut lent = [before; REPORT_BYTES];
+        assert_eq!(print_run_into(input, &mut lent), length, "{input:?}");
+        assert_eq!(bare[..length], expected, "{input:?}");
+        assert!(
+            bare[length..].iter().all(|byte| *byte == before),
+            "{input:?}"
+        );
+        assert!(lent == bare, "{input:?}");
+    }
+    let owned = print_run(input);
+    assert_eq!(owned.as_bytes(), expected, "{input:?}");
+    assert_eq!(owned.as_str().as_bytes(), expected);
+    assert_eq!(owned.to_string().as_bytes(), expected);
+    expected
+}
+
+/// The number in the first line; none for `long`.
+fn number(report: &[u8]) -> Option<usize> {
+    let text = std::str::from_utf8(report).expect("ASCII");
+    text.strip_prefix("R ")?
+        .split(' ')
+        .next()
+        .and_then(|number| number.parse().ok())
+}
+
+#[test]
+fn on_the_edges() {
+    let mut met = [0; 21];
+    let mut long = 0;
+    for line in lines(EDGES) {
+        let Line::Input { name, input } = line else {
+            continue;
+        };
+        match number(&report(&input)) {
+            Some(number) => met[number] += 1,
+            None => long += 1,
+        }
+        assert!(!name.is_empty());
+    }
+    assert!(long >= 2, "{long}");
+    // 10 and 11 cannot be printed: the program brings its own hall.
+    for (number, times) in met.iter().enumerate() {
+        assert_eq!(
+            *times > 0,
+            number != 10 && number != 11,
+            "{number}: {met:?}"
+        );
+    }
+}
+
+/// 64 attempts of 15 nodes, 16 full trays, a refused choice far behind.
+#[test]
+fn of_many_lines() {
+    let mut table = Builder::new();
+    for _ in 0..100 {
+        table.nil();
+    }
+    let end = table.end();
+    let two = table.or_else(end, end);
+    let four = table.or_else(two, two);
+    let eight = table.or_else(four, four);
+    let block = table.atom(eight);
+    let all = table.copies(block, 64);
+    for tray in 0..16 {
+        table.tokens(tray, 255);
+    }
+    let mut input = table.start(all);
+    for position in 0..64 {
+        input.extend([1, position]);
+        for node in [0, 1, 2, 5, 8, 9, 12] {
+            input.extend([2, position, node]);
+        }
+    }
+    input.push(9);
+    let report = report(&input);
+    let mut expected = "R 12 1472 512\nC 0 0 0\n".to_string();
+    for tray in 0..16 {
+        expected += &format!("T {tray} 255 0 255\n");
+    }
+    expected += &"A 104 15\n".repeat(64);
+    assert_eq!(report, expected.as_bytes());
+}
+
+#[test]
+fn by_chance() {
+    let mut met = [0; 21];
+    let mut long = 0;
+    for seed in seeds("printed runs", 40_000) {
+        let mut random = Random::new(seed);
+        match number(&report(&generator::input(&mut random))) {
+            Some(number) => met[number] += 1,
+            None => long += 1,
+        }
+    }
+    say(&format!(
+        "printed runs: numbers 0 to 20 {met:?}, {long} long"
+    ));
+    assert!(long >= 200, "{long}");
+    assert!(met[0] >= 6_000, "{met:?}");
+    for number in (1..10).chain(12..21) {
+        assert!(met[number] >= 20, "{number} too seldom: {met:?}");
+    }
+}
