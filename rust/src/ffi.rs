@@ -461,18 +461,18 @@ mod tests {
     #[test]
     fn a_report_writes_its_bytes_and_their_number_and_nothing_beside_them() {
         for (input, text) in [
-            (&[][..], &b"R 9 0 0\n"[..]),
-            (&[1, 13, 0], b"R 0 0 0\nC 0 0 0\n"),
-            (&[2, 3, 13, 0], b"R 0 0 0\nC 0 0 0\nP 3\n"),
-            (&[0; 16_385], b"long\n"),
+            (vec![], &b"R 9 0 0\n"[..]),
+            (vec![1, 13, 0], b"R 0 0 0\nC 0 0 0\n"),
+            (vec![2, 3, 13, 0], b"R 0 0 0\nC 0 0 0\nP 3\n"),
+            (vec![0; 16_385], b"long\n"),
         ] {
-            let before = input.to_vec();
+            let before = input.clone();
             let mut buffer = [170; REPORT_BYTES + 2];
             let mut written = [usize::MAX; 3];
             let output = (&mut buffer[1..=REPORT_BYTES])
                 .try_into()
                 .expect("an array");
-            report(input, output, &mut written[1]);
+            report(&input, output, &mut written[1]);
             assert_eq!(written, [usize::MAX, text.len(), usize::MAX]);
             assert_eq!(buffer[1..=text.len()], *text);
             assert_eq!(buffer[0], 170);

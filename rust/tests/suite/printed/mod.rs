@@ -96,12 +96,10 @@ fn of_many_lines() {
     }
     input.push(9);
     let report = report(&input);
-    let mut expected = "R 12 1472 512\nC 0 0 0\n".to_string();
-    for tray in 0..16 {
-        expected += &format!("T {tray} 255 0 255\n");
-    }
-    expected += &"A 104 15\n".repeat(64);
-    assert_eq!(report, expected.as_bytes());
+    let mut expected = vec!["R 12 1472 512".to_string(), "C 0 0 0".to_string()];
+    expected.extend((0..16).map(|tray| format!("T {tray} 255 0 255")));
+    expected.extend(vec!["A 104 15".to_string(); 64]);
+    assert_eq!(report, (expected.join("\n") + "\n").as_bytes());
 }
 
 #[test]
