@@ -20,13 +20,16 @@ const TEXT: usize = 65536;
 // No line has more bytes.
 pub const BYTES: usize = 16400;
 
-// What is being read.
+// The parts of a line: its name,
 const NAME: u8 = 0;
 
+// the bytes of an input, or of a table where a hall follows,
 const INPUT: u8 = 1;
 
+// of a stored hall,
 const HALL: u8 = 2;
 
+// of choices.
 const CHOICES: u8 = 3;
 
 // A line as far as it is read.

@@ -11,6 +11,9 @@ use crate::common::seeds::{say, seeds};
 /// The list of edges that the proved program runs.
 const EDGES: &str = include_str!("../../../../crates/edges/stdin");
 
+/// A document with examples.
+const FORMAT: &str = include_str!("../../../../docs/FORMAT.md");
+
 /// The report on an input by all calls that make one, each as the second
 /// implementation has it, and with the bytes behind it as they were.
 #[track_caller]
@@ -69,6 +72,24 @@ fn on_the_edges() {
             "{number}: {met:?}"
         );
     }
+}
+
+/// The examples of the document on the byte forms: a block marked `run` has its
+/// input first.
+#[test]
+fn on_the_examples_of_the_byte_forms() {
+    let mut met = 0;
+    for block in FORMAT.split("\n```run\n").skip(1) {
+        let (input, said) = block.split_once('\n').expect("an input's line");
+        let said = said.split("\n```").next().expect("a block's end");
+        let Line::Input { input, .. } = &lines(&format!("example:{input}\n"))[0] else {
+            panic!("{input} is not an input");
+        };
+        let report = String::from_utf8(report(input)).expect("ASCII");
+        assert!(report.starts_with(said.trim_end_matches("...")), "{report}");
+        met += 1;
+    }
+    assert_eq!(met, 31);
 }
 
 /// 64 attempts of 15 nodes, 16 full trays, a refused choice far behind.
