@@ -27,8 +27,8 @@ fn blocks(document: &str, mark: &str) -> Vec<Vec<String>> {
 
 /// Whether what is printed is what the block says. A last line `...` stands for any further lines.
 fn agrees(block: &[String]) -> bool {
-    let list = lines(&format!("example:{}\n", block[0]));
-    let printed = printed(&list[0]);
+    let example = lines(&format!("example:{}\n", block[0]));
+    let printed = printed(&example[0]);
     let printed: Vec<&str> = printed.lines().skip(1).collect();
     match block[1..].split_last() {
         Some((last, said)) if last == "..." => {
