@@ -1,4 +1,9 @@
-//! Reads the list of edges from standard input and prints what each gives.
+//! Reads the list of edges from standard input and prints what each gives. In
+//! the repository's top folder,
+//!
+//! `cargo run --release --offline --manifest-path reference/Cargo.toml --bin edges < crates/edges/stdin > crates/edges/stdout`
+//!
+//! makes the expected output of the proved program again.
 
 use std::io::{self, Read, Write};
 
