@@ -1,7 +1,7 @@
 //! Inputs of a printed run by chance.
 
 use super::{accepted_table, choices, contended_table, damaged_table, nearly_full_table};
-use super::{Random, Shape};
+use super::{record_starts, Random, Shape};
 use crate::hall::opening;
 use crate::print::LONGEST_INPUT;
 use crate::table::read_table;
@@ -45,6 +45,9 @@ fn table_and_choices(random: &mut Random) -> Vec<u8> {
             accepted_table(random, shape)
         }
     };
+    if random.percent(30) {
+        fill_trays(random, &mut input);
+    }
     let Ok(table) = read_table(&input) else {
         return input;
     };
@@ -56,6 +59,15 @@ fn table_and_choices(random: &mut Random) -> Vec<u8> {
     };
     input.extend(choices(random, &table, &first, how_many, 50));
     input
+}
+
+/// The trays that have tokens get as many as a tray can hold, or one less.
+fn fill_trays(random: &mut Random, table: &mut [u8]) {
+    for start in record_starts(table) {
+        if table[start] == 12 {
+            table[start + 2] = random.byte_between(254, 255);
+        }
+    }
 }
 
 /// A byte changed, added or lost.

@@ -140,6 +140,6 @@ fn by_chance() {
     assert!(long >= 200, "{long}");
     assert!(met[0] >= 6_000, "{met:?}");
     for number in (1..10).chain(12..21) {
-        assert!(met[number] >= 20, "{number} too seldom: {met:?}");
+        assert!(met[number] >= 40, "{number} too seldom: {met:?}");
     }
 }
