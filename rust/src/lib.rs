@@ -15,9 +15,9 @@
 //! # What a call may be relied on for
 //!
 //! - It takes any bytes. There is no input on which it stops the program.
-//! - It keeps nothing from one call to the next and needs little stack, so any
-//!   thread may call it at any time. A [`Hall`] owns memory for its bytes;
-//!   nothing else is allocated.
+//! - It keeps nothing from one call to the next and needs little stack, a
+//!   printed run some 20 KB, so any thread may call it at any time. A [`Hall`]
+//!   and a [`Printed`] own memory for their bytes; nothing else is allocated.
 //! - The same bytes always get the same answer. Only which accepted choice is
 //!   suggested is promised by nothing, and may differ in another version.
 //! - Refused by table or hall, 1 to 11, hall and tally stay as they are. A
