@@ -17,6 +17,7 @@
 //! | [`run`] | a list of choices, the tally |
 //! | [`calls`] | the public calls on bytes |
 //! | [`print`](mod@print) | the printed run |
+//! | [`edges`] | the list of edges and what each prints |
 //! | [`atomic`] | the one-step run and the steps of its converse |
 //! | [`calculus`] | `AtCCS` without hiding, from document 004 |
 //! | [`stands_for`] | the process that a hall stands for |
@@ -31,6 +32,7 @@ pub mod build;
 pub mod calculus;
 pub mod calls;
 pub mod choice;
+pub mod edges;
 #[cfg(feature = "generator")]
 pub mod generator;
 pub mod hall;

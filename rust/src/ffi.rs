@@ -11,7 +11,11 @@
 
 use std::ptr::addr_of_mut;
 
+use crate::REPORT_BYTES;
+
 mod library {
+    use crate::REPORT_BYTES;
+
     extern "C" {
         pub(super) fn ruonfidd_check_table(
             table: *const u8,
@@ -64,6 +68,12 @@ mod library {
             choice: *mut [u8; 3],
             place: *mut usize,
         ) -> u8;
+        pub(super) fn ruonfidd_report(
+            input: *const u8,
+            length: usize,
+            output: *mut [u8; REPORT_BYTES],
+            written: *mut usize,
+        );
     }
 }
 
@@ -192,10 +202,20 @@ pub fn suggest(table: &[u8], hall: &[u8], choice: &mut [u8; 3], place: &mut usiz
     }
 }
 
+/// In `written` how many bytes the report has; it stands at the front of the
+/// output, and what follows it there is as it was.
+pub fn report(input: &[u8], output: &mut [u8; REPORT_BYTES], written: &mut usize) {
+    // SAFETY: the pointer and the length are those of one slice, which the call
+    // only reads; the array, whose length is the one that the call asks for,
+    // and `written` are the caller's alone meanwhile. The call keeps none of
+    // them.
+    unsafe { library::ruonfidd_report(input.as_ptr(), input.len(), output, written) }
+}
+
 #[cfg(test)]
 mod tests {
-    use super::{check_hall, check_table, fresh_tally, open_hall, run, step, suggest};
-    use crate::HALL_BYTES;
+    use super::{check_hall, check_table, fresh_tally, open_hall, report, run, step, suggest};
+    use crate::{HALL_BYTES, REPORT_BYTES};
 
     const TABLE: [u8; 14] = [7, 10, 1, 0, 9, 0, 1, 6, 2, 12, 0, 1, 13, 3];
 
@@ -436,5 +456,28 @@ mod tests {
         suggested(&TABLE[..13], &begun(), 2, 12, [0, 0, 0]);
         suggested(&TABLE, &[], 10, 0, [0, 0, 0]);
         suggested(&TABLE, &vec![1; HALL_BYTES], 11, 0, [0, 0, 0]);
+    }
+
+    #[test]
+    fn a_report_writes_its_bytes_and_their_number_and_nothing_beside_them() {
+        for (input, text) in [
+            (vec![], &b"R 9 0 0\n"[..]),
+            (vec![1, 13, 0], b"R 0 0 0\nC 0 0 0\n"),
+            (vec![2, 3, 13, 0], b"R 0 0 0\nC 0 0 0\nP 3\n"),
+            (vec![0; 16_385], b"long\n"),
+        ] {
+            let before = input.clone();
+            let mut buffer = [170; REPORT_BYTES + 2];
+            let mut written = [usize::MAX; 3];
+            let output = (&mut buffer[1..=REPORT_BYTES])
+                .try_into()
+                .expect("an array");
+            report(&input, output, &mut written[1]);
+            assert_eq!(written, [usize::MAX, text.len(), usize::MAX]);
+            assert_eq!(buffer[1..=text.len()], *text);
+            assert_eq!(buffer[0], 170);
+            assert!(buffer[text.len() + 1..].iter().all(|byte| *byte == 170));
+            assert_eq!(input, before);
+        }
     }
 }

@@ -15,9 +15,9 @@
 //! # What a call may be relied on for
 //!
 //! - It takes any bytes. There is no input on which it stops the program.
-//! - It keeps nothing from one call to the next and needs little stack, so any
-//!   thread may call it at any time. A [`Hall`] owns memory for its bytes;
-//!   nothing else is allocated.
+//! - It keeps nothing from one call to the next and needs little stack, a
+//!   printed run some 20 KB, so any thread may call it at any time. A [`Hall`]
+//!   and a [`Printed`] own memory for their bytes; nothing else is allocated.
 //! - The same bytes always get the same answer. Only which accepted choice is
 //!   suggested is promised by nothing, and may differ in another version.
 //! - Refused by table or hall, 1 to 11, hall and tally stay as they are. A
@@ -67,18 +67,24 @@ mod choice;
 #[doc(hidden)]
 pub mod ffi;
 mod hall;
+mod printed;
 mod refusal;
 mod suggested;
 mod tally;
 
 pub use choice::{Choice, Moved, Stopped};
 pub use hall::Hall;
+pub use printed::Printed;
 pub use refusal::Refusal;
 pub use suggested::{Followed, Suggested, SuggestedSteps};
 pub use tally::Tally;
 
 /// The length of a stored hall.
 pub const HALL_BYTES: usize = 11_344;
+
+/// The length of the memory that a run is printed into. No printed run is
+/// longer.
+pub const REPORT_BYTES: usize = 1_024;
 
 /// Whether a rule table is accepted.
 ///
@@ -238,6 +244,46 @@ pub fn suggest(table: &[u8], hall: &[u8]) -> Result<Option<Choice>, Refusal> {
     let (mut choice, mut place) = ([0; 3], 0);
     let number = ffi::suggest(table, hall, &mut choice, &mut place);
     Refusal::unless_zero(number, place).map(|()| Choice::from_bytes(choice))
+}
+
+/// Prints a run into lent memory and gives how many bytes it has: a rule table
+/// up to its first start record is opened, the bytes behind it are run as
+/// choices, and the lines say what came out. [`print_run`] brings its own
+/// memory.
+///
+/// There is nothing to refuse: a refused table or choice is what the lines say.
+/// The lines stand at the front of the output, at most 947 bytes; what follows
+/// them there is as it was. `docs/FORMAT.md` has an example of each line.
+///
+/// ```
+/// let mut output = [b'.'; ruonfidd::REPORT_BYTES];
+/// // A put into tray 3, and the choice that does it.
+/// let length = ruonfidd::print_run_into(&[2, 3, 13, 0, 1, 0], &mut output);
+/// assert_eq!(output[..length], *b"R 0 2 1\nC 0 0 0\nT 3 0 1 1\n");
+/// assert!(output[length..].iter().all(|byte| *byte == b'.'));
+/// ```
+pub fn print_run_into(input: &[u8], output: &mut [u8; REPORT_BYTES]) -> usize {
+    let mut length = 0;
+    ffi::report(input, output, &mut length);
+    length
+}
+
+/// Prints a run: [`print_run_into`] in memory of its own.
+///
+/// ```
+/// // A block that reads tray 0 and writes tray 1; it begins, reads, writes, is
+/// // committed, and the token is put.
+/// let table = [7, 10, 1, 0, 9, 0, 1, 6, 2, 12, 0, 1, 13, 3];
+/// let choices = [1, 0, 2, 0, 0, 2, 0, 0, 1, 0, 1, 0];
+/// let printed = ruonfidd::print_run(&[&table[..], &choices[..]].concat());
+/// assert_eq!(printed.as_str(), "R 0 12 5\nC 1 0 0\nT 0 1 -1 0\nT 1 0 1 1\n");
+///
+/// // Above 16,384 bytes nothing is run.
+/// assert_eq!(ruonfidd::print_run(&[0; 16_385]).as_str(), "long\n");
+/// ```
+#[must_use]
+pub fn print_run(input: &[u8]) -> Printed {
+    Printed::of(input)
 }
 
 /// The README's example.

@@ -5,6 +5,7 @@ mod calculus_match;
 mod common;
 mod converse;
 mod documents;
+mod edges;
 mod generators;
 mod moves;
 mod one_step;

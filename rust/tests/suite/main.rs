@@ -4,5 +4,6 @@
 mod common;
 mod halls;
 mod header;
+mod printed;
 mod runs;
 mod tables;

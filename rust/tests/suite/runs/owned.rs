@@ -284,5 +284,5 @@ fn the_same_as_the_second_implementation() {
         assert!(hall.as_bytes()[..] == lent && tally == lent_tally);
         assert_eq!(lent.len(), HALL_BYTES);
     }
-    assert!(refused > 400 && still > 50, "{refused} {still}");
+    assert!(refused > 300 && still > 50, "{refused} {still}");
 }

@@ -111,7 +111,7 @@ fn all_tables_of_4_bytes() {
     let counts = all_tables(&values, 4);
     assert_eq!(counts.total(), 28 * 28 * 28 * 28);
     assert_eq!(counts.0[0], 16 + 2 + 4);
-    counts.at_least([22, 300_000, 10_000, 0, 60_000, 150_000, 200, 0, 400, 3_000]);
+    counts.at_least([22, 190_000, 5_000, 0, 30_000, 75_000, 100, 0, 250, 1_700]);
 }
 
 /// Over 0 to 16.
@@ -126,6 +126,6 @@ fn all_tables_of_5_bytes() {
     assert_eq!(counts.total(), 17 * 17 * 17 * 17 * 17);
     assert_eq!(counts.0[0], 3 * 9 + 2 * 16 * (3 + 1) + 2);
     counts.at_least([
-        157, 400_000, 60_000, 0, 30_000, 800_000, 4_000, 0, 5_000, 20_000,
+        157, 220_000, 34_000, 0, 18_000, 400_000, 2_200, 0, 2_900, 10_000,
     ]);
 }

@@ -1,17 +1,10 @@
-//! How long a table's check takes: the engine beside the second implementation.
-//!
-//! `cargo run --release --example bench_tables`
-//!
-//! Both are called on the same bytes in the same run, by turns. One figure is
-//! the mean of a batch of calls; each line gives the median of the batches and,
-//! as spread, the lower and the upper quartile.
-
-mod measure;
+//! Checking a table.
 
 use std::hint::black_box;
 
-use measure::{print_head, print_row};
 use reference::build::Builder;
+
+use crate::measure::{print_part, print_row};
 
 /// Batches for each of the two on each table.
 const ROUNDS: usize = 201;
@@ -79,12 +72,8 @@ fn unfolded() -> Vec<u8> {
     table.start(last)
 }
 
-fn main() {
-    println!("Nanoseconds per call on accepted tables: median of {ROUNDS} batches, and quartiles.");
-    println!("Nothing is cleared between calls: the same table is read again and again, and stays");
-    println!("in the caches. The caller lends no buffer but the table. Working memory that a call");
-    println!("sets up for itself, the engine's zeroed arrays too, is part of its figure.");
-    print_head("table");
+pub(crate) fn print() {
+    print_part("checking a table");
     for (name, length, table) in [
         ("the scope's example", 14, example()),
         ("mixed", 200, mixed()),

@@ -1,20 +1,12 @@
-//! How long opening a hall and checking a stored one take: the engine beside
-//! the second implementation.
-//!
-//! `cargo run --release --example bench_halls`
-//!
-//! Both are called on the same bytes in the same run, by turns. One figure is
-//! the mean of a batch of calls; each line gives the median of the batches and,
-//! as spread, the lower and the upper quartile.
-
-mod measure;
+//! Opening a hall and checking a stored one; the table is read by each call.
 
 use std::hint::black_box;
 
-use measure::{print_head, print_row};
 use reference::build::Builder;
 use reference::hall::{encode, Action, Hall, Leaf, Log, Node, Rest, Station};
 use ruonfidd::HALL_BYTES;
+
+use crate::measure::{print_part, print_row};
 
 /// Batches for each of the two on each input.
 const ROUNDS: usize = 101;
@@ -82,15 +74,9 @@ fn checking(name: &str, stations: Vec<Station>) {
     );
 }
 
-fn main() {
+pub(crate) fn print() {
     let small = Station::Waiting { term: 1 };
-    println!(
-        "Nanoseconds per call, table reading included: median of {ROUNDS} batches, and quartiles."
-    );
-    println!(
-        "Nothing is cleared between calls: an opening writes over the hall that the last one left."
-    );
-    print_head("call");
+    print_part("opening and checking a hall, the table's reading included");
     opening("open, width 1", &puts(0));
     opening("open, width 64", &puts(6));
     checking("check, 4 small stations", vec![small.clone(); 4]);

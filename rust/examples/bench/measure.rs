@@ -1,7 +1,5 @@
 //! Two calls measured side by side: by turns, in one run, in batches.
 
-#![allow(dead_code)] // Each program uses a part of this.
-
 use std::hint::black_box;
 use std::time::{Duration, Instant};
 
@@ -86,8 +84,12 @@ pub(crate) fn print_row_per(
 }
 
 /// The head of the table.
-pub(crate) fn print_head(what: &str) {
-    println!();
-    println!("| {what} | engine | second implementation | engine / second |");
+pub(crate) fn print_head() {
+    println!("| workload | engine | second implementation | engine / second |");
     println!("|---|---|---|---|");
+}
+
+/// A row that says what the rows below it are.
+pub(crate) fn print_part(what: &str) {
+    println!("| **{what}** | | | |");
 }

@@ -1,20 +1,12 @@
-//! How long running choices takes: the engine beside the second implementation.
+//! Running choices and suggesting one.
 //!
-//! `cargo run --release --example bench_runs`
-//!
-//! Both are called on the same bytes in the same run, by turns. One figure is
-//! the mean of a batch of calls; each line gives the median of the batches and,
-//! as spread, the lower and the upper quartile. A long list is run in one call,
-//! from a hall that is copied before each call; the copy is part of the figure,
-//! which is for one choice. Calls of one choice each follow one another on one
-//! hall, by choices that lead back to where they began; the figure is for one
-//! call.
-
-mod measure;
+//! A long list is run in one call, from a hall that is copied before each call;
+//! the copy is part of the figure, which is for one choice. Calls of one choice
+//! each follow one another on one hall, by choices that lead back to where they
+//! began; the figure is for one call.
 
 use std::hint::black_box;
 
-use measure::{print_head, print_row, print_row_per};
 use reference::build::Builder;
 use reference::calls;
 use reference::choice::Choice as Second;
@@ -24,6 +16,8 @@ use reference::moves::{make_move, Outcome};
 use reference::run::Tally as SecondTally;
 use reference::table::{byte_of, read_table, Table};
 use ruonfidd::{Tally, HALL_BYTES};
+
+use crate::measure::{print_part, print_row, print_row_per};
 
 /// Batches for each of the two on each workload.
 const ROUNDS: usize = 31;
@@ -375,27 +369,20 @@ fn large_table() -> Workload {
     Workload::new("a table of 200 terms", table, hall, &cycle)
 }
 
-fn main() {
-    println!("Median of {ROUNDS} batches, and quartiles.");
-    println!();
-    println!("Nanoseconds for one choice of a long list, its share of the call included.");
-    print_head("workload");
+pub(crate) fn print() {
+    print_part("a choice of a long list, its share of the call included");
     ring().cycling(500).long();
     last_of_many().cycling(250).long();
     deep().long();
     contended().long();
     walk(5_000).long();
-    println!();
-    println!("Nanoseconds for a call of one choice.");
-    print_head("workload");
+    print_part("a call of one choice");
     ring().single();
     last_of_many().single();
     full("a full hall, at its last station", 63).single();
     full("a full hall, at its first station", 0).single();
     large_table().single();
-    println!();
-    println!("Nanoseconds for a suggestion, beside the set of all accepted choices.");
-    print_head("workload");
+    print_part("a suggestion, beside the set of all accepted choices");
     ring().suggest();
     last_of_many().suggest();
     full("a full hall", 63).suggest();

@@ -1,0 +1,178 @@
+// The answers of the calls on a table, a stored hall and choices. Each call gets the hall as it was stored:
+//
+//     H number place            checking the hall
+//     O number place            opening the table in it
+//     M number place rule       the first choice alone
+//     R number place done       running the choices
+//     C commits failed retries  the tally then
+//     B byte ..                 the hall then, up to its last byte that is not 0
+//     S 1 or S 0                whether a choice is suggested then; S 0 number place where table or hall is refused
+//
+// A missing byte of the first choice counts as 0.
+use crate::BYTES;
+use buffer::byte_at;
+use buffer::wide;
+use buffer::write_at;
+use counters::Counters;
+use engine::HallVerdict;
+use engine::OpenAnswer;
+use engine::RunAnswer;
+use engine::StepAnswer;
+use engine::SuggestAnswer;
+use libc::STDOUT_FILENO;
+
+fn print_field(n: usize) {
+    io::write_all(STDOUT_FILENO, b" ");
+    io::print_decimal(STDOUT_FILENO, n as u64);
+}
+
+fn end_line() {
+    io::write_all(STDOUT_FILENO, b"\n");
+}
+
+// A letter and one, two or three numbers.
+fn print_one(letter: u8, a: usize) {
+    let one = [letter];
+    io::write_all(STDOUT_FILENO, &one);
+    print_field(a);
+    end_line();
+}
+
+fn print_two(letter: u8, a: usize, b: usize) {
+    let one = [letter];
+    io::write_all(STDOUT_FILENO, &one);
+    print_field(a);
+    print_field(b);
+    end_line();
+}
+
+fn print_three(letter: u8, a: usize, b: usize, c: usize) {
+    let one = [letter];
+    io::write_all(STDOUT_FILENO, &one);
+    print_field(a);
+    print_field(b);
+    print_field(c);
+    end_line();
+}
+
+fn print_counters(counters: Counters) {
+    print_three(
+        b'C',
+        counters.commits as usize,
+        counters.failed as usize,
+        counters.retries as usize,
+    );
+}
+
+fn print_check(table: &[u8], hall: &[u8]) {
+    match engine::check_hall(table, hall) {
+        HallVerdict::WellFormed => print_two(b'H', 0, 0),
+        HallVerdict::Refused { number, place } => print_two(b'H', wide(number), place),
+    }
+}
+
+fn print_opening(table: &[u8], hall: &mut [u8]) {
+    match engine::open_hall(table, hall) {
+        OpenAnswer::Opened(_) => print_two(b'O', 0, 0),
+        OpenAnswer::Refused { number, place } => print_two(b'O', wide(number), place),
+    }
+}
+
+fn print_step(table: &[u8], hall: &mut [u8], choices: &[u8]) {
+    let kind = byte_at(choices, 0);
+    let position = byte_at(choices, 1);
+    let node = byte_at(choices, 2);
+    match engine::step(table, hall, kind, position, node, Counters::fresh()) {
+        StepAnswer::Moved {
+            rule,
+            place,
+            counters: _,
+        } => print_three(b'M', 0, place, wide(rule)),
+        StepAnswer::Refused { number, place } => print_three(b'M', wide(number), place, 0),
+    }
+}
+
+// The bytes up to the last that is not 0.
+fn used(hall: &[u8]) -> usize {
+    let mut n = hall.len();
+    while 0 < n {
+        if byte_at(hall, n - 1) != 0 {
+            return n;
+        }
+        n -= 1;
+    }
+    0
+}
+
+fn print_bytes(hall: &[u8]) {
+    io::write_all(STDOUT_FILENO, b"B");
+    let n = used(hall);
+    let mut i: usize = 0;
+    while i < n {
+        print_field(wide(byte_at(hall, i)));
+        i += 1;
+    }
+    end_line();
+}
+
+fn print_suggestion(table: &[u8], hall: &[u8]) {
+    match engine::suggest(table, hall) {
+        SuggestAnswer::Suggested(_) => print_one(b'S', 1),
+        SuggestAnswer::Still => print_one(b'S', 0),
+        SuggestAnswer::Refused { number, place } => print_three(b'S', 0, wide(number), place),
+    }
+}
+
+fn print_run(table: &[u8], hall: &mut [u8], choices: &[u8]) {
+    match engine::run(table, hall, choices, Counters::fresh()) {
+        RunAnswer::Completed {
+            place,
+            done,
+            counters,
+        } => {
+            print_three(b'R', 0, place, done);
+            print_counters(counters);
+        }
+        RunAnswer::Refused {
+            number,
+            place,
+            done,
+            counters,
+        } => {
+            print_three(b'R', wide(number), place, done);
+            print_counters(counters);
+        }
+    }
+    print_bytes(hall);
+    print_suggestion(table, hall);
+}
+
+// The calls that write to the hall.
+const OPENING: u8 = 0;
+
+const STEP: u8 = 1;
+
+const RUN: u8 = 2;
+
+// One of them, on a copy of the hall.
+fn print_call(call: u8, table: &[u8], hall: &[u8], choices: &[u8]) {
+    let mut copy = [0u8; BYTES];
+    let n = hall.len();
+    if BYTES < n {
+        return;
+    }
+    write_at(&mut copy, 0, hall);
+    match call {
+        OPENING => print_opening(table, &mut copy[..n]),
+        STEP => print_step(table, &mut copy[..n], choices),
+        _ => print_run(table, &mut copy[..n], choices),
+    }
+}
+
+// All answers.
+pub fn print_calls(table: &[u8], hall: &[u8], choices: &[u8]) {
+    print_check(table, hall);
+    print_call(OPENING, table, hall, choices);
+    print_call(STEP, table, hall, choices);
+    print_call(RUN, table, hall, choices);
+}

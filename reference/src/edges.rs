@@ -1,0 +1,156 @@
+//! The list of edges: a name and bytes to a line, and what is printed of each.
+//!
+//! A line is a name, a colon, and bytes in decimal; `3x1,0` stands for
+//! `1 0 1 0 1 0`. Where `/` cuts the bytes in three they are a table, a stored
+//! hall and choices. A line without a colon is a heading.
+
+use crate::calls::{self, Answer, StepAnswer};
+use crate::print::printed_run;
+use crate::run::Tally;
+use crate::table::Refusal;
+
+/// A list longer than this is not read whole.
+pub const LONGEST_LIST: usize = 65_536;
+
+/// A line with more bytes than this is not read whole.
+pub const MOST_BYTES: usize = 16_400;
+
+/// A line of the list.
+#[derive(Clone, Debug, PartialEq, Eq)]
+pub enum Line {
+    /// A line that is printed as it stands.
+    Heading(String),
+    /// The input of a printed run.
+    Input {
+        /// What it tries.
+        name: String,
+        /// Its bytes.
+        input: Vec<u8>,
+    },
+    /// A call on a stored hall.
+    Stored {
+        /// What it tries.
+        name: String,
+        /// The table's bytes.
+        table: Vec<u8>,
+        /// The hall's.
+        hall: Vec<u8>,
+        /// The choices'.
+        choices: Vec<u8>,
+    },
+}
+
+/// The lines of a list.
+///
+/// # Panics
+///
+/// On a line that is not of the form above, or a list that is too long.
+pub fn lines(list: &str) -> Vec<Line> {
+    assert!(list.len() <= LONGEST_LIST && list.is_ascii());
+    assert!(list.is_empty() || list.ends_with('\n'));
+    list.lines().map(line).collect()
+}
+
+fn line(text: &str) -> Line {
+    let Some((name, rest)) = text.split_once(':') else {
+        return Line::Heading(text.to_string());
+    };
+    let name = name.to_string();
+    let parts: Vec<Vec<u8>> = rest.split('/').map(bytes).collect();
+    let all: usize = parts.iter().map(Vec::len).sum();
+    assert!(all <= MOST_BYTES, "{name}: {all} bytes");
+    match &parts[..] {
+        [input] => Line::Input {
+            name,
+            input: input.clone(),
+        },
+        [table, hall, choices] => Line::Stored {
+            name,
+            table: table.clone(),
+            hall: hall.clone(),
+            choices: choices.clone(),
+        },
+        _ => panic!("{name}: {} parts", parts.len()),
+    }
+}
+
+fn bytes(words: &str) -> Vec<u8> {
+    words.split_whitespace().flat_map(word).collect()
+}
+
+/// A byte, or some bytes so many times.
+fn word(word: &str) -> Vec<u8> {
+    let (times, bytes) = word.split_once('x').unwrap_or(("1", word));
+    let bytes: Vec<u8> = bytes
+        .split(',')
+        .map(|byte| byte.parse().expect("a byte in decimal"))
+        .collect();
+    bytes.repeat(times.parse().expect("a number of times"))
+}
+
+/// What is printed of a line.
+pub fn printed(line: &Line) -> String {
+    match line {
+        Line::Heading(text) => format!("{text}\n"),
+        Line::Input { name, input } => {
+            let run = printed_run(input);
+            format!("{name}\n{}", String::from_utf8_lossy(&run))
+        }
+        Line::Stored {
+            name,
+            table,
+            hall,
+            choices,
+        } => format!("{name}\n{}", printed_calls(table, hall, choices)),
+    }
+}
+
+/// The answers of the calls on a stored hall, each on the hall as it was stored.
+fn printed_calls(table: &[u8], hall: &[u8], choices: &[u8]) -> String {
+    let check = calls::check_hall(table, hall);
+    let opening = match calls::open(table, &mut hall.to_vec()) {
+        Ok(_) => Answer::ACCEPTED,
+        Err(Refusal { number, place }) => Answer { number, place },
+    };
+    let (step, rule) = first_step(table, hall, choices);
+    let mut after = hall.to_vec();
+    let mut tally = Tally::FRESH;
+    let run = calls::run(table, &mut after, &mut tally, choices);
+    let mut lines = vec![
+        format!("H {} {}", check.number, check.place),
+        format!("O {} {}", opening.number, opening.place),
+        format!("M {} {} {rule}", step.number, step.place),
+        format!("R {} {} {}", run.number, run.place, run.done),
+        format!("C {} {} {}", tally.commits, tally.failed, tally.retries),
+    ];
+    let zeros = after.iter().rev().take_while(|byte| **byte == 0).count();
+    let used: Vec<String> = after[..after.len() - zeros]
+        .iter()
+        .map(|byte| format!(" {byte}"))
+        .collect();
+    lines.push(format!("B{}", used.concat()));
+    lines.push(match calls::is_still(table, &after) {
+        Ok(still) => format!("S {}", u8::from(!still)),
+        Err(Refusal { number, place }) => format!("S 0 {number} {place}"),
+    });
+    lines.join("\n") + "\n"
+}
+
+/// The answer to the first choice alone, and its rule, 0 for none. A missing
+/// byte counts as 0.
+fn first_step(table: &[u8], hall: &[u8], choices: &[u8]) -> (Answer, u8) {
+    let byte = |at: usize| choices.get(at).copied().unwrap_or(0);
+    let choice = match byte(0) {
+        1 => vec![1, byte(1)],
+        2 => vec![2, byte(1), byte(2)],
+        kind => vec![kind],
+    };
+    let mut tally = Tally::FRESH;
+    match calls::step(table, &mut hall.to_vec(), &mut tally, &choice) {
+        StepAnswer::Moved(rule) => {
+            let place = choice.len();
+            (Answer { number: 0, place }, rule)
+        }
+        StepAnswer::Refused(Refusal { number, place }) => (Answer { number, place }, 0),
+    }
+}

@@ -1,0 +1,59 @@
+//! Printing a run, from input bytes to output bytes.
+
+use std::hint::black_box;
+
+use reference::build::Builder;
+use reference::print::printed_run;
+use ruonfidd::{print_run_into, REPORT_BYTES};
+
+use crate::measure::{print_part, print_row};
+
+/// Batches for each of the two on each input.
+const ROUNDS: usize = 101;
+
+/// The scope's example: a table and five choices.
+fn example() -> Vec<u8> {
+    vec![
+        7, 10, 1, 0, 9, 0, 1, 6, 2, 12, 0, 1, 13, 3, 1, 0, 2, 0, 0, 2, 0, 0, 1, 0, 1, 0,
+    ]
+}
+
+/// Sixty-four puts and no choice: a line for each.
+fn many_lines() -> Vec<u8> {
+    let mut table = Builder::new();
+    let put = table.put(15);
+    let all = (0..6).fold(put, |all, _| table.side_by_side(all, all));
+    for tray in 0..16 {
+        table.tokens(tray, 200);
+    }
+    table.start(all)
+}
+
+/// A block that begins and retries, up to the longest input.
+fn many_choices() -> Vec<u8> {
+    let mut input = vec![8, 6, 0, 1, 13, 1];
+    while input.len() < 16_384 {
+        input.extend([1, 0]);
+    }
+    input
+}
+
+pub(crate) fn print() {
+    print_part("printing a run");
+    for (name, input) in [
+        ("the scope's example, 26 bytes", example()),
+        ("80 lines of trays and stations", many_lines()),
+        ("8,189 choices, 16,384 bytes", many_choices()),
+        ("too long, 16,385 bytes", vec![0; 16_385]),
+    ] {
+        let expected = printed_run(&input);
+        let mut output = [0; REPORT_BYTES];
+        print_row(
+            name,
+            ROUNDS,
+            &mut || print_run_into(black_box(&input), black_box(&mut output)) == expected.len(),
+            &mut || printed_run(black_box(&input)).len() == expected.len(),
+        );
+        assert_eq!(output[..expected.len()], expected, "{name}");
+    }
+}
