@@ -17,17 +17,16 @@ use Rattle.semantics.specs.Definitions.Configuration.{Component, idle, transact
 use Rattle.semantics.specs.Definitions.Moves as moves
 use Rattle.semantics.specs.Definitions.Moves.{act, inside, innerLocal, actsInside, Answer, moved, refused, movedBy, refusedBy, applyAt, atPosition, answerTo, replyOf}
 use Rattle.semantics.specs.Definitions.Run.{InBytes}
-use Rattle.semantics.specs.Definitions.Stored.{componentBytes, ComponentOk}
+use Rattle.semantics.specs.Definitions.Stored.{ComponentOk}
 use Rattle.semantics.specs.Definitions.Calls.{IsMoved, IsRefused, Quiescent, Suggestable}
 use Rattle.stored.specs.Layout.{transactionKind, maxNodes}
 use Rattle.storedlaws.proofs.Nodes.{few-nodes, beyond-nodes, inner-past}
-use Rattle.terms.specs.Decoded.{Decoded}
 use Rattle.rules.specs.declared.Reply.{Reply}
 use Rattle.rules.specs.declared.Reply.the-variants.{Moved, Refused}
 use Rattle.rules.specs.Replies.{replyIs}
 use Rattle.index.specs.Holds.{Holds, Running}
 use Rattle.index.specs.Choices.{Looked}
-use Rattle.index.proofs.Holding.{component-at, no-component, component-ok, kind-here}
+use Rattle.index.proofs.Holding.{component-ok}
 use Rattle.transactions.specs.declared.InnerMove.{InnerMove}
 use Rattle.transactions.specs.declared.InnerMove.the-variants as inner
 use Rattle.schedule.specs.declared.Entry.{Entry}

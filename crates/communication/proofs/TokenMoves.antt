@@ -7,14 +7,14 @@ use mathlib.Core.Bool.{Bool, true, false}
 use mathlib.Core.Option.{some}
 use mathlib.Core.List.{List, [], map, flatten}
 use lib.ListN.{length, getD, take, set, getElem?, length-map}
-use Rattle.calculus.specs.Syntax.{Name, State}
+use Rattle.calculus.specs.Syntax.{Name}
 use Rattle.calculus.specs.State.{count, without}
 use Rattle.calculus.specs.Reduction.{Rule}
 use Rattle.semantics.specs.Definitions.Layout.{maxCount, maxTerms}
 use Rattle.semantics.specs.Definitions.Terms.{Program, Term, process}
 use Rattle.semantics.specs.Definitions.Table.{takeK, repeatK}
 use Rattle.semantics.specs.Definitions.Logs.{addToken, takeToken}
-use Rattle.semantics.specs.Definitions.Configuration.{Idle, taking, repeating, output, Component, idle, Configuration}
+use Rattle.semantics.specs.Definitions.Configuration.{Idle, taking, repeating, output, idle, Configuration}
 use Rattle.semantics.specs.Definitions.Stored.{componentBytes, ComponentOk}
 use Rattle.semantics.specs.Definitions.Moves.{act, moved, answerTo, movedBy, replyOf}
 use Rattle.theorems.proofs.Lists.{found-below}

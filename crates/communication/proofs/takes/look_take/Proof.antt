@@ -3,13 +3,6 @@ use Rattle.communication.proofs.Taking.{looked-inside, looked-channel, 
 use borrow.Author.Needs.{needs}
 use Rattle.communication.proofs.takes.look_take.Statement.{statement}
 use Rattle.communication.proofs.takes.look_take.Tie as tie
-use Rattle.buffer.proofs.wide.Reads as wide-reads
-use Rattle.communication.proofs.takes.is_crowded.Reads as is-crowded-reads
-use Rattle.communication.proofs.takes.staying_of.Reads as staying-of-reads
-use Rattle.communication.proofs.takes.take_rule.Reads as take-rule-reads
-use Rattle.terms.proofs.first_of.Reads as first-of-reads
-use Rattle.terms.proofs.kind_of.Reads as kind-of-reads
-use Rattle.terms.proofs.second_of.Reads as second-of-reads
 
 wide-requires : tie.Need-wide-requires
 wide-requires c κs = search needs
