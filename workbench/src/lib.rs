@@ -1,0 +1,23 @@
+//! `hall`, the workbench of the hall engine: rules as text, and runs that
+//! explain themselves.
+//!
+//! Whether a table is accepted and what a choice does is the engine's answer,
+//! each time; nothing here decides it. What is here reads texts, makes tables of
+//! them, tells what happened, and compares: a table with its text, a list of
+//! steps with one run.
+//!
+//! | Module | What it holds |
+//! |---|---|
+//! | [`text`] | texts: words, grammar, tree, assembly, errors |
+//! | [`table`] | an accepted table, read into terms |
+//! | [`stations`] | a hall's stations, read from its bytes |
+//! | [`names`] | names of stations that stay while positions shift |
+//! | [`rehearsal`] | a hall under way, with its names |
+//! | [`rules`] | the thirteen rules and their words |
+
+pub mod names;
+pub mod rehearsal;
+pub mod rules;
+pub mod stations;
+pub mod table;
+pub mod text;

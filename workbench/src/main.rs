@@ -1,0 +1,3 @@
+//! The program `hall`.
+
+fn main() {}
