@@ -15,9 +15,11 @@
 //! | [`rehearsal`] | a hall under way, with its names |
 //! | [`rules`] | the thirteen rules and their words |
 
+pub mod measures;
 pub mod names;
 pub mod rehearsal;
 pub mod rules;
 pub mod stations;
+pub mod style;
 pub mod table;
 pub mod text;

@@ -367,3 +367,15 @@ pub fn split_choices(bytes: &[u8]) -> (&[u8], &[u8]) {
         None => (bytes, &[]),
     }
 }
+
+/// The terms of a table's bytes, refused ones too, up to and with the record at
+/// a place. None where a record can't be read.
+#[must_use]
+pub fn terms_before(bytes: &[u8], place: usize) -> Option<Vec<Term>> {
+    whole_records(bytes)
+        .into_iter()
+        .take_while(|(offset, _)| *offset <= place)
+        .filter(|(_, record)| record.first().is_some_and(|kind| *kind <= 11))
+        .map(|(_, record)| Term::of_record(record))
+        .collect()
+}
