@@ -15,10 +15,15 @@
 //! | [`rehearsal`] | a hall under way, with its names |
 //! | [`rules`] | the thirteen rules and their words |
 
+pub mod bytes_told;
+pub mod commands;
+pub mod input;
+pub mod json;
 pub mod measures;
 pub mod names;
 pub mod rehearsal;
 pub mod rules;
+pub mod show;
 pub mod stations;
 pub mod style;
 pub mod table;

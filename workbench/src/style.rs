@@ -1,7 +1,5 @@
 //! Colour where a person looks on, and lines of a width that fits.
 
-use std::io::IsTerminal;
-
 /// Whether words are coloured. No meaning rests on it.
 #[derive(Clone, Copy, Debug, Default, PartialEq, Eq)]
 pub struct Style {
@@ -14,14 +12,14 @@ impl Style {
     /// With colour.
     pub const COLOURED: Style = Style { coloured: true };
 
-    /// With colour if standard output is a terminal that can show it and
+    /// With colour for a stream that is a terminal, if it can show colour and
     /// nobody has asked to do without.
     #[must_use]
-    pub fn of_terminal() -> Style {
+    pub fn of_stream(is_terminal: bool) -> Style {
         let unwanted = std::env::var_os("NO_COLOR").is_some_and(|value| !value.is_empty());
         let dumb = std::env::var_os("TERM").is_some_and(|value| value == "dumb");
         Style {
-            coloured: std::io::stdout().is_terminal() && !unwanted && !dumb,
+            coloured: is_terminal && !unwanted && !dumb,
         }
     }
 
