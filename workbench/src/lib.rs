@@ -15,16 +15,22 @@
 //! | [`rehearsal`] | a hall under way, with its names |
 //! | [`rules`] | the thirteen rules and their words |
 
+pub mod board;
 pub mod bytes_told;
 pub mod commands;
 pub mod input;
 pub mod json;
+pub mod lesson;
 pub mod measures;
 pub mod names;
+pub mod refusals;
 pub mod rehearsal;
 pub mod rules;
+pub mod sentences;
 pub mod show;
 pub mod stations;
 pub mod style;
 pub mod table;
 pub mod text;
+pub mod ways;
+pub mod why;

@@ -5,6 +5,7 @@ mod build;
 mod check;
 pub mod help;
 pub mod load;
+mod run;
 mod show;
 
 use std::io::{self, BufRead, Write};
@@ -133,6 +134,7 @@ fn dispatch(arguments: &[String], streams: &mut Streams<'_>) -> Outcome {
         "check" => check::check(&args, streams),
         "build" => build::build(&args, streams),
         "show" => show::show(&args, streams),
+        "run" => run::run(&args, streams),
         _ => Err(no_command(command)),
     }
 }
