@@ -5,6 +5,7 @@ mod build;
 mod check;
 pub mod help;
 pub mod load;
+mod play;
 mod run;
 mod show;
 
@@ -135,6 +136,7 @@ fn dispatch(arguments: &[String], streams: &mut Streams<'_>) -> Outcome {
         "build" => build::build(&args, streams),
         "show" => show::show(&args, streams),
         "run" => run::run(&args, streams),
+        "play" => play::play(&args, streams),
         _ => Err(no_command(command)),
     }
 }

@@ -1,5 +1,7 @@
 //! The lines behind `choices`: what is chosen, what is expected, what is shown.
 
+use ruonfidd::Refusal;
+
 use super::source::Span;
 
 /// The words that call a station.
@@ -49,4 +51,21 @@ pub struct Line {
     pub span: Span,
     /// The words that call the station.
     pub called: Span,
+}
+
+impl Line {
+    /// Whether the lesson expects this refusal.
+    #[must_use]
+    pub fn expects(&self, refusal: Refusal) -> bool {
+        match self.expected {
+            Some(Expected::Refused(number)) => number.map_or(true, |it| it == refusal.number),
+            _ => false,
+        }
+    }
+
+    /// Whether it asks for a choice.
+    #[must_use]
+    pub fn is_choice(&self) -> bool {
+        matches!(self.ask, Ask::Act(_) | Ask::Step(..))
+    }
 }

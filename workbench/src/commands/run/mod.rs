@@ -18,7 +18,7 @@ use crate::rehearsal::{position_of, Happened};
 use crate::rules::Rule;
 use crate::sentences::Teller;
 use crate::style::wrapped;
-use crate::text::choices::{Ask, Expected, Line};
+use crate::text::choices::{Ask, Line};
 use crate::text::problems::Problem;
 use crate::text::source::{Source, Span};
 use crate::why::why;
@@ -46,6 +46,8 @@ struct Run<'a, 's, 't> {
     told: Told,
     streams: &'t mut Streams<'s>,
     number: usize,
+    /// Whether the last line printed is an empty one.
+    after_gap: bool,
 }
 
 impl From<Contradiction> for Failure {
@@ -88,6 +90,7 @@ pub(super) fn run(args: &Args, streams: &mut Streams<'_>) -> Outcome {
         told,
         streams,
         number: 0,
+        after_gap: true,
     }
     .all(&script)
 }
@@ -126,7 +129,7 @@ impl Run<'_, '_, '_> {
                     .lines
                     .iter()
                     .skip(index + 1)
-                    .filter(|it| is_choice(it))
+                    .filter(|it| it.is_choice())
                     .count();
                 self.complain(problem, left)?;
                 stopped = true;
@@ -163,13 +166,7 @@ impl Run<'_, '_, '_> {
             }
             Answer::Refused(refusal) => {
                 let reason = refusals::reason(&before, choice, refusal);
-                let expected = match line.expected {
-                    Some(Expected::Refused(number)) => {
-                        number.map_or(true, |number| number == refusal.number)
-                    }
-                    _ => false,
-                };
-                if !expected {
+                if !line.expects(refusal) {
                     let instead = refusals::instead(&before, choice, refusal);
                     return Ok(Some(unexpected(line, refusal, reason, instead)));
                 }
@@ -207,6 +204,7 @@ impl Run<'_, '_, '_> {
             };
             writeln!(self.streams.out, "{line}")?;
         }
+        self.after_gap = false;
         Ok(())
     }
 
@@ -257,11 +255,19 @@ impl Run<'_, '_, '_> {
     }
 
     fn set_apart(&mut self, lines: &[String]) -> Result<(), Failure> {
-        writeln!(self.streams.out)?;
+        self.gap()?;
         for line in lines {
             writeln!(self.streams.out, "{line}")?;
         }
-        writeln!(self.streams.out)?;
+        self.after_gap = false;
+        self.gap()
+    }
+
+    /// An empty line, unless there is one already.
+    fn gap(&mut self) -> Result<(), Failure> {
+        if !std::mem::replace(&mut self.after_gap, true) {
+            writeln!(self.streams.out)?;
+        }
         Ok(())
     }
 
@@ -310,9 +316,7 @@ impl Run<'_, '_, '_> {
         }
         let tally = self.lesson.rehearsal().tally();
         let still = still(&self.lesson)?;
-        if self.told != Told::Quiet {
-            writeln!(self.streams.out)?;
-        }
+        self.gap()?;
         let refused = match self.lesson.refused() {
             0 => String::new(),
             refused => format!(", {refused} refused"),
@@ -328,10 +332,6 @@ impl Run<'_, '_, '_> {
         )?;
         Ok(())
     }
-}
-
-fn is_choice(line: &Line) -> bool {
-    matches!(line.ask, Ask::Act(_) | Ask::Step(..))
 }
 
 /// A number of things.
