@@ -70,13 +70,14 @@ impl Reader<'_> {
         } else if self.accept("tokens") {
             bytes.push(12);
             bytes.push(self.tray("tokens", "")?);
-            bytes.push(self.byte("how many tokens")?);
+            bytes.push(self.byte("a count")?);
         } else if self.accept("start") {
             bytes.push(13);
             bytes.push(self.reference()?);
         } else {
             let text = self.text();
-            let problem = Problem::error(self.peek().span, format!("'{text}' begins no record"))
+            let span = self.advance().span;
+            let problem = Problem::error(span, format!("'{text}' begins no record"))
                 .label("an exact text is made of tray, term, tokens and start");
             return self.fail(problem);
         }
@@ -89,7 +90,8 @@ impl Reader<'_> {
 
     /// Behind the start record only choices may stand.
     fn behind_start(&mut self, records: &mut Records, start: Span) -> Read<()> {
-        if self.accept("choices") && records.choices.is_none() {
+        if self.is("choices") && records.choices.is_none() {
+            self.advance();
             records.choices = Some(self.lesson());
             return Ok(());
         }

@@ -108,7 +108,10 @@ impl Reader<'_> {
             ("choices", None) => {
                 let problem = Problem::error(token.span, "'choices' comes before 'start'")
                     .label("first the stations, then what they do");
+                // Which stations its lines call can't be known yet.
+                let told = self.problems.len();
                 self.lesson();
+                self.problems.truncate(told);
                 return self.fail(problem);
             }
             ("start", Some(first)) => {
@@ -176,7 +179,8 @@ impl Reader<'_> {
                 .label(format!("write '{instead}'"))
             }
             _ => Problem::error(token.span, format!("'{text}' does not follow here"))
-                .label("between two stations stands 'beside'"),
+                .label("between two stations stands 'beside'")
+                .help("a new item begins with tray, rule, plan, start or choices"),
         };
         self.fail(problem)
     }
@@ -246,8 +250,11 @@ impl Reader<'_> {
         let above = self.program.trays.last();
         let number = given.unwrap_or_else(|| above.map_or(0, |tray| u32::from(tray.number) + 1));
         let problem = self.bad_tray(&name, span, number, given.map(|_| number_at));
+        // One tray too many makes all that follow it too many.
+        let again = self.told_too_many && problem.as_ref().is_some_and(is_too_many);
+        self.told_too_many |= problem.as_ref().is_some_and(is_too_many);
         let wrong = problem.is_some();
-        if let Some(problem) = problem {
+        if let Some(problem) = problem.filter(|_| !again) {
             self.report(problem);
         }
         let count = self.has(&name);
@@ -335,6 +342,7 @@ impl Reader<'_> {
             return Ok(());
         }
         let problem = match (token.kind, text) {
+            _ if self.on_new_line() => self.no_item(),
             (Kind::Word, word) if words::instead_of(word) == Some("has") => Problem::error(
                 token.span,
                 format!("'{word}' is not a word of this language"),
@@ -350,4 +358,8 @@ impl Reader<'_> {
         };
         self.fail(problem)
     }
+}
+
+fn is_too_many(problem: &Problem) -> bool {
+    problem.refusal.is_some_and(|answer| answer.number == 4)
 }

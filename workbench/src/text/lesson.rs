@@ -76,7 +76,7 @@ impl Reader<'_> {
     }
 
     fn small_number(&mut self, message: &str, label: &str) -> Read<u8> {
-        let Some(number) = self.number() else {
+        let Some(number) = self.number().filter(|_| !self.on_new_line()) else {
             let problem = Problem::error(self.here(), message).label(label);
             return self.fail(problem);
         };
@@ -193,6 +193,9 @@ impl Reader<'_> {
                 .label("'=>' stands behind 'act' and 'step'");
             return self.fail(problem);
         }
+        if self.on_new_line() {
+            return self.fail(self.no_answer());
+        }
         if self.accept("refused") {
             return self.refusal_number();
         }
@@ -229,7 +232,7 @@ impl Reader<'_> {
             text => words::nearest(text, words.iter().copied()),
         };
         let problem = match meant {
-            Some(word) if self.peek().kind == Kind::Word => {
+            Some(word) if self.peek().kind == Kind::Word && !self.on_new_line() => {
                 problem.label(format!("did you mean '{word}'?"))
             }
             _ => problem,
@@ -241,13 +244,14 @@ impl Reader<'_> {
     fn fail_line<T>(&mut self) -> Read<T> {
         let token = self.peek();
         let text = self.text();
-        let rest = {
-            let behind = self.source.piece(self.ahead(1).span);
-            if behind.is_empty() {
-                "clerk"
-            } else {
-                behind
-            }
+        let rest = match self.ahead(1) {
+            behind if behind.kind == Kind::Word => self.source.piece(behind.span),
+            _ => "",
+        };
+        let rest = match rest {
+            "" => "clerk",
+            word if words::reserved(word) && word != "put" && word != "block" => "clerk",
+            word => word,
         };
         let problem = match (token.kind, text) {
             (Kind::Sign | Kind::HalfNumber | Kind::ForeignWord, _) => self.bad_piece(),

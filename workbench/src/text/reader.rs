@@ -29,6 +29,8 @@ pub struct Reader<'a> {
     pub depth: usize,
     /// The rule or plan whose body is being read.
     pub defining: Option<String>,
+    /// Whether it was told that there are too many trays.
+    pub told_too_many: bool,
     tokens: Vec<Token>,
     at: usize,
 }
@@ -43,6 +45,7 @@ impl<'a> Reader<'a> {
             problems: lexer::hidden_character(source).into_iter().collect(),
             depth: 0,
             defining: None,
+            told_too_many: false,
             tokens: lexer::tokens(source),
             at: 0,
         }
@@ -155,11 +158,18 @@ impl<'a> Reader<'a> {
         }
     }
 
-    /// A place for a problem at the next piece: at the end of an item the place
-    /// behind the piece before.
+    /// Whether the next piece stands on another line than the one before.
+    #[must_use]
+    pub fn on_new_line(&self) -> bool {
+        let between = Span::new(self.last().end, self.peek().span.start);
+        self.source.piece(between).contains('\n')
+    }
+
+    /// A place for a problem at the next piece: where that is on another line,
+    /// or begins another item, the place behind the piece before.
     #[must_use]
     pub fn here(&self) -> Span {
-        if self.at_item() {
+        if self.at_item() || self.on_new_line() {
             self.last().behind()
         } else {
             self.peek().span
@@ -320,7 +330,9 @@ fn bad_sign(span: Span, sign: &str) -> Problem {
         "." | ";" => problem.help(
             "the steps of a block are parted by ','; a take of a station is followed by 'then'",
         ),
-        "|" | "||" | "&" | "+" => problem.help("for stations side by side write 'beside'"),
+        "|" | "||" | "&" | "+" => {
+            problem.help("for stations side by side write 'beside', between two ways 'or else'")
+        }
         "->" => {
             problem.help("write '=>' for what a choice answers, 'then' for what follows a take")
         }
