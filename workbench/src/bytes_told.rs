@@ -11,9 +11,9 @@ use crate::text::problems::{answer_line, Answered};
 /// How many bytes of the refused place are shown.
 const SHOWN: usize = 8;
 
-/// A refusal of a table or a hall in plain words.
+/// A refusal of these bytes, a table or a hall, in plain words.
 #[must_use]
-pub fn words(refusal: Refusal) -> &'static str {
+pub fn words(bytes: &[u8], refusal: Refusal) -> &'static str {
     match refusal.number {
         Refusal::UNKNOWN_KIND => "the kind is not 1 to 13",
         Refusal::RECORD_CUT_SHORT => "the record is cut short",
@@ -27,7 +27,8 @@ pub fn words(refusal: Refusal) -> &'static str {
             "it is over 64 stations wide, has over 8 ways or a way of over 16 steps"
         }
         Refusal::BAD_TOKENS => "tokens of 0, or for a tray that was given some before",
-        Refusal::START_NOT_LAST => "the table does not end with its start record",
+        Refusal::START_NOT_LAST if refusal.place < bytes.len() => "a byte follows the start record",
+        Refusal::START_NOT_LAST => "the table ends without a start record",
         Refusal::HALL_LENGTH => "a stored hall has 11344 bytes",
         Refusal::HALL_FORM => "these bytes are no hall of this table",
         _ => refusal.reason(),
@@ -41,7 +42,7 @@ pub fn told(name: &str, bytes: &[u8], refusal: Refusal, style: Style) -> String 
     let mut lines = format!(
         "{name}: byte {place}: {}: {}\n",
         style.bad("error"),
-        message(bytes, refusal)
+        words(bytes, refusal)
     );
     let records = whole_records(bytes);
     let mut term = 0;
@@ -73,11 +74,11 @@ pub fn told(name: &str, bytes: &[u8], refusal: Refusal, style: Style) -> String 
 
 /// A refused hall.
 #[must_use]
-pub fn hall_told(name: &str, refusal: Refusal, style: Style) -> String {
+pub fn hall_told(name: &str, bytes: &[u8], refusal: Refusal, style: Style) -> String {
     format!(
         "{name}: {}: {}\n      = {}\n",
         style.bad("error"),
-        words(refusal),
+        words(bytes, refusal),
         answered(refusal)
     )
 }
@@ -87,14 +88,6 @@ fn answered(refusal: Refusal) -> String {
         number: refusal.number,
         place: Some(refusal.place),
     })
-}
-
-fn message(bytes: &[u8], refusal: Refusal) -> &'static str {
-    match refusal.number {
-        Refusal::START_NOT_LAST if refusal.place < bytes.len() => "a byte follows the start record",
-        Refusal::START_NOT_LAST => "the table ends without a start record",
-        _ => words(refusal),
-    }
 }
 
 /// One record a line, in decimal.

@@ -116,8 +116,8 @@ pub(super) fn refused(
             refused_object(json::list(problems), streams)?;
         }
         Unloaded::Text(source, problems) => load::tell(&source, &problems, streams)?,
-        Unloaded::Table(_, refusal) if json => {
-            let problem = refusal_object(refusal, bytes_told::words(refusal));
+        Unloaded::Table(bytes, refusal) if json => {
+            let problem = refusal_object(refusal, bytes_told::words(&bytes, refusal));
             refused_object(json::list([problem]), streams)?;
         }
         Unloaded::Table(bytes, refusal) => {
@@ -183,12 +183,12 @@ fn stored_hall(name: &str, table: &Table, json: bool, streams: &mut Streams<'_>)
             Ok(Exit::Good)
         }
         Err(refusal) if json => {
-            let problem = refusal_object(refusal, bytes_told::words(refusal));
+            let problem = refusal_object(refusal, bytes_told::words(&bytes, refusal));
             refused_object(json::list([problem]), streams)?;
             Ok(Exit::Refused)
         }
         Err(refusal) => {
-            let words = bytes_told::hall_told(name, refusal, streams.err_style);
+            let words = bytes_told::hall_told(name, &bytes, refusal, streams.err_style);
             streams.err.write_all(words.as_bytes())?;
             Ok(Exit::Refused)
         }

@@ -13,7 +13,6 @@ mod common;
 mod damaged;
 mod errors;
 mod examples;
-mod exit_codes;
 mod json;
 mod planted;
 mod playing;
