@@ -5,12 +5,15 @@
 //! every hall that a run led to; here it explains, and decides nothing.
 
 use crate::rehearsal::Moment;
-use crate::stations::Station;
+use crate::stations::{puts, Station};
 use crate::table::{Counts, Table, Term};
 use crate::text::tree::Program;
 use crate::ways::{
     action_words, count_of, shortage_words, shortages, tray_counts, trays_counted, within, Way,
 };
+
+/// As many stations stand in a hall.
+const MOST_STATIONS: usize = 64;
 
 /// What a station will come to, a line each.
 #[must_use]
@@ -108,7 +111,12 @@ fn outcome(program: &Program, chosen: Option<&Way>, now: &Moment, opened: bool) 
         return "It could commit by that way at once.".to_owned();
     }
     let short = shortages(&way.needs(), &now.counts);
-    if short.is_empty() {
+    let standing = now.stations.len() + puts(&way.actions).len();
+    if short.is_empty() && standing > MOST_STATIONS + 1 {
+        "All of it is there now too, but with what it puts more than 64 stations would stand: the \
+         commit is refused until some have gone."
+            .to_owned()
+    } else if short.is_empty() {
         "All of it is there now too: the commit will succeed, unless that changes first.".to_owned()
     } else {
         format!(

@@ -71,23 +71,19 @@ impl Reader<'_> {
             return self.fail(problem);
         };
         self.advance();
-        let node = self.small_number("'node' wants a number", "as 'node 1'")?;
-        Ok(Ask::Step(called, node))
-    }
-
-    fn small_number(&mut self, message: &str, label: &str) -> Read<u8> {
-        let Some(number) = self.number().filter(|_| !self.on_new_line()) else {
-            let problem = Problem::error(self.here(), message).label(label);
+        let Some(number) = self.number() else {
+            let problem = Problem::error(self.here(), "'node' wants a number").label("as 'node 1'");
             return self.fail(problem);
         };
+        Ok(Ask::Step(called, self.small_number(number)?))
+    }
+
+    /// A position or a node, whose number comes next.
+    fn small_number(&mut self, number: u32) -> Read<u8> {
         let span = self.advance().span;
-        match u8::try_from(number) {
-            Ok(number) => Ok(number),
-            Err(_) => self.fail(
-                Problem::error(span, "positions and nodes are numbers from 0 to 255")
-                    .label(format!("{} is not", self.source.piece(span))),
-            ),
-        }
+        let problem = Problem::error(span, "positions and nodes are numbers from 0 to 255")
+            .label(format!("{} is not", self.source.piece(span)));
+        u8::try_from(number).or_else(|_| self.fail(problem))
     }
 
     /// The words that call a station.
@@ -95,8 +91,8 @@ impl Reader<'_> {
         let token = self.peek();
         let text = self.text();
         let label = match (token.kind, text) {
-            (Kind::Number(_), _) => {
-                let position = self.small_number("", "")?;
+            (Kind::Number(number), _) => {
+                let position = self.small_number(number)?;
                 return Ok(Called::Position(position.into()));
             }
             (Kind::Word, "put" | "take") => {
@@ -192,9 +188,6 @@ impl Reader<'_> {
             let problem = Problem::error(gives, "nothing is answered here")
                 .label("'=>' stands behind 'act' and 'step'");
             return self.fail(problem);
-        }
-        if self.on_new_line() {
-            return self.fail(self.no_answer());
         }
         if self.accept("refused") {
             return self.refusal_number();

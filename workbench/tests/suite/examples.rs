@@ -75,7 +75,7 @@ fn the_second_implementation_agrees() {
         let trays: Vec<String> = printed
             .lines()
             .filter(|line| line.starts_with('T'))
-            .map(|line| line.split(' ').last().unwrap().to_owned())
+            .map(|line| line.rsplit(' ').next().unwrap().to_owned())
             .collect();
         assert_eq!(trays, counts_in_use(&last), "{name}: {printed}");
         let stations = printed

@@ -179,7 +179,7 @@ fn problems_for_programs() {
         for problem in read.field("problems").list() {
             checked += 1;
             let message = problem.words("message");
-            let head = if name.ends_with(".table") {
+            let head = if file.extension().is_some_and(|ending| ending == "table") {
                 format!(
                     "{name}: byte {}: error: {message}\n",
                     problem.number("place")

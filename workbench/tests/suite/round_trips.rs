@@ -8,6 +8,7 @@ use reference::table::read_table;
 use ruonfidd::{Hall, Stopped};
 use workbench::show::reduced::reduced;
 use workbench::show::{exact, readable, Labels};
+use workbench::stations::{stations, Node, Station};
 use workbench::table::{Record, Table};
 use workbench::text::source::Source;
 use workbench::text::{understand, Understood};
@@ -143,11 +144,32 @@ fn a_rebuilt_table_answers_alike() {
         let run = |table: &Table| {
             let (mut hall, mut tally) = Hall::open(table.bytes()).unwrap();
             let answer = hall.run(table.bytes(), &list, &mut tally);
-            let kinds: Vec<u8> = hall.as_bytes()[16..].iter().step_by(2).copied().collect();
-            (answer, tally, hall.counts().to_vec(), kinds.len())
+            (answer, tally, hall)
         };
-        assert_eq!(run(&table), run(&rebuilt), "{which}\nchoices {list:?}");
-        match run(&table).0 {
+        let (answer, tally, hall) = run(&table);
+        let (other_answer, other_tally, other_hall) = run(&rebuilt);
+        assert_eq!(
+            (answer, tally),
+            (other_answer, other_tally),
+            "{which}\nchoices {list:?}"
+        );
+        assert_eq!(
+            hall.counts(),
+            other_hall.counts(),
+            "{which}\nchoices {list:?}"
+        );
+        let numbers = reduced(&table).new_number;
+        let renumbered: Vec<Station> = stations(&hall)
+            .unwrap()
+            .into_iter()
+            .map(|station| with_numbers(station, &numbers))
+            .collect();
+        assert_eq!(
+            Some(renumbered),
+            stations(&other_hall),
+            "{which}\nchoices {list:?}"
+        );
+        match answer {
             Ok(choices) => done += choices,
             Err(Stopped { .. }) => refused += 1,
         }
@@ -156,6 +178,24 @@ fn a_rebuilt_table_answers_alike() {
         refused > 300 && done > 5_000,
         "{refused} refused, {done} done"
     );
+}
+
+/// A station with the term numbers of the reduced table.
+fn with_numbers(station: Station, numbers: &[Option<u8>]) -> Station {
+    let new = |old: u8| numbers[usize::from(old)].expect("a term that is in use");
+    match station {
+        Station::Waiting(term) => Station::Waiting(new(term)),
+        Station::Putting(tray) => Station::Putting(tray),
+        Station::Attempt(mut attempt) => {
+            attempt.block = new(attempt.block);
+            for node in &mut attempt.nodes {
+                if let Node::Leaf(leaf) = node {
+                    leaf.rest = leaf.rest.map(new);
+                }
+            }
+            Station::Attempt(attempt)
+        }
+    }
 }
 
 /// Names, layout, comments and unused rules have no effect on the bytes.
