@@ -11,6 +11,7 @@
 mod commands;
 mod common;
 mod damaged;
+mod documents;
 mod errors;
 mod examples;
 mod json;
