@@ -246,3 +246,77 @@ pub fn choice_words(now: &Moment, choice: Choice) -> String {
         _ => String::new(),
     }
 }
+
+#[cfg(test)]
+#[allow(clippy::unwrap_used, clippy::indexing_slicing)]
+mod tests {
+    use super::{choices_of, Answer, Lesson};
+    use crate::table::Table;
+    use crate::text::tree::Program;
+    use ruonfidd::Choice;
+
+    /// Two blocks that want the one token.
+    const TABLE: [u8; 14] = [7, 9, 0, 0, 6, 1, 5, 2, 2, 12, 0, 1, 13, 3];
+
+    fn lesson<'a>(table: &'a Table, program: &'a Program) -> Lesson<'a> {
+        let mut lesson = Lesson::open(table, program).unwrap();
+        let (choices, rest) = choices_of(&[1, 0, 1, 1, 2, 0, 0, 1, 7, 2, 1, 0, 1, 0, 1, 0]);
+        assert!(rest.is_empty());
+        for choice in choices {
+            lesson.make(choice).unwrap();
+        }
+        lesson
+    }
+
+    #[test]
+    fn steps_that_are_not_the_runs_are_noticed() {
+        let table = Table::read(&TABLE).unwrap();
+        let program = Program::of_table(&table);
+        let right = lesson(&table, &program);
+        assert_eq!(right.agrees(), Ok(()));
+        assert_eq!((right.done(), right.refused()), (6, 1));
+        let changed = |change: fn(&mut Lesson<'_>)| {
+            let mut wrong = right.clone();
+            change(&mut wrong);
+            wrong.agrees()
+        };
+        assert!(changed(|it| it.calls[0].choices[1] = 1).is_err());
+        assert!(changed(|it| it.calls[0].done -= 1).is_err());
+        assert!(changed(|it| it.calls[0].refused = None).is_err());
+        assert!(changed(|it| it.calls[0].refused = Some(15)).is_err());
+        assert!(changed(|it| it.calls.truncate(1)).is_err());
+        assert!(changed(|it| {
+            it.rehearsal.make(Choice::Act { position: 0 }).unwrap();
+        })
+        .is_err());
+    }
+
+    #[test]
+    fn a_refused_choice_ends_its_call_and_changes_nothing() {
+        let table = Table::read(&TABLE).unwrap();
+        let program = Program::of_table(&table);
+        let mut lesson = lesson(&table, &program);
+        let before = lesson.rehearsal().hall().clone();
+        let answer = lesson.make(Choice::Act { position: 9 }).unwrap();
+        assert!(matches!(answer, Answer::Refused(refusal) if refusal.number == 14));
+        assert_eq!(*lesson.rehearsal().hall(), before);
+        assert_eq!(lesson.calls().len(), 3);
+        assert_eq!(lesson.calls()[1].refused, Some(14));
+    }
+
+    #[test]
+    fn bytes_that_are_no_choice() {
+        assert_eq!(choices_of(&[1, 2, 2, 3, 4]).0.len(), 2);
+        assert_eq!(choices_of(&[1, 2, 3]).1, [3]);
+        assert_eq!(choices_of(&[2, 0]).1, [2, 0]);
+        let table = Table::read(&TABLE).unwrap();
+        let program = Program::of_table(&table);
+        let mut lesson = lesson(&table, &program);
+        for (bytes, number) in [(&[3][..], 12), (&[1][..], 13), (&[2, 0][..], 13)] {
+            let answer = lesson.make_bytes(bytes);
+            assert!(matches!(answer, Ok(Answer::Refused(it)) if it.number == number));
+        }
+        assert!(lesson.make_bytes(&[1, 0]).is_err());
+        assert_eq!(lesson.agrees(), Ok(()));
+    }
+}

@@ -345,3 +345,117 @@ fn fits(program: &Program, table: &Table, role: Role, station: &Station) -> bool
         _ => false,
     }
 }
+
+#[cfg(test)]
+#[allow(clippy::unwrap_used, clippy::indexing_slicing)]
+mod tests {
+    use super::{Lost, Names};
+    use crate::lesson::Lesson;
+    use crate::stations::Station;
+    use crate::text::choices::Called;
+    use crate::text::source::Source;
+    use crate::text::{understand, Understood};
+    use ruonfidd::Choice;
+
+    fn of_text(text: &str) -> Understood {
+        understand(&Source::new("", text)).unwrap()
+    }
+
+    fn names_of(names: &Names) -> Vec<String> {
+        (0..names.len())
+            .map(|position| names.name_and_origin(position))
+            .collect()
+    }
+
+    /// The names after these choices of kind 1.
+    fn after(text: &str, acts: &[u8]) -> Vec<String> {
+        let understood = of_text(text);
+        let mut lesson = Lesson::open(&understood.table, &understood.program).unwrap();
+        for position in acts {
+            let position = *position;
+            lesson.make(Choice::Act { position }).unwrap();
+        }
+        names_of(&lesson.now().names)
+    }
+
+    const TRAYS: &str = "tray a has 9 tray b tray c\n";
+
+    #[test]
+    fn the_innermost_rule_gives_the_name() {
+        let text = format!(
+            "{TRAYS} rule one is put a rule both is one beside take b then nothing\n\
+             start both beside 2 of one beside take b then nothing beside block (end)"
+        );
+        let text = text.replace("take b then nothing", "(take b then nothing)");
+        assert_eq!(
+            after(&text, &[]),
+            ["one 1", "both", "one 2", "one 3", "take b", "block"]
+        );
+    }
+
+    #[test]
+    fn who_takes_and_goes_on_keeps_the_name() {
+        let text = format!("{TRAYS} rule desk is take a then put b start 2 of desk");
+        assert_eq!(after(&text, &[0]), ["desk 1", "desk 2"]);
+        assert_eq!(after(&text, &[0, 0]), ["desk 2"]);
+    }
+
+    #[test]
+    fn what_comes_of_several_is_called_by_what_it_does() {
+        let text = format!("{TRAYS} rule desk is take a then (put b beside put b) start desk");
+        assert_eq!(
+            after(&text, &[0]),
+            ["put b 1 (from desk)", "put b 2 (from desk)"]
+        );
+        let text = format!("{TRAYS} start take a then take a then put b");
+        assert_eq!(after(&text, &[0]), ["take a 2 (from take a)"]);
+        let text = format!("{TRAYS} rule other is put b rule desk is take a then other start desk");
+        assert_eq!(after(&text, &[0]), ["other"]);
+    }
+
+    #[test]
+    fn a_repeated_take_stays_behind_what_it_opened() {
+        let text = format!("{TRAYS} rule desk is repeatedly take a then put b start desk");
+        assert_eq!(
+            after(&text, &[0, 1]),
+            ["put b 1 (from desk)", "put b 2 (from desk)", "desk"]
+        );
+    }
+
+    #[test]
+    fn found_by_name() {
+        let text = format!("{TRAYS} rule desk is put b start 3 of desk beside put c");
+        let understood = of_text(&text);
+        let mut lesson = Lesson::open(&understood.table, &understood.program).unwrap();
+        lesson.make(Choice::Act { position: 0 }).unwrap();
+        lesson.make(Choice::Act { position: 2 }).unwrap();
+        let names = &lesson.now().names;
+        let called = |label: &str, number| Called::Name {
+            label: label.to_owned(),
+            number,
+        };
+        assert_eq!(names.find(&called("desk", Some(3))), Ok(1));
+        assert_eq!(names.find(&called("desk", None)), Err(Lost::Several(2, 2)));
+        assert_eq!(names.find(&called("desk", Some(1))), Err(Lost::OtherNumber));
+        assert_eq!(names.find(&called("put c", None)), Err(Lost::Gone));
+        assert_eq!(names.find(&called("put a", None)), Err(Lost::Unknown));
+        assert_eq!(names.find(&Called::Position(77)), Ok(77));
+    }
+
+    /// Names that do not fit the hall are noticed.
+    #[test]
+    fn names_that_do_not_fit() {
+        let text = format!("{TRAYS} rule desk is take a then nothing start desk beside put b");
+        let understood = of_text(&text);
+        let Understood { table, program, .. } = &understood;
+        let lesson = Lesson::open(table, program).unwrap();
+        let standing = lesson.now().stations.clone();
+        let names = &lesson.now().names;
+        assert!(names.agree(program, table, &standing));
+        assert!(!names.agree(program, table, &standing[..1]));
+        let swapped = [standing[1].clone(), standing[0].clone()];
+        assert!(!names.agree(program, table, &swapped));
+        let elsewhere = [standing[0].clone(), Station::Putting(2)];
+        assert!(!names.agree(program, table, &elsewhere));
+    }
+}

@@ -77,7 +77,7 @@ impl<'a> Teller<'a> {
                 "{who} takes one and stays for the next: {}. {}{}",
                 self.change(happened, tray),
                 opened(happened, "Before it now stands", "Nothing comes of it."),
-                self.explain_repeating()
+                self.explain_repeating(happened)
             ),
             _ => self.opening(happened, term, who),
         }
@@ -107,8 +107,9 @@ impl<'a> Teller<'a> {
         format!("{who} opens an attempt and remembers the trays: {remembered}.")
     }
 
-    fn explain_repeating(&mut self) -> &'static str {
-        if std::mem::replace(&mut self.explained_repeating, true) {
+    fn explain_repeating(&mut self, happened: &Happened) -> &'static str {
+        let came = happened.after.names.len() > happened.before.names.len();
+        if !came || std::mem::replace(&mut self.explained_repeating, true) {
             ""
         } else {
             " It can take the next one before that is done."

@@ -151,3 +151,48 @@ fn no_command(command: &str) -> Failure {
         "there is no command '{command}'; hall help lists them"
     ))
 }
+
+#[cfg(test)]
+#[allow(clippy::unwrap_used)]
+mod tests {
+    use super::{failed, Failure, Streams};
+    use crate::style::Style;
+    use std::io::{BufReader, Error, ErrorKind};
+
+    fn said(failure: &Failure) -> (u8, String) {
+        let (mut out, mut err) = (Vec::new(), Vec::new());
+        let code = failed(
+            failure,
+            &mut Streams {
+                input: &mut BufReader::new(&b""[..]),
+                out: &mut out,
+                err: &mut err,
+                style: Style::PLAIN,
+                err_style: Style::PLAIN,
+                out_is_terminal: false,
+                input_is_terminal: false,
+            },
+        );
+        assert!(out.is_empty());
+        (code, String::from_utf8(err).unwrap())
+    }
+
+    #[test]
+    fn codes() {
+        let (code, words) = said(&Failure::Contradiction("names".to_owned()));
+        assert_eq!(code, 70);
+        assert!(words.starts_with("hall: this program is at odds with itself: names."));
+        assert_eq!(
+            said(&Failure::Usage("so".to_owned())),
+            (2, "hall: so\n".to_owned())
+        );
+        assert_eq!(
+            said(&Failure::File("so".to_owned())),
+            (3, "hall: so\n".to_owned())
+        );
+        let closed = Failure::Output(Error::from(ErrorKind::BrokenPipe));
+        assert_eq!(said(&closed), (0, String::new()));
+        let full = Failure::Output(Error::from(ErrorKind::StorageFull));
+        assert_eq!(said(&full).0, 3);
+    }
+}

@@ -1,6 +1,6 @@
 //! From a table back to text: readable, or exact.
 //!
-//! The readable text rebuilds the [reduced](reduced) table to the byte, the
+//! The readable text rebuilds the reduced ([`reduced`]) table to the byte, the
 //! exact text the very table.
 
 mod exact;

@@ -114,7 +114,7 @@ impl Reader<'_> {
                 .label(format!("the first is on line {line}"));
             return self.fail(problem);
         }
-        self.program.trays.push(Tray {
+        self.add_tray(Tray {
             number,
             name,
             count: 0,

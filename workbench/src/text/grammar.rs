@@ -204,7 +204,7 @@ impl Reader<'_> {
         if let Some(problem) = twice {
             self.report(problem);
         } else {
-            self.program.definitions.push(Definition {
+            self.add_definition(Definition {
                 class,
                 name,
                 body: body.unwrap_or(0),
@@ -226,7 +226,7 @@ impl Reader<'_> {
 
     /// The error of a name that stands above.
     fn already(&self, name: &str, span: Span) -> Option<Problem> {
-        let (what, first) = if let Some(tray) = self.program.tray_named(name) {
+        let (what, first) = if let Some(tray) = self.tray_named(name) {
             ("tray", tray.span)
         } else {
             let definition = self.program.definitions.get(self.definition(name)?)?;
@@ -258,8 +258,8 @@ impl Reader<'_> {
             self.report(problem);
         }
         let count = self.has(&name);
-        if !wrong || self.program.tray_named(&name).is_none() {
-            self.program.trays.push(Tray {
+        if !wrong || self.tray_named(&name).is_none() {
+            self.add_tray(Tray {
                 number: u8::try_from(number).unwrap_or(u8::MAX).min(15),
                 name,
                 count: count.unwrap_or(1),
@@ -276,7 +276,7 @@ impl Reader<'_> {
         number: u32,
         given: Option<Span>,
     ) -> Option<Problem> {
-        if let Some(first) = self.program.tray_named(name) {
+        if let Some(first) = self.tray_named(name) {
             let line = self.line_of(first.span);
             return Some(
                 Problem::error(span, format!("tray '{name}' is written twice"))

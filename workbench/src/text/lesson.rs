@@ -154,7 +154,7 @@ impl Reader<'_> {
                 format!("'{name}' is a plan, and no station is called so"),
             )
             .label("stations are called after rules"),
-            None if self.program.tray_named(name).is_some() => {
+            None if self.tray_named(name).is_some() => {
                 Problem::error(span, format!("'{name}' is a tray"))
                     .label(format!("a station is 'put {name}' or 'take {name}'"))
             }
@@ -233,19 +233,27 @@ impl Reader<'_> {
         problem.help(format!("one of {}, or refused", words.join(", ")))
     }
 
+    /// The station that the words behind the next one seem to call.
+    fn called_behind(&self) -> &str {
+        let (first, second) = (self.ahead(1), self.ahead(2));
+        let name = match first.kind {
+            Kind::Word => self.source.piece(first.span),
+            _ => "",
+        };
+        if name.is_empty() || words::reserved(name) {
+            return "clerk";
+        }
+        match second.kind {
+            Kind::Number(_) => self.source.piece(first.span.to(second.span)),
+            _ => name,
+        }
+    }
+
     /// A line that begins with something else.
     fn fail_line<T>(&mut self) -> Read<T> {
         let token = self.peek();
         let text = self.text();
-        let rest = match self.ahead(1) {
-            behind if behind.kind == Kind::Word => self.source.piece(behind.span),
-            _ => "",
-        };
-        let rest = match rest {
-            "" => "clerk",
-            word if words::reserved(word) && word != "put" && word != "block" => "clerk",
-            word => word,
-        };
+        let rest = self.called_behind();
         let problem = match (token.kind, text) {
             (Kind::Sign | Kind::HalfNumber | Kind::ForeignWord, _) => self.bad_piece(),
             (

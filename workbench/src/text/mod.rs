@@ -140,6 +140,7 @@ fn unused(program: &Program) -> Vec<Problem> {
     let definitions = program.definitions.iter().zip(used);
     definitions
         .filter(|(_, used)| !used)
+        .take(problems::MOST_PROBLEMS)
         .map(|(definition, _)| {
             let class = definition.class.word();
             Problem::note(

@@ -1,9 +1,11 @@
 //! What all readers of texts share: the next piece, and the errors found.
 
+use std::collections::HashMap;
+
 use super::lexer::{self, Kind, Token, LONGEST_NAME};
 use super::problems::{Problem, MOST_PROBLEMS};
 use super::source::{Source, Span};
-use super::tree::{PartId, Program};
+use super::tree::{Definition, PartId, Program, Tray};
 use super::words;
 
 /// Brackets nest at most so deep.
@@ -33,12 +35,28 @@ pub struct Reader<'a> {
     pub told_too_many: bool,
     tokens: Vec<Token>,
     at: usize,
+    /// Where the names of the text stand in the program.
+    names: HashMap<String, Name>,
+}
+
+/// What a name is the name of: an index into the program's lists.
+#[derive(Clone, Copy, Debug, PartialEq, Eq)]
+enum Name {
+    Tray(usize),
+    Definition(usize),
 }
 
 impl<'a> Reader<'a> {
     /// A text from its beginning.
     #[must_use]
     pub fn new(source: &'a Source, program: Program) -> Reader<'a> {
+        let trays = program.trays.iter().enumerate();
+        let trays = trays.map(|(index, tray)| (tray.name.clone(), Name::Tray(index)));
+        let definitions = program.definitions.iter().enumerate();
+        let names = definitions
+            .map(|(index, definition)| (definition.name.clone(), Name::Definition(index)))
+            .chain(trays)
+            .collect();
         Reader {
             source,
             program,
@@ -48,7 +66,44 @@ impl<'a> Reader<'a> {
             told_too_many: false,
             tokens: lexer::tokens(source),
             at: 0,
+            names,
         }
+    }
+
+    /// The tray of this name.
+    #[must_use]
+    pub fn tray_named(&self, name: &str) -> Option<&Tray> {
+        match self.names.get(name)? {
+            Name::Tray(index) => self.program.trays.get(*index),
+            Name::Definition(_) => None,
+        }
+    }
+
+    /// The rule or plan of this name that stands above.
+    #[must_use]
+    pub fn definition(&self, name: &str) -> Option<usize> {
+        match self.names.get(name)? {
+            Name::Tray(_) => None,
+            Name::Definition(index) => Some(*index),
+        }
+    }
+
+    /// One more tray; of two with one name the first keeps it.
+    pub fn add_tray(&mut self, tray: Tray) {
+        let index = self.program.trays.len();
+        self.names
+            .entry(tray.name.clone())
+            .or_insert(Name::Tray(index));
+        self.program.trays.push(tray);
+    }
+
+    /// One more rule or plan; of two with one name the first keeps it.
+    pub fn add_definition(&mut self, definition: Definition) {
+        let index = self.program.definitions.len();
+        self.names
+            .entry(definition.name.clone())
+            .or_insert(Name::Definition(index));
+        self.program.definitions.push(definition);
     }
 
     /// The next piece.

@@ -17,7 +17,7 @@ impl Reader<'_> {
         let token = self.peek();
         let name = self.text();
         if token.kind == Kind::Word {
-            if let Some(tray) = self.program.tray_named(name) {
+            if let Some(tray) = self.tray_named(name) {
                 let number = tray.number;
                 self.advance();
                 return Ok(number);
@@ -36,7 +36,6 @@ impl Reader<'_> {
     fn several_at_once(&self, after: &str, part_with: &str) -> Problem {
         let behind = self.source.piece(self.ahead(1).span);
         let tray = self
-            .program
             .tray_named(behind)
             .map_or("batch", |tray| tray.name.as_str());
         Problem::error(self.peek().span, "tokens go one at a time")
@@ -62,15 +61,6 @@ impl Reader<'_> {
             Some(near) => problem.label(format!("did you mean '{near}'?")),
             None => problem.label(format!("write 'tray {name}' above")),
         }
-    }
-
-    /// The rule or plan of this name that stands above.
-    #[must_use]
-    pub fn definition(&self, name: &str) -> Option<usize> {
-        self.program
-            .definitions
-            .iter()
-            .position(|definition| definition.name == name)
     }
 
     fn class_of(&self, index: usize) -> Class {
@@ -100,7 +90,7 @@ impl Reader<'_> {
 
     fn no_definition(&self, span: Span, name: &str, class: Class) -> Problem {
         let word = class.word();
-        if self.program.tray_named(name).is_some() {
+        if self.tray_named(name).is_some() {
             return Problem::error(span, format!("'{name}' is a tray")).label(match class {
                 Class::Rule => format!("write 'put {name}' or 'take {name} then ...'"),
                 Class::Plan => format!("write 'take {name},' or 'put {name},'"),

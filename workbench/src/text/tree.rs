@@ -144,12 +144,6 @@ impl Program {
         (kind, innermost)
     }
 
-    /// The tray of this name.
-    #[must_use]
-    pub fn tray_named(&self, name: &str) -> Option<&Tray> {
-        self.trays.iter().find(|tray| tray.name == name)
-    }
-
     /// The name of a tray: the text's, or `t5` for one that the text does not
     /// name.
     #[must_use]

@@ -239,6 +239,35 @@ fn long_chains() {
     }
 }
 
+fn lines(how_many: usize, line: impl Fn(usize) -> String) -> String {
+    let lines: Vec<String> = (0..how_many).map(line).collect();
+    lines.join("\n") + "\n"
+}
+
+/// As many names as a text has room for: nobody waits long for the answer.
+#[test]
+fn long_texts() {
+    let begun = std::time::Instant::now();
+    let rules = lines(45_000, |n| format!("rule r{n} is put a"));
+    let chain = lines(39_999, |n| format!("rule r{} is r{n}", n + 1));
+    let trays = lines(60_000, |n| format!("tray t{n}"));
+    let unused = understand(&Source::new("", format!("tray a\n{rules}start r0\n"))).unwrap();
+    assert_eq!(unused.notes.len(), MOST_PROBLEMS);
+    let text = format!("tray a\nrule r0 is put a\n{chain}start r39999\n");
+    assert_eq!(
+        understand(&Source::new("", text))
+            .unwrap()
+            .table
+            .terms()
+            .len(),
+        1
+    );
+    let text = format!("{trays}start put t0\n");
+    assert!(understand(&Source::new("", text)).is_err());
+    // A search through all names for each of them took half a minute.
+    assert!(begun.elapsed().as_secs() < 10);
+}
+
 /// Damaged tables are told with the byte that the engine names.
 #[test]
 fn damaged_tables() {

@@ -15,6 +15,7 @@ mod documents;
 mod errors;
 mod examples;
 mod json;
+mod meaning;
 mod planted;
 mod playing;
 mod round_trips;

@@ -16,7 +16,7 @@ use crate::common::tables;
 
 /// Whether two tables mean the same, by the second implementation's reader and
 /// by none of the code that is under test.
-fn same_meaning(one: &Second, other: &Second) -> bool {
+pub(crate) fn same_meaning(one: &Second, other: &Second) -> bool {
     let mut seen = HashSet::new();
     let mut pairs = vec![(one.start, other.start)];
     while let Some((a, b)) = pairs.pop() {
