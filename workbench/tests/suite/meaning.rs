@@ -3,6 +3,8 @@
 //! This looks at the step from words to tree, which no check of the program
 //! itself covers.
 
+use std::fmt::Write as _;
+
 use reference::build::Builder;
 use reference::generator::Random;
 use reference::table::read_table;
@@ -181,18 +183,16 @@ impl Writer {
             let depth = self.random.below(3);
             if self.random.percent(50) {
                 let body = self.ways(depth);
-                self.text
-                    .push_str(&format!("plan way{number} is {}\n", body.words));
+                let _ = writeln!(self.text, "plan way{number} is {}", body.words);
                 self.plans.push((format!("way{number}"), body.term));
             } else {
                 let body = self.process(depth);
-                self.text
-                    .push_str(&format!("rule desk{number} is {}\n", body.words));
+                let _ = writeln!(self.text, "rule desk{number} is {}", body.words);
                 self.rules.push((format!("desk{number}"), body.term));
             }
         }
         let start = self.process(3);
-        self.text.push_str(&format!("start {}\n", start.words));
+        let _ = writeln!(self.text, "start {}", start.words);
         let count = self.random.byte_between(1, 255);
         self.table.tokens(1, count);
         let trays = format!("tray batch\ntray screen has {count}\ntray done\n");
