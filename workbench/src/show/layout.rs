@@ -7,66 +7,13 @@
 
 use std::fmt::Write as _;
 
+use super::piece::{Piece, DEFINITION, LONGEST_LINE};
 use super::reduced::{reduced, Reduced};
 use super::Labels;
 use crate::table::{Table, Term};
 
-/// A line of a readable text is at most so long, where its names allow it.
-const LONGEST_LINE: usize = 88;
 /// A shared part longer than this gets a name; shorter ones are written again.
 const LONGEST_SHARED: usize = 40;
-/// What stands before a definition's body, with a name of usual length.
-const DEFINITION: usize = 14;
-
-/// How a piece of text may be joined to others.
-#[derive(Clone, Copy, PartialEq, Eq)]
-enum Form {
-    /// Needs no brackets anywhere.
-    Closed,
-    /// Has a `then`: no `beside` may follow.
-    Open,
-    /// Two or more parts, joined by `beside` or `or else`.
-    Joined,
-}
-
-/// A term as it is written where it is used.
-#[derive(Clone)]
-struct Piece {
-    words: String,
-    form: Form,
-    /// What it is so many times, grouped in halves: `words` is `n of ..`.
-    copies: Option<(u8, u8)>,
-}
-
-impl Piece {
-    fn new(words: String, form: Form) -> Piece {
-        Piece {
-            words,
-            form,
-            copies: None,
-        }
-    }
-
-    fn in_brackets(&self) -> String {
-        format!("({})", self.words)
-    }
-
-    /// For a place where nothing joined may stand.
-    fn single(&self) -> String {
-        match self.form {
-            Form::Joined => self.in_brackets(),
-            _ => self.words.clone(),
-        }
-    }
-
-    /// For a place where nothing joined and no `then` may stand.
-    fn closed(&self) -> String {
-        match self.form {
-            Form::Closed => self.words.clone(),
-            _ => self.in_brackets(),
-        }
-    }
-}
 
 struct Layout<'a> {
     reduced: Reduced,
@@ -153,7 +100,7 @@ impl<'a> Layout<'a> {
         let mut pieces: Vec<Piece> = Vec::new();
         for number in (0..=u8::MAX).take(self.reduced.terms.len()) {
             let mut piece = self.body(number, &pieces);
-            while DEFINITION + piece.words.len() > LONGEST_LINE {
+            while DEFINITION + piece.width() > LONGEST_LINE {
                 let Some(longest) = self.longest_inner(number, &pieces) else {
                     break;
                 };
@@ -183,11 +130,11 @@ impl<'a> Layout<'a> {
     fn used(&self, number: u8, pieces: &[Piece]) -> Piece {
         let name = self.names.get(usize::from(number)).cloned().flatten();
         match name {
-            Some(name) => Piece::new(name, Form::Closed),
+            Some(name) => Piece::closed(name),
             None => pieces
                 .get(usize::from(number))
                 .cloned()
-                .unwrap_or_else(|| Piece::new(String::new(), Form::Closed)),
+                .unwrap_or_else(|| Piece::closed("")),
         }
     }
 
@@ -195,35 +142,32 @@ impl<'a> Layout<'a> {
     fn body(&self, number: u8, pieces: &[Piece]) -> Piece {
         let used = |number| self.used(number, pieces);
         let tray = |number| self.labels.tray(number);
-        let closed = |words| Piece::new(words, Form::Closed);
         match self.term(number) {
-            Term::Nothing => closed("nothing".to_owned()),
-            Term::End => closed("end".to_owned()),
-            Term::Retry => closed("retry".to_owned()),
-            Term::Put { tray: t } => closed(format!("put {}", tray(t))),
-            Term::Block { body } => closed(format!("block ({})", used(body).words)),
-            Term::Take { tray: t, then } => Piece::new(
-                format!("take {} then {}", tray(t), used(then).single()),
-                Form::Open,
-            ),
-            Term::Repeatedly { tray: t, then } => Piece::new(
-                format!("repeatedly take {} then {}", tray(t), used(then).single()),
-                Form::Open,
-            ),
+            Term::Nothing => Piece::closed("nothing"),
+            Term::End => Piece::closed("end"),
+            Term::Retry => Piece::closed("retry"),
+            Term::Put { tray: t } => Piece::closed(format!("put {}", tray(t))),
+            Term::Block { body } => Piece::block(&used(body)),
+            Term::Take { tray: t, then } => {
+                Piece::take(&format!("take {} then ", tray(t)), &used(then))
+            }
+            Term::Repeatedly { tray: t, then } => {
+                let before = format!("repeatedly take {} then ", tray(t));
+                Piece::take(&before, &used(then))
+            }
             Term::NoteTake { tray: t, rest } => {
-                closed(format!("take {}, {}", tray(t), used(rest).single()))
+                Piece::step(&format!("take {}, ", tray(t)), &used(rest))
             }
             Term::NotePut { tray: t, rest } => {
-                closed(format!("put {}, {}", tray(t), used(rest).single()))
+                Piece::step(&format!("put {}, ", tray(t)), &used(rest))
             }
-            Term::OrElse { left, right } => Piece::new(
-                format!("{} or else {}", used(left).single(), used(right).words),
-                Form::Joined,
-            ),
+            Term::OrElse { left, right } => Piece::or_else(&used(left), &used(right)),
             Term::Beside { left, right } => self.beside(left, right, pieces),
         }
     }
 
+    /// Two processes side by side: `n of P` where they are so many of one,
+    /// grouped as assembly groups them.
     fn beside(&self, left: u8, right: u8, pieces: &[Piece]) -> Piece {
         let first = self.used(left, pieces);
         let second = self.used(right, pieces);
@@ -231,18 +175,9 @@ impl<'a> Layout<'a> {
         let (of_left, one) = times(left, &first);
         let (of_right, other) = times(right, &second);
         if one == other && (of_left == of_right || of_left == of_right + 1) {
-            let count = of_left + of_right;
-            let single = self.used(one, pieces);
-            return Piece {
-                words: format!("{count} of {}", single.closed()),
-                form: Form::Closed,
-                copies: Some((count, one)),
-            };
+            return Piece::several(of_left + of_right, one, &self.used(one, pieces));
         }
-        Piece::new(
-            format!("{} beside {}", first.closed(), second.words),
-            Form::Joined,
-        )
+        Piece::beside(&first, &second)
     }
 
     /// The term that was due where assembly would first lay down another one.
@@ -284,7 +219,7 @@ impl<'a> Layout<'a> {
         for ((term, name), piece) in self.reduced.terms.iter().zip(&self.names).zip(pieces) {
             if let Some(name) = name {
                 let word = if term.is_process() { "rule" } else { "plan" };
-                let _ = writeln!(text, "{word} {name} is {}", piece.words);
+                let _ = writeln!(text, "{word} {name} is{}", piece.laid_out());
             }
         }
         if self.names.iter().any(Option::is_some) {
@@ -292,8 +227,8 @@ impl<'a> Layout<'a> {
         }
         let _ = writeln!(
             text,
-            "start {}",
-            self.used(self.reduced.start, pieces).words
+            "start{}",
+            self.used(self.reduced.start, pieces).laid_out()
         );
         text
     }

@@ -5,6 +5,7 @@
 
 mod exact;
 mod layout;
+mod piece;
 pub mod reduced;
 
 use std::collections::BTreeMap;

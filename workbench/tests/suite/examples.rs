@@ -60,7 +60,7 @@ fn the_second_implementation_agrees() {
         let printed = String::from_utf8(printed_run(&bytes)).unwrap();
         let run = hall_in(&folder, &["run", "--json", name], b"").out;
         let last = parsed(run.lines().last().unwrap());
-        if run.matches("\"refused\": ").count() > 0 {
+        if last.number("refused") > 0 {
             // A list of choices ends with its refusal, where a lesson goes on.
             assert!(!printed.starts_with("R 0 "), "{name}: {printed}");
             continue;

@@ -66,6 +66,7 @@ fn readable_texts_rebuild_the_reduced_table() {
             "{which}\n{text}"
         );
         assert!(is_reduced(&rebuilt), "{which}\n{text}");
+        assert!(text.lines().all(|line| line.len() <= 88), "{which}\n{text}");
         let very_same = rebuilt.bytes() == table.bytes();
         assert_eq!(very_same, is_reduced(&table), "{which}");
         same += usize::from(very_same);

@@ -48,6 +48,8 @@ struct Run<'a, 's, 't> {
     number: usize,
     /// Whether the last line printed is an empty one.
     after_gap: bool,
+    /// The name of the station that the choice calls.
+    acting: String,
 }
 
 impl From<Contradiction> for Failure {
@@ -91,6 +93,7 @@ pub(super) fn run(args: &Args, streams: &mut Streams<'_>) -> Outcome {
         streams,
         number: 0,
         after_gap: true,
+        acting: String::new(),
     }
     .all(&script)
 }
@@ -159,6 +162,7 @@ impl Run<'_, '_, '_> {
             Err(lost) => return Ok(Some(self.lost(line, &lost))),
         };
         let before = self.lesson.rehearsal().clone();
+        self.acting = before.now().names.name(position_of(choice));
         match self.lesson.make(choice)? {
             Answer::Moved(happened) => {
                 self.moved(&happened)?;
@@ -197,10 +201,16 @@ impl Run<'_, '_, '_> {
 
     fn numbered(&mut self, word: &str, rule: Option<Rule>, sentence: &str) -> Result<(), Failure> {
         let first = format!("{:>4}  {word:<6}  ", self.number);
-        for line in wrapped(&first, sentence) {
-            let line = match painted(rule, word, self.streams) {
-                Some(paint) => line.replacen(word, &paint, 1),
-                None => line,
+        let name = self.acting.clone();
+        for (index, line) in wrapped(&first, sentence).into_iter().enumerate() {
+            let line = if index == 0 {
+                let named = line.replacen(&name, &self.streams.style.bold(&name), 1);
+                match painted(rule, word, self.streams) {
+                    Some(paint) => named.replacen(word, &paint, 1),
+                    None => named,
+                }
+            } else {
+                line
             };
             writeln!(self.streams.out, "{line}")?;
         }

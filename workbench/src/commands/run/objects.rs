@@ -50,10 +50,15 @@ pub(crate) fn last_object(lesson: &Lesson<'_>) -> Result<String, Failure> {
         });
     let names = &hall.now().names;
     let stations = (0..names.len()).map(|position| json::string(&names.name(position)));
-    let ended = lesson.calls().iter().rev().find_map(|call| call.refused);
+    // A call that a refusal ended, with nothing behind it.
+    let ended = match lesson.calls() {
+        [.., refused, open] if open.choices.is_empty() => refused.refused,
+        _ => None,
+    };
     let tally = hall.tally();
     Ok(Object::new()
         .count("done", lesson.done())
+        .count("refused", lesson.refused())
         .number("ended", ended.unwrap_or(0))
         .number("commits", tally.commits)
         .number("failed", tally.failed)
