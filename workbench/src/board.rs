@@ -100,28 +100,26 @@ impl Board<'_> {
     }
 
     fn station(&self, station: &Station, now: &Moment) -> String {
-        let doing = doing(self.table, self.program, station);
         let term = match station {
             Station::Putting(tray) => {
                 let full = count_of(&now.counts, *tray) == u8::MAX;
-                return if full {
-                    format!("about to {doing} (full: must wait)")
-                } else {
-                    format!("about to {doing}")
-                };
+                let wait = if full { " (full: must wait)" } else { "" };
+                return format!("about to put {}{wait}", self.program.tray_name(*tray));
             }
             Station::Attempt(attempt) => return self.opened_at(attempt),
             Station::Waiting(term) => *term,
         };
-        match self.table.term(term) {
-            Term::Take { tray, .. } | Term::Repeatedly { tray, .. } => {
-                match count_of(&now.counts, tray) {
-                    0 => format!("about to {doing} (empty: must wait)"),
-                    count => format!("about to {doing} ({count} there)"),
-                }
-            }
-            _ => "block, not begun".to_owned(),
-        }
+        let (tray, stays) = match self.table.term(term) {
+            Term::Take { tray, .. } => (tray, ""),
+            Term::Repeatedly { tray, .. } => (tray, ", and stays for the next"),
+            _ => return "block, not begun".to_owned(),
+        };
+        let there = match count_of(&now.counts, tray) {
+            0 => "empty: must wait".to_owned(),
+            count => format!("{count} there"),
+        };
+        let tray = self.program.tray_name(tray);
+        format!("about to take {tray}{stays} ({there})")
     }
 
     fn opened_at(&self, attempt: &Attempt) -> String {

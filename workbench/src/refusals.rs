@@ -15,6 +15,7 @@ pub fn reason(hall: &Rehearsal<'_>, choice: Choice, refusal: Refusal) -> String 
     let name = now.names.name_and_origin(position);
     let station = now.stations.get(position);
     let doing = station.map_or(String::new(), |it| doing(hall.table(), hall.program(), it));
+    let doing = doing.strip_prefix("repeatedly ").unwrap_or(&doing);
     match refusal.number {
         Refusal::CHOICE_KIND => "a choice begins with 1 or 2".to_owned(),
         Refusal::CHOICE_CUT_SHORT => "the choice is cut short".to_owned(),

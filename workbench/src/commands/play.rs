@@ -32,8 +32,8 @@ act ..., step ... node ...: as a lesson says it                  w STATION: why
 save FILE: the choices so far as text                            q: leave
 ";
 
-/// A session: the lesson so far, and how it was before each choice.
-struct Session<'a, 's, 't> {
+/// A hall at play: the lesson so far, and how it was before each choice.
+struct Playing<'a, 's, 't> {
     lesson: Lesson<'a>,
     teller: Teller<'a>,
     past: Vec<(Lesson<'a>, Teller<'a>, usize)>,
@@ -71,7 +71,7 @@ pub(super) fn play(args: &Args, streams: &mut Streams<'_>) -> Outcome {
             Err(unloaded) => return refused(name, unloaded, false, streams),
         },
     };
-    let mut session = Session {
+    let mut playing = Playing {
         lesson: Lesson::open(&loaded.table, &loaded.program)?,
         teller: Teller::new(&loaded.table, &loaded.program),
         past: Vec::new(),
@@ -81,15 +81,15 @@ pub(super) fn play(args: &Args, streams: &mut Streams<'_>) -> Outcome {
     for line in first.iter().flat_map(|script| &script.lines) {
         let source = first.as_ref().map(|script| &script.source);
         if let Some(source) = source {
-            if !session.made_before(source, line)? {
+            if !playing.made_before(source, line)? {
                 return Ok(Exit::Refused);
             }
         }
     }
-    session.prompt(&loaded.program)
+    playing.prompt(&loaded.program)
 }
 
-impl Session<'_, '_, '_> {
+impl Playing<'_, '_, '_> {
     /// A line of the choices that are made first; whether it went as it says.
     fn made_before(&mut self, source: &Source, line: &Line) -> Result<bool, Failure> {
         let problem = match self.lesson.choice(&line.ask) {
@@ -309,7 +309,7 @@ impl Session<'_, '_, '_> {
                 "      {} written to {file}: hall run FILE {file} makes them again",
                 self.said.len()
             )?,
-            // The session goes on: the choices are not lost.
+            // One plays on: the choices are not lost.
             Err(Failure::File(words)) => writeln!(self.streams.out, "      {words}")?,
             Err(failure) => return Err(failure),
         }

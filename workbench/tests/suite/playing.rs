@@ -1,4 +1,4 @@
-//! Sessions at the prompt.
+//! Playing at the prompt.
 
 use std::fs;
 
@@ -17,7 +17,7 @@ rule scanner is put batch
 start desk beside 2 of scanner
 ";
 
-fn session(name: &str, input: &str) -> Answer {
+fn played(name: &str, input: &str) -> Answer {
     let folder = scratch(name);
     fs::write(folder.join("a.hall"), TEXT).unwrap();
     hall_in(&folder, &["play", "a.hall"], input.as_bytes())
@@ -28,20 +28,20 @@ fn parts(answer: &Answer) -> Vec<&str> {
     answer.out.split("\n> ").collect()
 }
 
-/// A session to the byte.
+/// What is printed at play, to the byte.
 #[test]
-fn a_session_as_it_is_told() {
+fn a_hall_at_play_as_it_is_told() {
     let told = package().join("tests/told");
-    let input = fs::read_to_string(told.join("session.in")).unwrap();
-    let expected = fs::read_to_string(told.join("session.out")).unwrap();
-    let answer = session("session", &input);
+    let input = fs::read_to_string(told.join("play.in")).unwrap();
+    let expected = fs::read_to_string(told.join("play.out")).unwrap();
+    let answer = played("play", &input);
     assert_eq!(answer.out, expected);
     assert_eq!((answer.code, answer.err.as_str()), (Some(0), ""));
 }
 
 #[test]
 fn the_end_of_the_input_leaves() {
-    let answer = session("end", "");
+    let answer = played("end", "");
     assert_eq!((answer.code, answer.err.as_str()), (Some(0), ""));
     assert!(answer.out.ends_with("> \n"), "{}", answer.out);
 }
@@ -50,7 +50,7 @@ fn the_end_of_the_input_leaves() {
 /// board.
 #[test]
 fn undo() {
-    let answer = session("undo", "1\nact scanner 1\nu\nact scanner 1\nu\nu\nu\nq\n");
+    let answer = played("undo", "1\nact scanner 1\nu\nact scanner 1\nu\nu\nu\nq\n");
     let parts = parts(&answer);
     let board = |part: &str| part.split_once("\n\n").map(|it| it.1.to_owned());
     let first = parts[0].trim_start();
@@ -65,7 +65,7 @@ fn undo() {
 /// Names, as a lesson says them; `board` and `why` as written.
 #[test]
 fn words_of_a_lesson() {
-    let answer = session("words", "act desk\nstep desk\nboard\nwhy desk\nw desk\nq\n");
+    let answer = played("words", "act desk\nstep desk\nboard\nwhy desk\nw desk\nq\n");
     let parts = parts(&answer);
     assert!(parts[1].contains("desk opens an attempt"), "{}", parts[1]);
     assert!(parts[2].contains("desk splits into 2 ways"), "{}", parts[2]);
@@ -87,7 +87,7 @@ fn words_of_a_lesson() {
 #[test]
 fn refused_and_unknown() {
     let input = "step desk\nact scanner\nact nobody\nact 9\n77\nhello\nu\nq\n";
-    let answer = session("refused", input);
+    let answer = played("refused", input);
     let parts = parts(&answer);
     assert!(
         parts[1].contains("refused 15: desk has no open attempt."),
@@ -124,7 +124,7 @@ fn refused_and_unknown() {
     assert_eq!(answer.code, Some(0));
 }
 
-/// A session becomes a lesson, without what was taken back.
+/// What was played becomes a lesson, without what was taken back.
 #[test]
 fn saved_and_run_again() {
     let folder = scratch("saved");
@@ -150,7 +150,7 @@ fn saved_and_run_again() {
     let run = hall_in(&folder, &["run", "--quiet", "a.hall", "some.choices"], b"");
     assert_eq!(run.code, Some(0));
     assert!(run.out.starts_with("4 choices done: "), "{}", run.out);
-    // They can be made first, and a session goes on from there.
+    // They can be made first, and one plays on from there.
     let input = b"u\nq\n";
     let answer = hall_in(&folder, &["play", "a.hall", "some.choices"], input);
     assert_eq!((answer.code, answer.err.as_str()), (Some(0), ""));

@@ -315,7 +315,7 @@ fn steps_and_runs_agree() {
     assert!(refused > 500, "{refused}");
 }
 
-/// The text that a session saves makes the same choices again.
+/// The text that play saves makes the same choices again.
 #[test]
 fn saved_choices_are_the_same_choices() {
     let mut random = Random::new(17);
