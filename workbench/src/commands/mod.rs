@@ -192,7 +192,7 @@ mod tests {
         );
         let closed = Failure::Output(Error::from(ErrorKind::BrokenPipe));
         assert_eq!(said(&closed), (0, String::new()));
-        let full = Failure::Output(Error::from(ErrorKind::StorageFull));
+        let full = Failure::Output(Error::from(ErrorKind::Other));
         assert_eq!(said(&full).0, 3);
     }
 }

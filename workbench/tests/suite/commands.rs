@@ -347,6 +347,49 @@ fn a_run_without_choices() {
 }
 
 #[test]
+fn a_lesson_in_an_exact_text() {
+    let folder = folder("exact-lesson");
+    let exact = hall_in(&folder, &["show", "--exact", "a.hall"], b"").out;
+    let lesson = format!("{exact}choices act block => opens step block => finds");
+    fs::write(folder.join("exact.hall"), lesson).unwrap();
+    let answer = hall_in(&folder, &["run", "exact.hall"], b"");
+    assert_eq!((answer.code, answer.err.as_str()), (Some(0), ""));
+    assert!(
+        answer.out.contains("block notes that it will take one a"),
+        "{}",
+        answer.out
+    );
+}
+
+/// A text has at most 1 MiB, and no file more than 16.
+#[test]
+fn files_that_are_too_large() {
+    let folder = scratch("large");
+    let mut text = String::from("tray a\nstart put a\n#");
+    text.push_str(&"x".repeat((1 << 20) - text.len()));
+    fs::write(folder.join("whole"), &text).unwrap();
+    fs::write(folder.join("more"), text + "x").unwrap();
+    fs::write(folder.join("huge"), vec![b'#'; (1 << 24) + 1]).unwrap();
+    assert_eq!(hall_in(&folder, &["check", "whole"], b"").code, Some(0));
+    let answer = hall_in(&folder, &["check", "more"], b"");
+    assert_eq!((answer.code, answer.out.as_str()), (Some(1), ""));
+    assert!(
+        answer
+            .err
+            .starts_with("more:1:1: error: a text has at most 1 MiB\n"),
+        "{}",
+        answer.err
+    );
+    let answer = hall_in(&folder, &["check", "huge"], b"");
+    is(
+        &answer,
+        3,
+        "",
+        "hall: cannot read huge: larger than 16 MiB\n",
+    );
+}
+
+#[test]
 fn a_closed_pipe_ends_quietly() {
     let folder = scratch("pipe");
     let acts = "  act 0\n".repeat(60);
