@@ -22,6 +22,16 @@ pub enum Material {
     Bytes(Vec<u8>),
 }
 
+/// How a file is called in what is printed.
+#[must_use]
+pub fn shown_name(name: &str) -> &str {
+    if name == "-" {
+        "standard input"
+    } else {
+        name
+    }
+}
+
 /// All bytes of a file; `-` is standard input.
 ///
 /// # Errors
@@ -57,7 +67,7 @@ pub fn material(name: &str, bytes: Vec<u8>, binary: bool) -> Material {
     if binary || looks_binary(&bytes) {
         return Material::Bytes(bytes);
     }
-    let name = if name == "-" { "standard input" } else { name };
+    let name = shown_name(name);
     if bytes.len() > LONGEST_TEXT {
         let problem = Problem::error(Span::default(), "a text has at most 1 MiB");
         return Material::Unreadable(Source::new(name, ""), Box::new(problem));

@@ -9,11 +9,16 @@
 //! | Module | What it holds |
 //! |---|---|
 //! | [`text`] | texts: words, grammar, tree, assembly, errors |
-//! | [`table`] | an accepted table, read into terms |
-//! | [`stations`] | a hall's stations, read from its bytes |
+//! | [`table`], [`measures`] | an accepted table, read into terms; their sizes |
+//! | [`show`] | from a table back to text |
+//! | [`stations`], [`ways`] | a hall's stations, read from its bytes; the ways of a block |
 //! | [`names`] | names of stations that stay while positions shift |
 //! | [`rehearsal`] | a hall under way, with its names |
-//! | [`rules`] | the thirteen rules and their words |
+//! | [`lesson`] | choices made one by one, and once more as whole runs |
+//! | [`rules`], [`sentences`], [`refusals`] | what a choice did, or why it is refused, in words |
+//! | [`board`], [`why`](mod@why) | the hall as it stands; what an attempt will come to |
+//! | [`input`], [`bytes_told`], [`json`], [`style`] | files, refusals of bytes, objects, colour |
+//! | [`commands`] | the commands, their streams and exit codes |
 
 pub mod board;
 pub mod bytes_told;

@@ -1,5 +1,7 @@
 //! Colour where a person looks on, and lines of a width that fits.
 
+use std::ffi::OsStr;
+
 /// Whether words are coloured. No meaning rests on it.
 #[derive(Clone, Copy, Debug, Default, PartialEq, Eq)]
 pub struct Style {
@@ -16,10 +18,10 @@ impl Style {
     /// nobody has asked to do without.
     #[must_use]
     pub fn of_stream(is_terminal: bool) -> Style {
-        let unwanted = std::env::var_os("NO_COLOR").is_some_and(|value| !value.is_empty());
-        let dumb = std::env::var_os("TERM").is_some_and(|value| value == "dumb");
+        let variable = |name| std::env::var_os(name);
+        let (no_colour, term) = (variable("NO_COLOR"), variable("TERM"));
         Style {
-            coloured: is_terminal && !unwanted && !dumb,
+            coloured: is_terminal && wanted(no_colour.as_deref(), term.as_deref()),
         }
     }
 
@@ -56,6 +58,13 @@ impl Style {
     }
 }
 
+/// Whether a terminal with these variables is to have colour.
+fn wanted(no_colour: Option<&OsStr>, term: Option<&OsStr>) -> bool {
+    let unwanted = no_colour.is_some_and(|value| !value.is_empty());
+    let dumb = term.is_some_and(|value| value == "dumb");
+    !unwanted && !dumb
+}
+
 /// How wide told lines are.
 pub const WIDTH: usize = 96;
 
@@ -86,6 +95,7 @@ pub fn wrapped(first: &str, words: &str) -> Vec<String> {
 #[cfg(test)]
 mod tests {
     use super::{wrapped, Style, WIDTH};
+    use std::ffi::OsStr;
 
     #[test]
     fn lines_of_a_width() {
@@ -108,6 +118,18 @@ mod tests {
             wrapped("> ", &format!("a {long} b")),
             ["> a".to_owned(), format!("  {long}"), "  b".to_owned()]
         );
+    }
+
+    #[test]
+    fn colour_only_where_it_is_wanted() {
+        let wanted = |no_colour: Option<&str>, term: Option<&str>| {
+            super::wanted(no_colour.map(OsStr::new), term.map(OsStr::new))
+        };
+        assert!(wanted(None, Some("xterm")));
+        assert!(wanted(Some(""), None));
+        assert!(!wanted(Some("1"), Some("xterm")));
+        assert!(!wanted(None, Some("dumb")));
+        assert_eq!(Style::of_stream(false), Style::PLAIN);
     }
 
     #[test]

@@ -91,8 +91,9 @@ fn accepted(name: &str, loaded: &Loaded, json: bool, streams: &mut Streams<'_>) 
     }
     writeln!(
         streams.out,
-        "{name}: {}. {terms} of 200 terms, {trays} of 16 trays, {stations} of 64 stations, \
+        "{}: {}. {terms} of 200 terms, {trays} of 16 trays, {stations} of 64 stations, \
          longest way {longest_way} of 16, most ways {most_ways} of 8.",
+        input::shown_name(name),
         streams.style.good("accepted")
     )?;
     Ok(Exit::Good)
@@ -121,7 +122,8 @@ pub(super) fn refused(
             refused_object(json::list([problem]), streams)?;
         }
         Unloaded::Table(bytes, refusal) => {
-            let words = bytes_told::told(name, &bytes, refusal, streams.err_style);
+            let words =
+                bytes_told::told(input::shown_name(name), &bytes, refusal, streams.err_style);
             streams.err.write_all(words.as_bytes())?;
         }
     }
@@ -179,6 +181,7 @@ fn stored_hall(name: &str, table: &Table, json: bool, streams: &mut Streams<'_>)
         }
         Ok(()) => {
             let accepted = streams.style.good("accepted");
+            let name = input::shown_name(name);
             writeln!(streams.out, "{name}: {accepted}: a hall of this table.")?;
             Ok(Exit::Good)
         }
@@ -188,7 +191,8 @@ fn stored_hall(name: &str, table: &Table, json: bool, streams: &mut Streams<'_>)
             Ok(Exit::Refused)
         }
         Err(refusal) => {
-            let words = bytes_told::hall_told(name, &bytes, refusal, streams.err_style);
+            let words =
+                bytes_told::hall_told(input::shown_name(name), &bytes, refusal, streams.err_style);
             streams.err.write_all(words.as_bytes())?;
             Ok(Exit::Refused)
         }

@@ -53,9 +53,10 @@ impl From<Failure> for Unloaded {
 ///
 /// Where it can't be read.
 pub fn bytes_of(name: &str, streams: &mut Streams<'_>) -> Result<Vec<u8>, Failure> {
-    let shown = if name == "-" { "standard input" } else { name };
-    input::bytes_of(name, streams.input)
-        .map_err(|error| Failure::File(format!("cannot read {shown}: {error}")))
+    input::bytes_of(name, streams.input).map_err(|error| {
+        let shown = input::shown_name(name);
+        Failure::File(format!("cannot read {shown}: {error}"))
+    })
 }
 
 /// The table of a file, whose choices may stand behind it.

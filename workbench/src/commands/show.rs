@@ -3,6 +3,7 @@
 use super::check::refused;
 use super::load::{self, Loaded};
 use super::{Args, Exit, Failure, Outcome, Streams};
+use crate::input::shown_name;
 use crate::show::{self, reduced, Labels};
 use crate::table::Table;
 use crate::text;
@@ -38,8 +39,9 @@ pub(super) fn show(args: &Args, streams: &mut Streams<'_>) -> Outcome {
         streams.out.flush()?;
         writeln!(
             streams.err,
-            "{name}: note: this text builds {} bytes, the table has {}: unused and equal terms are \
+            "{}: note: this text builds {} bytes, the table has {}: unused and equal terms are \
              left out. show --exact keeps every byte.",
+            shown_name(name),
             wanted.len(),
             table.bytes().len()
         )?;

@@ -225,6 +225,14 @@ fn checked() {
             "",
         );
     }
+    let answer = hall_in(&folder, &["check", "-"], TEXT.as_bytes());
+    is(&answer, 0, &format!("standard input: {limits}"), "");
+    let answer = hall_in(&folder, &["check", "-"], b"tray a\n");
+    assert!(
+        answer.err.starts_with("standard input:1:7: error: "),
+        "{}",
+        answer.err
+    );
     // A text read as a table is none.
     let answer = hall_in(&folder, &["check", "--binary", "a.hall"], b"");
     assert_eq!(answer.code, Some(1));
