@@ -1,15 +1,14 @@
 //! Commands: streams, exit codes, files, help.
 
 use std::fs;
-use std::io::{BufReader, Read as _};
+use std::io::Read as _;
 use std::path::Path;
 use std::process::{Command, Stdio};
 
 use ruonfidd::Hall;
-use workbench::commands::{self, Streams};
 use workbench::style::Style;
 
-use crate::common::{hall, hall_in, package, raw_hall_in, scratch, Answer};
+use crate::common::{called, hall, hall_in, package, raw_hall_in, scratch, Answer};
 
 const COMMANDS: [&str; 5] = ["check", "build", "show", "run", "play"];
 
@@ -426,29 +425,6 @@ fn a_closed_pipe_ends_quietly() {
     assert_eq!((child.wait().unwrap().code(), err.as_str()), (Some(0), ""));
 }
 
-/// The library's own call, with colour as on a terminal.
-fn called(arguments: &[&str], style: Style, out_is_terminal: bool) -> (u8, String, String) {
-    let arguments: Vec<String> = arguments.iter().map(|it| (*it).to_owned()).collect();
-    let (mut out, mut err) = (Vec::new(), Vec::new());
-    let code = commands::main(
-        &arguments,
-        &mut Streams {
-            input: &mut BufReader::new(&b""[..]),
-            out: &mut out,
-            err: &mut err,
-            style,
-            err_style: style,
-            out_is_terminal,
-            input_is_terminal: false,
-        },
-    );
-    (
-        code,
-        String::from_utf8(out).unwrap(),
-        String::from_utf8(err).unwrap(),
-    )
-}
-
 #[test]
 fn colour_adds_no_words() {
     let example = |name: &str| package().join(name).display().to_string();
@@ -459,20 +435,16 @@ fn colour_adds_no_words() {
         ("check", "tests/errors/stations.hall"),
     ] {
         let file = example(file);
-        let plain = called(&[command, &file], Style::PLAIN, false);
-        let coloured = called(&[command, &file], Style::COLOURED, true);
-        assert!(
-            !plain.1.contains('\u{1b}') && !plain.2.contains('\u{1b}'),
-            "{file}"
-        );
-        assert!(
-            coloured.1.contains('\u{1b}') || coloured.2.contains('\u{1b}'),
-            "{file}"
-        );
-        assert_eq!(
-            (plain.0, plain.1, plain.2),
-            (coloured.0, bare(&coloured.1), bare(&coloured.2))
-        );
+        let plain = called(&[command, &file], b"", Style::PLAIN, false);
+        let coloured = called(&[command, &file], b"", Style::COLOURED, true);
+        let painted = |answer: &Answer| format!("{}{}", answer.out, answer.err).contains('\u{1b}');
+        assert!(!painted(&plain) && painted(&coloured), "{file}");
+        let bare = Answer {
+            code: coloured.code,
+            out: bare(&coloured.out),
+            err: bare(&coloured.err),
+        };
+        assert_eq!(plain, bare);
     }
 }
 
@@ -496,15 +468,12 @@ fn bytes_stay_off_the_terminal() {
         .join("examples/handover.hall")
         .display()
         .to_string();
-    let (code, out, err) = called(&["build", &file], Style::PLAIN, true);
-    assert_eq!((code, out.as_str()), (2, ""));
-    assert_eq!(
-        err,
-        "hall: build: bytes do not belong on a terminal: add -o FILE\n"
-    );
+    let answer = called(&["build", &file], b"", Style::PLAIN, true);
+    let refused = "hall: build: bytes do not belong on a terminal: add -o FILE\n";
+    is(&answer, 2, "", refused);
 }
 
-/// What runs of three lessons say, to the byte.
+/// What runs of four lessons say, to the byte.
 #[test]
 fn runs_as_they_are_told() {
     let told = package().join("tests/told");

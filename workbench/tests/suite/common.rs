@@ -1,11 +1,13 @@
 //! What the tests share: calls of the program, and random tables.
 
 use std::fs;
-use std::io::Write as _;
+use std::io::{BufReader, Write as _};
 use std::path::{Path, PathBuf};
 use std::process::{Command, Output, Stdio};
 
 use reference::generator::{accepted_table, contended_table, nearly_full_table, Random, Shape};
+use workbench::commands::{self, Streams};
+use workbench::style::Style;
 use workbench::table::Table;
 
 /// The package's folder.
@@ -49,6 +51,30 @@ pub(crate) fn raw_hall_in(folder: &Path, arguments: &[&str], input: &[u8]) -> Ou
 /// Calls the program in the package's folder.
 pub(crate) fn hall(arguments: &[&str]) -> Answer {
     hall_in(package(), arguments, b"")
+}
+
+/// Calls the program's commands in this process, with this on standard input.
+pub(crate) fn called(arguments: &[&str], input: &[u8], style: Style, terminal: bool) -> Answer {
+    let arguments: Vec<String> = arguments.iter().map(|it| (*it).to_owned()).collect();
+    let (mut out, mut err) = (Vec::new(), Vec::new());
+    let code = commands::main(
+        &arguments,
+        &mut Streams {
+            input: &mut BufReader::new(input),
+            out: &mut out,
+            err: &mut err,
+            style,
+            err_style: style,
+            out_is_terminal: terminal,
+            input_is_terminal: false,
+        },
+    );
+    Answer {
+        code: Some(code.into()),
+        // The bytes of a table are no letters.
+        out: String::from_utf8_lossy(&out).into_owned(),
+        err: String::from_utf8(err).expect("letters on standard error"),
+    }
 }
 
 /// A folder for one test, empty at its beginning.

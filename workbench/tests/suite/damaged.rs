@@ -14,7 +14,7 @@ use workbench::text::source::Source;
 use workbench::text::words::{LATER, WORDS};
 use workbench::text::{understand, Misunderstood};
 
-use crate::common::{files, package, tables};
+use crate::common::{called, files, package, tables};
 
 const TEXTS: usize = 40_000;
 
@@ -285,4 +285,53 @@ fn damaged_tables() {
         }
     }
     assert!(numbers[1..].iter().all(|times| *times > 20), "{numbers:?}");
+}
+
+/// Whatever a file holds, every command ends with accepted or refused; above all
+/// no check of the program against itself goes wrong.
+#[test]
+fn any_file_on_any_command() {
+    let texts = texts();
+    let mut random = Random::new(36);
+    let calls: [&[&str]; 9] = [
+        &["check", "-"],
+        &["check", "--json", "-"],
+        &["show", "-"],
+        &["show", "--exact", "-"],
+        &["build", "--choices", "-"],
+        &["run", "-"],
+        &["run", "--board", "-"],
+        &["run", "--json", "-"],
+        &["run", "--quiet", "-"],
+    ];
+    let mut codes = [0; 2];
+    for index in 0..9_000 {
+        let text = &texts[random.below(texts.len())];
+        let input = match random.below(6) {
+            0 => {
+                let mut bytes = damaged_table(&mut random);
+                let length = random.below(12);
+                bytes.extend((0..length).map(|_| random.byte_below(4)));
+                bytes
+            }
+            1 => random.bytes(40),
+            2 => text.clone().into_bytes(),
+            3 => {
+                let mut bytes = text.clone().into_bytes();
+                let at = random.below(bytes.len() + 1);
+                bytes.insert(at, random.byte());
+                bytes
+            }
+            _ => damaged(&mut random, text).into_bytes(),
+        };
+        let arguments = calls[index % calls.len()];
+        let answer = called(arguments, &input, Style::PLAIN, false);
+        let which = format!("seed 36, file {index}, {arguments:?}: {}", answer.err);
+        match answer.code {
+            Some(0) => codes[0] += 1,
+            Some(1) => codes[1] += 1,
+            _ => panic!("{which}\n{input:?}"),
+        }
+    }
+    assert!(codes.iter().all(|times| *times > 1_000), "{codes:?}");
 }

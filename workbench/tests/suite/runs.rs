@@ -3,7 +3,10 @@
 
 use std::fmt::Write as _;
 
-use reference::generator::Random;
+use reference::generator::{choices, Random};
+use reference::hall::opening;
+use reference::print::printed_run;
+use reference::table::read_table;
 use ruonfidd::{Choice, Moved, Refusal};
 use workbench::board::Board;
 use workbench::lesson::{choice_words, Answer, Lesson};
@@ -21,7 +24,8 @@ use workbench::text::understand;
 use workbench::ways::{ways_of_block, within};
 use workbench::why::why;
 
-use crate::common::tables;
+use crate::common::{called, tables};
+use crate::json::parsed;
 
 /// Tables with the program of their text, or with that of the bare table.
 fn halls(seed: u64, how_many: usize) -> impl Iterator<Item = (String, Table, Program)> {
@@ -338,4 +342,51 @@ fn saved_choices_are_the_same_choices() {
         }
         assert_eq!(again.calls(), lesson.calls(), "{which}\n{text}");
     }
+}
+
+/// A table with random choices behind it, refused ones among them: the run told
+/// here and the run printed by the second implementation are the same.
+#[test]
+fn runs_of_bytes_are_those_of_the_second_implementation() {
+    let mut random = Random::new(18);
+    let mut refused = 0;
+    for (which, table) in tables(18, 1_200) {
+        let decoded = read_table(table.bytes()).unwrap();
+        let list = choices(&mut random, &decoded, &opening(&decoded), 30, 50);
+        if list.is_empty() {
+            continue;
+        }
+        let input = [table.bytes(), list.as_slice()].concat();
+        let printed = String::from_utf8(printed_run(&input)).unwrap();
+        let answer = called(&["run", "--json", "-"], &input, Style::PLAIN, false);
+        let told = parsed(answer.out.lines().last().unwrap());
+        let head: Vec<&str> = printed.lines().next().unwrap().split(' ').collect();
+        let ended = told.number("ended");
+        refused += usize::from(ended != 0);
+        assert_eq!(head[1], ended.to_string(), "{which}\n{list:?}");
+        assert_eq!(
+            head[3],
+            told.number("done").to_string(),
+            "{which}\n{list:?}"
+        );
+        assert_eq!(
+            answer.code,
+            Some(i32::from(ended != 0)),
+            "{which}\n{list:?}"
+        );
+        let tally = ["commits", "failed", "retries"].map(|field| told.number(field).to_string());
+        assert_eq!(
+            printed.lines().nth(1),
+            Some(format!("C {}", tally.join(" ")).as_str())
+        );
+        let stations = printed
+            .lines()
+            .filter(|line| line.starts_with(['P', 'W', 'A']));
+        assert_eq!(
+            stations.count(),
+            told.field("stations").list().len(),
+            "{which}\n{list:?}"
+        );
+    }
+    assert!(refused > 300, "{refused}");
 }
