@@ -1,7 +1,7 @@
 //! Reading a whole text: trays, rules, plans, the start and the choices.
 
 use super::exact;
-use super::lexer::Kind;
+use super::lexer::{Kind, Token};
 use super::problems::{Level, Problem};
 use super::reader::{Read, Reader};
 use super::source::{Source, Span};
@@ -94,47 +94,55 @@ impl Reader<'_> {
             return self.fail(self.no_item());
         }
         self.advance();
-        match (word, start) {
-            ("choices", Some(_)) => {
-                let lines = self.lesson();
-                if self.program.choices.is_some() {
-                    let problem = Problem::error(token.span, "a second 'choices'")
-                        .label("go on behind the first");
-                    return self.fail(problem);
-                }
-                self.program.choices = Some(lines);
-                return Ok(());
-            }
-            ("choices", None) => {
-                let problem = Problem::error(token.span, "'choices' comes before 'start'")
-                    .label("first the stations, then what they do");
-                // Which stations its lines call can't be known yet.
-                let told = self.problems.len();
-                self.lesson();
-                self.problems.truncate(told);
-                return self.fail(problem);
-            }
-            ("start", Some(first)) => {
-                let line = self.line_of(first);
-                let problem = Problem::error(token.span, "a second 'start'")
-                    .label(format!("the first is on line {line}"))
-                    .help("one 'start' names all stations, parted by 'beside'")
-                    .would_be(9);
-                return self.fail(problem);
-            }
-            (_, Some(_)) => {
-                let problem = Problem::error(token.span, format!("'{word}' comes after 'start'"))
-                    .label("'start' closes the rules: write it last")
-                    .help("after 'start' only 'choices' may follow")
-                    .would_be(9);
-                return self.fail(problem);
-            }
-            ("tray", None) => self.tray_item()?,
-            ("rule", None) => self.definition_item(Class::Rule)?,
-            ("plan", None) => self.definition_item(Class::Plan)?,
+        if let Some(start) = start {
+            return self.after_start(token, start);
+        }
+        match word {
+            "tray" => self.tray_item()?,
+            "rule" => self.definition_item(Class::Rule)?,
+            "plan" => self.definition_item(Class::Plan)?,
+            "choices" => return self.early_choices(token.span),
             _ => self.program.start = self.process()?,
         }
         self.end_of_item()
+    }
+
+    /// Choices before there are stations: which ones the lines call can't be
+    /// known yet.
+    fn early_choices(&mut self, span: Span) -> Read<()> {
+        let told = self.problems.len();
+        self.lesson();
+        self.problems.truncate(told);
+        let problem = Problem::error(span, "'choices' comes before 'start'")
+            .label("first the stations, then what they do");
+        self.fail(problem)
+    }
+
+    /// An item behind the start, which may be the choices alone.
+    fn after_start(&mut self, token: Token, start: Span) -> Read<()> {
+        let word = self.source.piece(token.span);
+        let problem = match word {
+            "choices" => {
+                let lines = self.lesson();
+                if self.program.choices.is_none() {
+                    self.program.choices = Some(lines);
+                    return Ok(());
+                }
+                Problem::error(token.span, "a second 'choices'").label("go on behind the first")
+            }
+            "start" => {
+                let line = self.line_of(start);
+                Problem::error(token.span, "a second 'start'")
+                    .label(format!("the first is on line {line}"))
+                    .help("one 'start' names all stations, parted by 'beside'")
+                    .would_be(9)
+            }
+            _ => Problem::error(token.span, format!("'{word}' comes after 'start'"))
+                .label("'start' closes the rules: write it last")
+                .help("after 'start' only 'choices' may follow")
+                .would_be(9),
+        };
+        self.fail(problem)
     }
 
     fn no_item(&self) -> Problem {
