@@ -94,6 +94,8 @@ fn faulty(random: &mut Random, bytes: &[u8]) -> Vec<u8> {
         (_, 1 | 7 | 8) => bytes[at] = random.byte_between(1, 8),
         (1, 2 | 3 | 4 | 9 | 10 | 12) => bytes[at + 1] = random.byte_below(16),
         (_, 2 | 6 | 13) => bytes[at + 1] = random.byte_below(bytes.len().min(200)),
+        // The same meaning, with the records in another order.
+        (2, 12) => bytes[..at + 3].rotate_right(3),
         (_, 12) => bytes[at + 2] = bytes[at + 2].wrapping_add(1),
         _ => bytes[at + 2] = random.byte_below(200),
     }
@@ -105,7 +107,7 @@ fn faulty(random: &mut Random, bytes: &[u8]) -> Vec<u8> {
 #[test]
 fn a_wrong_assembler_is_found_out() {
     let mut random = Random::new(21);
-    let (mut caught, mut harmless) = (0, 0);
+    let (mut caught, mut out_of_order, mut harmless) = (0, 0, 0);
     for (which, table) in tables(21, 2_500) {
         let text = readable(&table, &Labels::default());
         let understood = understand(&Source::new("", text.as_str())).expect(&which);
@@ -124,12 +126,15 @@ fn a_wrong_assembler_is_found_out() {
             );
             if same {
                 harmless += 1;
+            } else if same_meaning(&right, &second) {
+                out_of_order += 1;
             } else {
                 caught += 1;
             }
         }
     }
     assert!(caught > 4_000, "{caught} caught");
+    assert!(out_of_order > 50, "{out_of_order} in another order");
     assert!(harmless > 100, "{harmless} harmless ones passed");
 }
 
