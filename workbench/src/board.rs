@@ -1,0 +1,283 @@
+//! The hall as it stands: trays, then stations with position and name. An open
+//! attempt is its tree, one line a node.
+
+use crate::measures::measures;
+use crate::rehearsal::Moment;
+use crate::stations::{takes, Attempt, Leaf, Node, Station};
+use crate::style::{Style, WIDTH};
+use crate::table::{Counts, Table, Term};
+use crate::text::tree::Program;
+use crate::ways::{
+    action_words, count_of, expression_words, shortage_words, shortages, tray_counts,
+    trays_counted, trays_taken, within,
+};
+
+/// What a station does next, in the words of a text.
+#[must_use]
+pub fn doing(table: &Table, program: &Program, station: &Station) -> String {
+    let term = match station {
+        Station::Putting(tray) => return format!("put {}", program.tray_name(*tray)),
+        Station::Waiting(term) => *term,
+        Station::Attempt(attempt) => attempt.block,
+    };
+    match table.term(term) {
+        Term::Take { tray, .. } => format!("take {}", program.tray_name(tray)),
+        Term::Repeatedly { tray, .. } => format!("repeatedly take {}", program.tray_name(tray)),
+        _ => "block".to_owned(),
+    }
+}
+
+/// Draws boards of one hall.
+#[derive(Clone, Copy, Debug)]
+pub struct Board<'a> {
+    /// The table.
+    pub table: &'a Table,
+    /// The text's tree.
+    pub program: &'a Program,
+    /// Colour.
+    pub style: Style,
+}
+
+impl Board<'_> {
+    /// The lines of a board, each behind so many spaces.
+    #[must_use]
+    pub fn lines(&self, now: &Moment, indent: usize) -> Vec<String> {
+        let mut lines = self.trays(now, indent);
+        lines.extend(self.stations(now, indent));
+        lines
+    }
+
+    fn trays(&self, now: &Moment, indent: usize) -> Vec<String> {
+        let margin = " ".repeat(indent);
+        let mut numbers: Vec<u8> = self.program.trays.iter().map(|tray| tray.number).collect();
+        numbers.sort_unstable();
+        if numbers.is_empty() {
+            return vec![format!("{margin}trays     none")];
+        }
+        let mut lines = Vec::new();
+        let mut line = format!("{margin}trays  ");
+        let empty = line.len();
+        for tray in numbers {
+            let count = count_of(&now.counts, tray);
+            let words = format!("   {} {count}", self.program.tray_name(tray));
+            if line.len() > empty && line.len() + words.len() > WIDTH {
+                let next = " ".repeat(empty);
+                lines.push(std::mem::replace(&mut line, next));
+            }
+            line.push_str(&words);
+        }
+        lines.push(line);
+        lines
+    }
+
+    fn stations(&self, now: &Moment, indent: usize) -> Vec<String> {
+        let margin = " ".repeat(indent);
+        if now.stations.is_empty() {
+            return vec![format!("{margin}stations  none")];
+        }
+        let names: Vec<String> = (0..now.stations.len())
+            .map(|position| now.names.name(position))
+            .collect();
+        let widest = names.iter().map(String::len).max().unwrap_or(0);
+        let mut lines = Vec::new();
+        for (position, (station, name)) in now.stations.iter().zip(&names).enumerate() {
+            let word = if position == 0 { "stations" } else { "" };
+            let padding = " ".repeat(widest - name.len());
+            let from = now
+                .names
+                .origin(position)
+                .map_or(String::new(), |from| format!(" (from {from})"));
+            lines.push(format!(
+                "{margin}{word:<8}  {position:>2}  {}{padding}  {}{from}",
+                self.style.bold(name),
+                self.station(station, now)
+            ));
+            if let Station::Attempt(attempt) = station {
+                lines.extend(self.attempt(attempt, now, indent + 14));
+            }
+        }
+        lines
+    }
+
+    fn station(&self, station: &Station, now: &Moment) -> String {
+        let term = match station {
+            Station::Putting(tray) => {
+                let full = count_of(&now.counts, *tray) == u8::MAX;
+                let wait = if full { " (full: must wait)" } else { "" };
+                return format!("about to put {}{wait}", self.program.tray_name(*tray));
+            }
+            Station::Attempt(attempt) => return self.opened_at(attempt),
+            Station::Waiting(term) => *term,
+        };
+        let (tray, stays) = match self.table.term(term) {
+            Term::Take { tray, .. } => (tray, ""),
+            Term::Repeatedly { tray, .. } => (tray, ", and stays for the next"),
+            _ => return "block, not begun".to_owned(),
+        };
+        let there = match count_of(&now.counts, tray) {
+            0 => "empty: must wait".to_owned(),
+            count => format!("{count} there"),
+        };
+        let tray = self.program.tray_name(tray);
+        format!("about to take {tray}{stays} ({there})")
+    }
+
+    fn opened_at(&self, attempt: &Attempt) -> String {
+        let trays = trays_taken(self.table, attempt.block);
+        if trays.is_empty() {
+            return "attempt, takes nothing".to_owned();
+        }
+        let counts = tray_counts(self.program, &trays, &attempt.remembers);
+        format!("attempt, opened at {counts}")
+    }
+
+    /// The tree of an attempt, and behind a finished one what its commit will
+    /// do.
+    fn attempt(&self, attempt: &Attempt, now: &Moment, indent: usize) -> Vec<String> {
+        let margin = " ".repeat(indent);
+        let branches = branches_drawn(&attempt.nodes);
+        let mut lines = Vec::new();
+        for (number, (node, branch)) in attempt.nodes.iter().zip(branches).enumerate() {
+            let front = format!("{margin}node {number:<2} {branch}");
+            let words = match node {
+                Node::Fork { right } => self.fork(attempt, number, *right),
+                Node::Leaf(leaf) => self.leaf(attempt, leaf, WIDTH.saturating_sub(front.len())),
+            };
+            lines.push(format!("{front}{words}"));
+        }
+        if let Some(leaf) = attempt.single_leaf() {
+            if self.is_end(leaf) {
+                lines.extend(self.commit_rows(attempt, leaf, now, &margin));
+            }
+        }
+        lines
+    }
+
+    fn is_end(&self, leaf: &Leaf) -> bool {
+        leaf.rest.map(|rest| self.table.term(rest)) == Some(Term::End)
+    }
+
+    fn gave_up(&self, leaf: &Leaf) -> bool {
+        match leaf.rest {
+            None => true,
+            Some(rest) => self.table.term(rest) == Term::Retry,
+        }
+    }
+
+    fn fork(&self, attempt: &Attempt, number: usize, right: usize) -> String {
+        let end = subtree_end(&attempt.nodes, right);
+        let inside = attempt.nodes.get(number..end).unwrap_or(&[]);
+        let ways: u64 = inside.iter().map(|node| self.ways_left(node)).sum();
+        match attempt.nodes.get(number + 1) {
+            Some(Node::Leaf(leaf)) if self.gave_up(leaf) => {
+                format!("{ways} ways: the first gave up, it can be dropped")
+            }
+            Some(Node::Leaf(leaf)) if self.is_end(leaf) => {
+                format!("{ways} ways: the first is finished, it can settle")
+            }
+            _ => format!("{ways} ways"),
+        }
+    }
+
+    fn ways_left(&self, node: &Node) -> u64 {
+        let Node::Leaf(leaf) = node else { return 0 };
+        let Some(rest) = leaf.rest else { return 1 };
+        let measures = measures(self.table.terms());
+        measures.get(usize::from(rest)).map_or(1, |it| it.branches)
+    }
+
+    /// What is noted, and what is still to come in the room that is left.
+    fn leaf(&self, attempt: &Attempt, leaf: &Leaf, room: usize) -> String {
+        let noted = action_words(self.program, &leaf.log);
+        let gap = if noted.is_empty() { "" } else { "  " };
+        let Some(rest) = leaf.rest else {
+            return format!("{noted}{gap}xx  gave up");
+        };
+        let lacks = match self.table.term(rest) {
+            Term::NoteTake { tray, .. } => {
+                let taken = count_of(&takes(&leaf.log), tray);
+                let short = taken >= count_of(&attempt.remembers, tray);
+                short.then(|| format!("   (will lack {})", self.program.tray_name(tray)))
+            }
+            _ => None,
+        };
+        let lacks = lacks.unwrap_or_default();
+        let coming = expression_words(self.table, self.program, rest);
+        let used = noted.len() + gap.len() + 4 + lacks.len();
+        let coming = cut(&coming, room.saturating_sub(used));
+        format!("{noted}{gap}>>  {coming}{}", self.style.bad(&lacks))
+    }
+
+    /// Needs, at opening, now; and the verdict.
+    fn commit_rows(
+        &self,
+        attempt: &Attempt,
+        leaf: &Leaf,
+        now: &Moment,
+        margin: &str,
+    ) -> Vec<String> {
+        let needs = takes(&leaf.log);
+        let trays = trays_counted(&needs);
+        if trays.is_empty() {
+            let verdict = self.style.good("it can commit now");
+            return vec![format!("{margin}needs      nothing   <- {verdict}")];
+        }
+        let row = |word: &str, counts: &Counts| {
+            let cells: Vec<String> = trays
+                .iter()
+                .map(|tray| {
+                    let name = self.program.tray_name(*tray);
+                    format!("{name} {:<3}", count_of(counts, *tray))
+                })
+                .collect();
+            format!("{margin}{word:<11}{}", cells.join("  ").trim_end())
+        };
+        let verdict = if within(&needs, &now.counts) {
+            format!("enough: {}", self.style.good("it can commit now"))
+        } else {
+            let short = shortage_words(self.program, &shortages(&needs, &now.counts));
+            format!("{short}: {}", self.style.bad("it will fail"))
+        };
+        vec![
+            row("needs", &needs),
+            row("at opening", &attempt.remembers),
+            format!("{}   <- {verdict}", row("now", &now.counts)),
+        ]
+    }
+}
+
+/// Words cut to a length, with dots where something is missing.
+fn cut(words: &str, length: usize) -> String {
+    let length = length.max(12);
+    if words.len() <= length {
+        return words.to_owned();
+    }
+    let kept: String = words.chars().take(length - 4).collect();
+    format!("{} ...", kept.trim_end())
+}
+
+/// The node behind a subtree.
+fn subtree_end(nodes: &[Node], node: usize) -> usize {
+    let mut at = node;
+    while let Some(Node::Fork { right }) = nodes.get(at) {
+        at = *right;
+    }
+    (at + 1).min(nodes.len())
+}
+
+/// The lines that join each node to its fork.
+fn branches_drawn(nodes: &[Node]) -> Vec<String> {
+    let mut drawn = vec![String::new(); nodes.len()];
+    let mut inner = vec![String::new(); nodes.len()];
+    for (number, node) in nodes.iter().enumerate() {
+        let Node::Fork { right } = node else { continue };
+        let front = inner.get(number).cloned().unwrap_or_default();
+        for (child, mark, below) in [(number + 1, "|- ", "|  "), (*right, "`- ", "   ")] {
+            if let (Some(line), Some(front_below)) = (drawn.get_mut(child), inner.get_mut(child)) {
+                *line = format!("{front}{mark}");
+                *front_below = format!("{front}{below}");
+            }
+        }
+    }
+    drawn
+}

@@ -1,0 +1,86 @@
+//! The arguments of a command.
+
+use super::{help, Failure};
+
+/// Files and options.
+#[derive(Clone, Debug, Default, PartialEq, Eq)]
+pub struct Args {
+    /// Everything that is no option.
+    pub files: Vec<String>,
+    /// What follows `-o`.
+    pub output: Option<String>,
+    options: Vec<String>,
+}
+
+/// The options of each command, besides `--help`, and how many files it takes.
+fn known(command: &str) -> (&'static [&'static str], usize) {
+    match command {
+        "check" => (&["--json", "--binary"], 2),
+        "build" => (&["-o", "--choices", "--binary"], 1),
+        "show" => (&["--exact", "--binary"], 1),
+        "run" => (&["--board", "--quiet", "--json", "--binary"], 2),
+        "play" => (&["--binary"], 2),
+        _ => (&[], 0),
+    }
+}
+
+impl Args {
+    /// The arguments behind a command.
+    ///
+    /// # Errors
+    ///
+    /// Where the command does not take them.
+    pub fn read(command: &str, rest: &[String]) -> Result<Args, Failure> {
+        let (options, most_files) = known(command);
+        let mut args = Args::default();
+        let mut rest = rest.iter();
+        let mut only_files = false;
+        while let Some(argument) = rest.next() {
+            let is_option = argument.starts_with('-') && argument != "-" && !only_files;
+            match argument.as_str() {
+                "--" if !only_files => only_files = true,
+                "--help" | "-h" if is_option => args.options.push("--help".to_owned()),
+                "-o" if is_option && options.contains(&"-o") => {
+                    let file = rest
+                        .next()
+                        .ok_or_else(|| usage(command, "-o wants a file"))?;
+                    args.output = Some(file.clone());
+                }
+                option if is_option && options.contains(&option) => {
+                    args.options.push(option.to_owned());
+                }
+                option if is_option => {
+                    return Err(usage(command, &format!("there is no option '{option}'")));
+                }
+                file => args.files.push(file.to_owned()),
+            }
+        }
+        if args.has("--help") {
+            return Ok(args);
+        }
+        if args.files.is_empty() {
+            return Err(usage(command, "which file?"));
+        }
+        if args.files.len() > most_files {
+            return Err(usage(command, "too many files"));
+        }
+        Ok(args)
+    }
+
+    /// Whether an option was given.
+    #[must_use]
+    pub fn has(&self, option: &str) -> bool {
+        self.options.iter().any(|given| given == option)
+    }
+
+    /// The file of this index.
+    #[must_use]
+    pub fn file(&self, index: usize) -> Option<&str> {
+        self.files.get(index).map(String::as_str)
+    }
+}
+
+fn usage(command: &str, words: &str) -> Failure {
+    let line = help::page(command).and_then(|page| page.lines().next());
+    Failure::Usage(format!("{command}: {words}\n{}", line.unwrap_or("")))
+}

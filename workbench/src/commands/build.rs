@@ -1,0 +1,132 @@
+//! `hall build`
+
+use std::fs;
+use std::path::Path;
+
+use super::check::refused;
+use super::load::{self, Loaded};
+use super::run::problems::{lost_problem, missed, unexpected};
+use super::run::script::{script, Script};
+use super::{Args, Exit, Failure, Outcome, Streams};
+use crate::lesson::{Answer, Lesson};
+use crate::refusals;
+use crate::text::choices::Line;
+use crate::text::problems::Problem;
+use crate::text::source::Source;
+
+/// The bytes of a text's table.
+pub(super) fn build(args: &Args, streams: &mut Streams<'_>) -> Outcome {
+    let name = args.file(0).unwrap_or("-");
+    if args.output.is_none() && streams.out_is_terminal {
+        return Err(Failure::Usage(
+            "build: bytes do not belong on a terminal: add -o FILE".to_owned(),
+        ));
+    }
+    let mut loaded = match load::load(name, args.has("--binary"), streams) {
+        Ok(loaded) => loaded,
+        Err(unloaded) => return refused(name, unloaded, false, streams),
+    };
+    if let Some(source) = &loaded.source {
+        load::tell(source, &loaded.notes, streams)?;
+    }
+    let mut bytes = loaded.table.bytes().to_vec();
+    if args.has("--choices") {
+        match choices(name, &mut loaded, streams)? {
+            Some(choices) => bytes.extend(choices),
+            None => return Ok(Exit::Refused),
+        }
+    }
+    match &args.output {
+        None => streams.out.write_all(&bytes)?,
+        Some(file) => write_whole(file, &bytes)?,
+    }
+    Ok(Exit::Good)
+}
+
+/// The lesson's choices as one list: names are turned into positions by making
+/// them. None where the lesson goes wrong, which has been told then.
+fn choices(
+    name: &str,
+    loaded: &mut Loaded,
+    streams: &mut Streams<'_>,
+) -> Result<Option<Vec<u8>>, Failure> {
+    let Ok(Some(script)) = script(name, None, loaded, streams) else {
+        return Ok(Some(Vec::new()));
+    };
+    let Script {
+        source,
+        lines,
+        leftover,
+    } = script;
+    let mut lesson = Lesson::open(&loaded.table, &loaded.program)?;
+    for (index, line) in lines.iter().enumerate() {
+        if let Some(problem) = made(&mut lesson, &source, line)? {
+            load::tell(&source, &[problem], streams)?;
+            return Ok(None);
+        }
+        if lesson.refused() > 0 {
+            left_out(&source, &lines, index, streams)?;
+            break;
+        }
+    }
+    let mut list: Vec<u8> = lesson
+        .calls()
+        .iter()
+        .flat_map(|call| call.choices.iter().copied())
+        .collect();
+    list.extend(leftover);
+    Ok(Some(list))
+}
+
+/// Makes one line's choice; the problem where the lesson ends there.
+fn made(lesson: &mut Lesson<'_>, source: &Source, line: &Line) -> Result<Option<Problem>, Failure> {
+    let choice = match lesson.choice(&line.ask) {
+        Ok(Some(choice)) => choice,
+        Ok(None) => return Ok(None),
+        Err(lost) => return Ok(Some(lost_problem(source, lesson, line.called, &lost))),
+    };
+    let before = lesson.rehearsal().clone();
+    Ok(match lesson.make(choice)? {
+        Answer::Moved(happened) => missed(line, happened.rule),
+        Answer::Refused(refusal) if line.expects(refusal) => None,
+        Answer::Refused(refusal) => {
+            let reason = refusals::reason(&before, choice, refusal);
+            Some(unexpected(line, refusal, reason, None))
+        }
+    })
+}
+
+/// A list ends with its refused choice: what the lesson does behind it is said
+/// to be missing.
+fn left_out(
+    source: &Source,
+    lines: &[Line],
+    index: usize,
+    streams: &mut Streams<'_>,
+) -> Result<(), Failure> {
+    let behind = lines.iter().skip(index + 1);
+    let left = behind.filter(|line| line.is_choice()).count();
+    let Some(line) = lines.get(index).filter(|_| left > 0) else {
+        return Ok(());
+    };
+    let problem = Problem::note(line.span, "a refused choice ends a list of choices")
+        .label(format!("{left} behind it left out"));
+    load::tell(source, &[problem], streams)
+}
+
+/// Writes a new file beside the wanted one and renames it: whoever looks finds
+/// the old file or the whole new one.
+///
+/// # Errors
+///
+/// Where it can't be written.
+pub(super) fn write_whole(file: &str, bytes: &[u8]) -> Result<(), Failure> {
+    let path = Path::new(file);
+    let mut beside = path.as_os_str().to_owned();
+    beside.push(format!(".{}.new", std::process::id()));
+    let written = fs::write(&beside, bytes).and_then(|()| fs::rename(&beside, path));
+    written.map_err(|error| {
+        let _ = fs::remove_file(&beside);
+        Failure::File(format!("cannot write {file}: {error}"))
+    })
+}

@@ -1,0 +1,95 @@
+//! What each command is for, a screen at most.
+
+/// The commands.
+pub const OVERVIEW: &str = "\
+hall, the workbench of the hall engine: rules as text, runs that explain themselves
+
+  hall check FILE [HALL]       is it accepted, and how much of each limit is used
+  hall build FILE -o TABLE     the bytes of a text's table
+  hall show FILE               the text of a table
+  hall run FILE [CHOICES]      a lesson, choice by choice, in sentences
+  hall play FILE [CHOICES]     the same by hand
+  hall help COMMAND            more about one of them
+
+FILE is a text or a table of bytes; - is standard input.
+Exit: 0 accepted, or as expected; 1 refused, or an expectation missed; 2 called wrongly;
+3 a file cannot be read or written; 70 the program contradicts itself.
+";
+
+/// The page of a command.
+#[must_use]
+pub fn page(command: &str) -> Option<&'static str> {
+    Some(match command {
+        "check" => CHECK,
+        "build" => BUILD,
+        "show" => SHOW,
+        "run" => RUN,
+        "play" => PLAY,
+        _ => return None,
+    })
+}
+
+const CHECK: &str = "\
+usage: hall check FILE [HALL] [--json] [--binary]
+
+Says whether the engine accepts a text or a table, and how much of each limit it uses.
+Errors have a line and a column of the text, or a byte of the table.
+
+  HALL       a stored hall: is it one of this table's? Then FILE is a table of bytes,
+             since a rebuilt table may number its terms differently.
+  --json     one object on a line, for programs
+  --binary   FILE is a table, whatever it looks like
+";
+
+const BUILD: &str = "\
+usage: hall build FILE [-o TABLE] [--choices] [--binary]
+
+Makes the table of a text and asks the engine about it. The table is read back and compared
+with the text before it is handed out.
+
+  -o TABLE    writes the bytes to this file; else they go to standard output, which must not
+              be a terminal
+  --choices   the lesson's choices stand behind the table, as the program that prints a run
+              wants them
+  --binary    FILE is a table, whatever it looks like
+";
+
+const SHOW: &str = "\
+usage: hall show FILE [--exact] [--binary]
+
+Prints the text of a table, or of a text's table. What it prints builds the same table again,
+without the terms that nothing uses and with equal terms made one.
+
+  --exact    one line a record: it builds the very same bytes, which a signed table needs, and
+             stored halls, since these hold term numbers
+  --binary   FILE is a table, whatever it looks like
+";
+
+const RUN: &str = "\
+usage: hall run FILE [CHOICES] [--board] [--quiet] [--json] [--binary]
+
+Makes the choices of a lesson one by one and says what each did. 'board' in the lesson draws
+the hall, 'why clerk' says what an attempt will come to, '=> commits' states an answer that is
+checked. After an expected refusal the lesson goes on as a new call. In the end one run over
+each call's choices must lead to the same hall.
+
+  CHOICES    a text of choices, or their bytes, instead of those in FILE
+  --board    the hall after every choice
+  --quiet    nothing but errors and the last line
+  --json     one object a line, for programs
+  --binary   FILE is a table, whatever it looks like
+";
+
+const PLAY: &str = "\
+usage: hall play FILE [CHOICES] [--binary]
+
+Shows the hall and the choices that the engine accepts, and makes the one that you name by its
+number, or as a lesson says it: act clerk, step clerk node 1. Enter takes the suggested one.
+CHOICES are made first.
+
+  u          takes the last choice back
+  b          the hall once more (board)
+  w clerk    why: what an attempt will come to
+  save FILE  the choices so far, with what they answered, as a lesson's text
+  q          leaves
+";

@@ -1,0 +1,368 @@
+//! `hall run`
+
+mod objects;
+pub(super) mod problems;
+pub(super) mod script;
+
+use ruonfidd::{Choice, Moved, Refusal};
+
+use super::check::{problem_object, refused};
+use super::load;
+use super::{Args, Exit, Failure, Outcome, Streams};
+use crate::board::Board;
+use crate::json::Object;
+use crate::lesson::{Answer, Contradiction, Lesson};
+use crate::names::Lost;
+use crate::refusals;
+use crate::rehearsal::{position_of, Happened};
+use crate::rules::Rule;
+use crate::sentences::Teller;
+use crate::style::wrapped;
+use crate::text::choices::{Ask, Line};
+use crate::text::problems::Problem;
+use crate::text::source::{Source, Span};
+use crate::why::why;
+use objects::{bytes_of, last_object, moved_object};
+use problems::{ends_here, lost_problem, missed, unexpected};
+use script::{script, Script};
+
+/// How much is said of a run.
+#[derive(Clone, Copy, PartialEq, Eq)]
+enum Told {
+    /// A sentence for each choice, and boards where the lesson wants them.
+    Sentences,
+    /// A board behind each choice too.
+    Boards,
+    /// The last line alone.
+    Quiet,
+    /// Objects for programs.
+    Json,
+}
+
+struct Run<'a, 's, 't> {
+    lesson: Lesson<'a>,
+    teller: Teller<'a>,
+    source: &'a Source,
+    told: Told,
+    streams: &'t mut Streams<'s>,
+    number: usize,
+    /// Whether the last line printed is an empty one.
+    after_gap: bool,
+    /// The name of the station that the choice calls.
+    acting: String,
+}
+
+impl From<Contradiction> for Failure {
+    fn from(contradiction: Contradiction) -> Failure {
+        Failure::Contradiction(contradiction.0.to_owned())
+    }
+}
+
+/// Makes the choices of a lesson and says what each did.
+pub(super) fn run(args: &Args, streams: &mut Streams<'_>) -> Outcome {
+    let name = args.file(0).unwrap_or("-");
+    let told = match (args.has("--json"), args.has("--quiet"), args.has("--board")) {
+        (true, false, false) => Told::Json,
+        (false, true, false) => Told::Quiet,
+        (false, false, true) => Told::Boards,
+        (false, false, false) => Told::Sentences,
+        _ => {
+            return Err(Failure::Usage(
+                "run: one of --json, --quiet and --board at most".to_owned(),
+            ))
+        }
+    };
+    let json = told == Told::Json;
+    let mut loaded = match load::load(name, args.has("--binary"), streams) {
+        Ok(loaded) => loaded,
+        Err(unloaded) => return refused(name, unloaded, json, streams),
+    };
+    let script = match script(name, args.file(1), &mut loaded, streams) {
+        Ok(script) => script,
+        Err(unloaded) => return refused(name, unloaded, json, streams),
+    };
+    let lesson = Lesson::open(&loaded.table, &loaded.program)?;
+    let Some(script) = script else {
+        return no_choices(name, &lesson, told, streams);
+    };
+    Run {
+        lesson,
+        teller: Teller::new(&loaded.table, &loaded.program),
+        source: &script.source,
+        told,
+        streams,
+        number: 0,
+        after_gap: true,
+        acting: String::new(),
+    }
+    .all(&script)
+}
+
+fn no_choices(name: &str, lesson: &Lesson<'_>, told: Told, streams: &mut Streams<'_>) -> Outcome {
+    if told == Told::Json {
+        let last = last_object(lesson)?;
+        writeln!(streams.out, "{last}")?;
+        return Ok(Exit::Good);
+    }
+    for line in board(lesson, streams).lines(lesson.now(), 0) {
+        writeln!(streams.out, "{line}")?;
+    }
+    streams.out.flush()?;
+    writeln!(
+        streams.err,
+        "{name}: note: there are no choices to make: try hall play {name}, or write 'choices' behind 'start'"
+    )?;
+    Ok(Exit::Good)
+}
+
+fn board<'a>(lesson: &Lesson<'a>, streams: &Streams<'_>) -> Board<'a> {
+    Board {
+        table: lesson.rehearsal().table(),
+        program: lesson.rehearsal().program(),
+        style: streams.style,
+    }
+}
+
+impl Run<'_, '_, '_> {
+    fn all(mut self, script: &Script) -> Outcome {
+        let mut stopped = false;
+        for (index, line) in script.lines.iter().enumerate() {
+            if let Some(problem) = self.line(line)? {
+                let left = script
+                    .lines
+                    .iter()
+                    .skip(index + 1)
+                    .filter(|it| it.is_choice())
+                    .count();
+                self.complain(problem, left)?;
+                stopped = true;
+                break;
+            }
+        }
+        if !stopped && !script.leftover.is_empty() {
+            stopped = true;
+            self.leftover(&script.leftover)?;
+        }
+        self.lesson.agrees()?;
+        self.last_line()?;
+        Ok(if stopped { Exit::Refused } else { Exit::Good })
+    }
+
+    /// One line; a problem where the lesson ends there.
+    fn line(&mut self, line: &Line) -> Result<Option<Problem>, Failure> {
+        if let Ask::Why(called) = &line.ask {
+            return match self.lesson.position(called) {
+                Ok(position) => self.why(position.into()).map(|()| None),
+                Err(lost) => Ok(Some(self.lost(line, &lost))),
+            };
+        }
+        let choice = match self.lesson.choice(&line.ask) {
+            Ok(Some(choice)) => choice,
+            Ok(None) => return self.board(false).map(|()| None),
+            Err(lost) => return Ok(Some(self.lost(line, &lost))),
+        };
+        let before = self.lesson.rehearsal().clone();
+        self.acting = before.now().names.name(position_of(choice));
+        match self.lesson.make(choice)? {
+            Answer::Moved(happened) => {
+                self.moved(&happened)?;
+                Ok(missed(line, happened.rule))
+            }
+            Answer::Refused(refusal) => {
+                let reason = refusals::reason(&before, choice, refusal);
+                if !line.expects(refusal) {
+                    let instead = refusals::instead(&before, choice, refusal);
+                    return Ok(Some(unexpected(line, refusal, reason, instead)));
+                }
+                self.refused(choice, refusal, &reason)?;
+                Ok(None)
+            }
+        }
+    }
+
+    fn moved(&mut self, happened: &Happened) -> Result<(), Failure> {
+        let sentence = self.teller.tell(happened);
+        self.number += 1;
+        match self.told {
+            Told::Quiet => {}
+            Told::Json => {
+                let object = moved_object(&self.lesson, happened, &sentence);
+                writeln!(self.streams.out, "{object}")?;
+            }
+            Told::Sentences | Told::Boards => {
+                self.numbered(happened.rule.calculus, Some(happened.rule), &sentence)?;
+                if self.told == Told::Boards {
+                    self.board(true)?;
+                }
+            }
+        }
+        Ok(())
+    }
+
+    fn numbered(&mut self, word: &str, rule: Option<Rule>, sentence: &str) -> Result<(), Failure> {
+        let first = format!("{:>4}  {word:<6}  ", self.number);
+        let name = self.acting.clone();
+        for (index, line) in wrapped(&first, sentence).into_iter().enumerate() {
+            let line = if index == 0 {
+                let named = line.replacen(&name, &self.streams.style.bold(&name), 1);
+                match painted(rule, word, self.streams) {
+                    Some(paint) => named.replacen(word, &paint, 1),
+                    None => named,
+                }
+            } else {
+                line
+            };
+            writeln!(self.streams.out, "{line}")?;
+        }
+        self.after_gap = false;
+        Ok(())
+    }
+
+    /// A refusal that the lesson expects.
+    fn refused(&mut self, choice: Choice, refusal: Refusal, reason: &str) -> Result<(), Failure> {
+        self.number += 1;
+        let sentence = format!("refused {}, as expected: {reason}.", refusal.number);
+        match self.told {
+            Told::Quiet => {}
+            Told::Json => {
+                let object = Object::new()
+                    .raw("choice", bytes_of(choice))
+                    .string("station", self.lesson.now().names.name(position_of(choice)))
+                    .number("refused", refusal.number)
+                    .string("sentence", &sentence)
+                    .written();
+                writeln!(self.streams.out, "{object}")?;
+            }
+            Told::Sentences | Told::Boards => self.numbered("-", None, &sentence)?,
+        }
+        Ok(())
+    }
+
+    fn board(&mut self, after_choice: bool) -> Result<(), Failure> {
+        // With --board every choice is followed by one already.
+        let wanted = match self.told {
+            Told::Quiet | Told::Json => false,
+            Told::Boards => after_choice || self.number == 0,
+            Told::Sentences => true,
+        };
+        if !wanted {
+            return Ok(());
+        }
+        let lines = board(&self.lesson, self.streams).lines(self.lesson.now(), 6);
+        self.set_apart(&lines)
+    }
+
+    fn why(&mut self, position: usize) -> Result<(), Failure> {
+        if matches!(self.told, Told::Quiet | Told::Json) {
+            return Ok(());
+        }
+        let hall = self.lesson.rehearsal();
+        let lines: Vec<String> = why(hall.table(), hall.program(), hall.now(), position)
+            .into_iter()
+            .map(|line| format!("      {line}"))
+            .collect();
+        self.set_apart(&lines)
+    }
+
+    fn set_apart(&mut self, lines: &[String]) -> Result<(), Failure> {
+        self.gap()?;
+        for line in lines {
+            writeln!(self.streams.out, "{line}")?;
+        }
+        self.after_gap = false;
+        self.gap()
+    }
+
+    /// An empty line, unless there is one already.
+    fn gap(&mut self) -> Result<(), Failure> {
+        if !std::mem::replace(&mut self.after_gap, true) {
+            writeln!(self.streams.out)?;
+        }
+        Ok(())
+    }
+
+    fn lost(&self, line: &Line, lost: &Lost) -> Problem {
+        lost_problem(self.source, &self.lesson, line.called, lost)
+    }
+
+    /// Bytes behind the choices that are none.
+    fn leftover(&mut self, bytes: &[u8]) -> Result<(), Failure> {
+        let Answer::Refused(refusal) = self.lesson.make_bytes(bytes)? else {
+            return Ok(());
+        };
+        let end = self.source.text.len();
+        let start = self.source.text.rfind('\n').map_or(0, |at| at + 1);
+        let reason = if refusal.number == Refusal::CHOICE_CUT_SHORT {
+            "the choice is cut short"
+        } else {
+            "a choice begins with 1 or 2"
+        };
+        let problem = Problem::error(Span::new(start, end), ends_here(refusal))
+            .code("lesson")
+            .label(reason);
+        self.complain(problem, 0)
+    }
+
+    fn complain(&mut self, problem: Problem, left: usize) -> Result<(), Failure> {
+        let problem = match left {
+            0 => problem,
+            1 => problem.help("1 choice below was not made"),
+            _ => problem.help(format!("{left} choices below were not made")),
+        };
+        self.streams.out.flush()?;
+        if self.told == Told::Json {
+            let object = Object::new().raw("problem", problem_object(self.source, &problem));
+            writeln!(self.streams.out, "{}", object.written())?;
+            return Ok(());
+        }
+        load::tell(self.source, &[problem], self.streams)
+    }
+
+    fn last_line(&mut self) -> Result<(), Failure> {
+        if self.told == Told::Json {
+            let last = last_object(&self.lesson)?;
+            writeln!(self.streams.out, "{last}")?;
+            return Ok(());
+        }
+        let tally = self.lesson.rehearsal().tally();
+        let still = still(&self.lesson)?;
+        self.gap()?;
+        let refused = match self.lesson.refused() {
+            0 => String::new(),
+            refused => format!(", {refused} refused"),
+        };
+        writeln!(
+            self.streams.out,
+            "{} done{refused}: {}, {} failed at commit, {} gave up. The hall is {}still.",
+            counted(&self.lesson.done(), "choice"),
+            counted(&tally.commits, "commit"),
+            tally.failed,
+            tally.retries,
+            if still { "" } else { "not " }
+        )?;
+        Ok(())
+    }
+}
+
+/// A number of things.
+fn counted(count: &impl ToString, what: &str) -> String {
+    let count = count.to_string();
+    let plural = if count == "1" { "" } else { "s" };
+    format!("{count} {what}{plural}")
+}
+
+fn painted(rule: Option<Rule>, word: &str, streams: &Streams<'_>) -> Option<String> {
+    Some(match rule?.number {
+        Moved::ATOK => streams.style.good(word),
+        Moved::ATFAIL | Moved::ARDF | Moved::ATRE => streams.style.bad(word),
+        Moved::AOF | Moved::AOE => streams.style.dim(word),
+        _ => return None,
+    })
+}
+
+fn still(lesson: &Lesson<'_>) -> Result<bool, Failure> {
+    let suggestion = lesson.rehearsal().suggestion();
+    suggestion
+        .map(|choice| choice.is_none())
+        .map_err(|_| Failure::Contradiction("the engine refuses its own hall".to_owned()))
+}

@@ -1,0 +1,70 @@
+//! Runs for programs: one object a line.
+
+use ruonfidd::Choice;
+
+use super::still;
+use crate::commands::Failure;
+use crate::json::{self, Object};
+use crate::lesson::Lesson;
+use crate::rehearsal::Happened;
+use crate::ways::count_of;
+
+/// The bytes of a choice.
+pub(crate) fn bytes_of(choice: Choice) -> String {
+    let mut bytes = Vec::new();
+    choice.write_to(&mut bytes);
+    json::list(bytes.iter().map(u8::to_string))
+}
+
+/// A choice that moved.
+pub(crate) fn moved_object(lesson: &Lesson<'_>, happened: &Happened, sentence: &str) -> String {
+    let program = lesson.rehearsal().program();
+    let trays = program.trays.iter().fold(Object::new(), |object, tray| {
+        object.number(&tray.name, count_of(&happened.after.counts, tray.number))
+    });
+    Object::new()
+        .raw("choice", bytes_of(happened.choice))
+        .string("station", happened.before.names.name(happened.position()))
+        .number("moved", happened.rule.number)
+        .string("rule", happened.rule.calculus)
+        .string("word", happened.rule.word)
+        .string("sentence", sentence)
+        .raw("trays", trays.written())
+        .written()
+}
+
+/// The end of a run.
+pub(crate) fn last_object(lesson: &Lesson<'_>) -> Result<String, Failure> {
+    let hall = lesson.rehearsal();
+    let first = hall.table().counts();
+    let trays = hall
+        .program()
+        .trays
+        .iter()
+        .fold(Object::new(), |object, tray| {
+            let counts = [
+                count_of(&first, tray.number).to_string(),
+                count_of(&hall.now().counts, tray.number).to_string(),
+            ];
+            object.raw(&tray.name, json::list(counts))
+        });
+    let names = &hall.now().names;
+    let stations = (0..names.len()).map(|position| json::string(&names.name(position)));
+    // A call that a refusal ended, with nothing behind it.
+    let ended = match lesson.calls() {
+        [.., refused, open] if open.choices.is_empty() => refused.refused,
+        _ => None,
+    };
+    let tally = hall.tally();
+    Ok(Object::new()
+        .count("done", lesson.done())
+        .count("refused", lesson.refused())
+        .number("ended", ended.unwrap_or(0))
+        .number("commits", tally.commits)
+        .number("failed", tally.failed)
+        .number("retries", tally.retries)
+        .truth("still", still(lesson)?)
+        .raw("trays", trays.written())
+        .raw("stations", json::list(stations))
+        .written())
+}

@@ -1,0 +1,322 @@
+//! What an accepted choice did, in a sentence with names and changed counts.
+
+use ruonfidd::{Choice, Moved};
+
+use crate::board::doing;
+use crate::measures::measures;
+use crate::rehearsal::Happened;
+use crate::stations::{puts, takes, Attempt, Leaf, Node, Station};
+use crate::table::{Counts, Table, Term};
+use crate::text::tree::Program;
+use crate::ways::{count_of, notes, shortages, tray_counts, trays_counted, trays_taken};
+
+/// Tells choices one after the other: what needs explaining is explained the
+/// first time.
+#[derive(Clone, Debug)]
+pub struct Teller<'a> {
+    table: &'a Table,
+    program: &'a Program,
+    /// The put just before, into a tray that was empty: the tray, and who put.
+    put_before: Option<(u8, String)>,
+    explained_handover: bool,
+    explained_repeating: bool,
+}
+
+impl<'a> Teller<'a> {
+    /// For a hall of this table.
+    #[must_use]
+    pub fn new(table: &'a Table, program: &'a Program) -> Teller<'a> {
+        Teller {
+            table,
+            program,
+            put_before: None,
+            explained_handover: false,
+            explained_repeating: false,
+        }
+    }
+
+    /// What happened.
+    pub fn tell(&mut self, happened: &Happened) -> String {
+        let who = happened.before.names.name_and_origin(happened.position());
+        let what = match happened.before.stations.get(happened.position()) {
+            Some(Station::Attempt(attempt)) => self.of_attempt(happened, attempt, &who),
+            Some(station) => self.of_station(happened, station, &who),
+            None => String::new(),
+        };
+        let handover = self.handover(happened);
+        self.put_before = put_into_empty(happened);
+        format!("{what}{handover}")
+    }
+
+    fn tray(&self, tray: u8) -> String {
+        self.program.tray_name(tray)
+    }
+
+    /// `batch 1 -> 0`
+    fn change(&self, happened: &Happened, tray: u8) -> String {
+        let before = count_of(&happened.before.counts, tray);
+        let after = count_of(&happened.after.counts, tray);
+        format!("{} {before} -> {after}", self.tray(tray))
+    }
+
+    fn of_station(&mut self, happened: &Happened, station: &Station, who: &str) -> String {
+        let term = match station {
+            Station::Putting(tray) => {
+                return format!("{who} puts one down: {}.", self.change(happened, *tray));
+            }
+            Station::Waiting(term) => *term,
+            Station::Attempt(_) => return String::new(),
+        };
+        match self.table.term(term) {
+            Term::Take { tray, .. } => format!(
+                "{who} takes one: {}. {}",
+                self.change(happened, tray),
+                self.after_take(happened)
+            ),
+            Term::Repeatedly { tray, .. } => format!(
+                "{who} takes one and stays for the next: {}. {}{}",
+                self.change(happened, tray),
+                opened(happened, "Before it now stands", "Nothing comes of it."),
+                self.explain_repeating(happened)
+            ),
+            _ => self.opening(happened, term, who),
+        }
+    }
+
+    /// What a take led to.
+    fn after_take(&self, happened: &Happened) -> String {
+        let position = happened.position();
+        let names = (&happened.before.names, &happened.after.names);
+        let one_for_one = names.0.len() == names.1.len();
+        match happened.after.stations.get(position) {
+            Some(station) if one_for_one && names.0.name(position) == names.1.name(position) => {
+                format!("Next: {}.", doing(self.table, self.program, station))
+            }
+            _ => opened(happened, "In its place now stands", "Its work is done."),
+        }
+    }
+
+    fn opening(&self, happened: &Happened, block: u8, who: &str) -> String {
+        let trays = trays_taken(self.table, block);
+        if trays.is_empty() {
+            return format!(
+                "{who} opens an attempt. It takes nothing, so it need not remember any tray."
+            );
+        }
+        let remembered = tray_counts(self.program, &trays, &happened.before.counts);
+        format!("{who} opens an attempt and remembers the trays: {remembered}.")
+    }
+
+    fn explain_repeating(&mut self, happened: &Happened) -> &'static str {
+        let came = happened.after.names.len() > happened.before.names.len();
+        if !came || std::mem::replace(&mut self.explained_repeating, true) {
+            ""
+        } else {
+            " It can take the next one before that is done."
+        }
+    }
+
+    fn of_attempt(&self, happened: &Happened, attempt: &Attempt, who: &str) -> String {
+        let Choice::Inside { node, .. } = happened.choice else {
+            return self.closing(happened, attempt, who);
+        };
+        let node = usize::from(node);
+        let who = if attempt.nodes.len() > 1 {
+            format!("{who} (node {node})")
+        } else {
+            who.to_owned()
+        };
+        match attempt.nodes.get(node) {
+            Some(Node::Leaf(leaf)) => self.at_leaf(happened, attempt, leaf, &who, node),
+            Some(Node::Fork { right }) => {
+                self.at_fork(happened.rule.number, attempt, node + 1, *right, &who)
+            }
+            None => String::new(),
+        }
+    }
+
+    /// A move at a way under way.
+    fn at_leaf(
+        &self,
+        happened: &Happened,
+        attempt: &Attempt,
+        leaf: &Leaf,
+        who: &str,
+        node: usize,
+    ) -> String {
+        match leaf.rest.map(|rest| self.table.term(rest)) {
+            Some(Term::NoteTake { tray, .. }) => {
+                let in_all = count_of(&takes(&leaf.log), tray).saturating_add(1);
+                let remembered = count_of(&attempt.remembers, tray);
+                let tray = self.tray(tray);
+                if happened.rule.number == Moved::ARDF {
+                    return format!("{who} lacks {tray}: it would take {in_all} and remembers {remembered}. This way gives up.");
+                }
+                let more = if in_all > 1 {
+                    format!("one more {tray}, {in_all} in all")
+                } else {
+                    format!("one {tray}")
+                };
+                format!("{who} notes that it will take {more} (it remembers {remembered} there).")
+            }
+            Some(Term::NotePut { tray, .. }) => format!(
+                "{who} notes that it will put one into {}. Nothing is laid down yet.",
+                self.tray(tray)
+            ),
+            Some(Term::OrElse { left, right }) => self.split(leaf, left, right, who, node),
+            _ => String::new(),
+        }
+    }
+
+    /// A way that becomes several.
+    fn split(&self, leaf: &Leaf, left: u8, right: u8, who: &str, node: usize) -> String {
+        let measures = measures(self.table.terms());
+        let ways = |term: u8| measures.get(usize::from(term)).map_or(1, |it| it.branches);
+        let (first, others) = (ways(left), ways(right));
+        let side = |ways: u64, one: &str, node: usize| match ways {
+            1 => format!("{one} at node {node}"),
+            _ => format!("{one} {ways} from node {node} on"),
+        };
+        format!(
+            "{who} splits into {} ways: {}, {}. Each keeps the notes so far ({}).",
+            first + others,
+            side(first, "the first", node + 1),
+            side(others, "the other", node + 2),
+            notes(self.program, &leaf.log)
+        )
+    }
+
+    /// A fork that is resolved.
+    fn at_fork(&self, rule: u8, attempt: &Attempt, left: usize, right: usize, who: &str) -> String {
+        let log = |node: usize| match attempt.nodes.get(node) {
+            Some(Node::Leaf(leaf)) => Some(notes(self.program, &leaf.log)),
+            _ => None,
+        };
+        let first = log(left).unwrap_or_default();
+        if rule == Moved::AOE {
+            let others = log(right).map_or_else(
+                || "The other ways are dropped with all their notes.".to_owned(),
+                |notes| format!("The other way is dropped with its notes ({notes})."),
+            );
+            return format!(
+                "{who} settles on its first way, which is finished ({first}). {others}"
+            );
+        }
+        let others = log(right).map_or_else(
+            || "The other ways go on with their own notes.".to_owned(),
+            |notes| format!("The other way goes on with its own notes ({notes})."),
+        );
+        format!("{who} drops its first way, which gave up, with its notes ({first}). {others}")
+    }
+
+    /// The end of an attempt.
+    fn closing(&self, happened: &Happened, attempt: &Attempt, who: &str) -> String {
+        let log = attempt.single_leaf().map_or(&[][..], |leaf| &leaf.log);
+        let needs = takes(log);
+        match happened.rule.number {
+            Moved::ATRE => format!("{who} gives up: no way was left. Nothing was taken or laid down, and its block waits again."),
+            Moved::ATFAIL => format!(
+                "{who} fails to commit: {}. Its notes are thrown away, and its block waits again.",
+                self.short(&needs, &happened.before.counts)
+            ),
+            _ => self.commit(happened, &needs, &puts(log), who),
+        }
+    }
+
+    /// `it noted 2 of sheet, but sheet has 1 now`
+    fn short(&self, needs: &Counts, counts: &Counts) -> String {
+        let words: Vec<String> = shortages(needs, counts)
+            .into_iter()
+            .map(|(tray, _)| {
+                let name = self.tray(tray);
+                format!(
+                    "it noted {} of {name}, but {name} has {} now",
+                    count_of(needs, tray),
+                    count_of(counts, tray)
+                )
+            })
+            .collect();
+        words.join("; ")
+    }
+
+    fn commit(&self, happened: &Happened, needs: &Counts, puts: &[u8], who: &str) -> String {
+        let taken: Vec<String> = trays_counted(needs)
+            .into_iter()
+            .map(|tray| self.change(happened, tray))
+            .collect();
+        let taking = if taken.is_empty() {
+            "it takes nothing".to_owned()
+        } else {
+            format!("takes {}", taken.join(", "))
+        };
+        let laid: Vec<String> = puts.iter().map(|tray| self.tray(*tray)).collect();
+        let putting = if laid.is_empty() {
+            "nothing is to be put".to_owned()
+        } else {
+            format!("about to be put: {}", laid.join(", "))
+        };
+        format!("{who} commits: {taking}; {putting}.")
+    }
+
+    /// A put into an empty tray and at once the take of that token is the
+    /// calculus's rule COM.
+    fn handover(&mut self, happened: &Happened) -> String {
+        let Some((tray, giver)) = self.put_before.take() else {
+            return String::new();
+        };
+        if self.single_take(happened) != Some(tray) {
+            return String::new();
+        }
+        if std::mem::replace(&mut self.explained_handover, true) {
+            return format!(" A direct handover from {giver} (COM).");
+        }
+        format!(" A direct handover from {giver} (COM): the tray was empty, so the token just put is the one taken.")
+    }
+
+    /// The tray from which this choice took exactly one token and nothing else.
+    fn single_take(&self, happened: &Happened) -> Option<u8> {
+        let station = happened.before.stations.get(happened.position())?;
+        match (happened.rule.number, station) {
+            (Moved::IN | Moved::REP, Station::Waiting(term)) => self.table.term(*term).tray(),
+            (Moved::ATOK, Station::Attempt(attempt)) => {
+                let needs = takes(&attempt.single_leaf()?.log);
+                match trays_counted(&needs).as_slice() {
+                    [tray] if count_of(&needs, *tray) == 1 => Some(*tray),
+                    _ => None,
+                }
+            }
+            _ => None,
+        }
+    }
+}
+
+/// The put of a choice into a tray that was empty: the tray, and who put.
+fn put_into_empty(happened: &Happened) -> Option<(u8, String)> {
+    let position = happened.position();
+    let Some(Station::Putting(tray)) = happened.before.stations.get(position) else {
+        return None;
+    };
+    (count_of(&happened.before.counts, *tray) == 0)
+        .then(|| (*tray, happened.before.names.name_and_origin(position)))
+}
+
+/// The stations that came at the position.
+fn opened(happened: &Happened, some: &str, none: &str) -> String {
+    let stays = usize::from(happened.rule.number == Moved::REP);
+    let came = (happened.after.names.len() + 1)
+        .saturating_sub(happened.before.names.len())
+        .saturating_sub(stays);
+    if came == 0 {
+        return none.to_owned();
+    }
+    let first = happened.position();
+    let names: Vec<String> = (first..first + came)
+        .map(|position| happened.after.names.name(position))
+        .collect();
+    let some = if came > 1 {
+        some.replace("stands", "stand")
+    } else {
+        some.to_owned()
+    };
+    format!("{some}: {}.", names.join(", "))
+}

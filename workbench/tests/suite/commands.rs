@@ -1,0 +1,492 @@
+//! Commands: streams, exit codes, files, help.
+
+use std::fs;
+use std::io::Read as _;
+use std::path::Path;
+use std::process::{Command, Stdio};
+
+use ruonfidd::Hall;
+use workbench::style::Style;
+
+use crate::common::{called, hall, hall_in, package, raw_hall_in, scratch, Answer};
+
+const COMMANDS: [&str; 5] = ["check", "build", "show", "run", "play"];
+
+const TEXT: &str = "tray a has 1\ntray b\nrule desk is block (take a, put b, end)\nstart desk\n";
+const TABLE: [u8; 14] = [7, 10, 1, 0, 9, 0, 1, 6, 2, 12, 0, 1, 13, 3];
+
+/// A folder with the text and its table in it.
+fn folder(name: &str) -> std::path::PathBuf {
+    let folder = scratch(name);
+    fs::write(folder.join("a.hall"), TEXT).unwrap();
+    fs::write(folder.join("a.table"), TABLE).unwrap();
+    folder
+}
+
+#[track_caller]
+fn is(answer: &Answer, code: i32, out: &str, err: &str) {
+    let Answer {
+        code: given,
+        out: given_out,
+        err: given_err,
+    } = answer;
+    assert_eq!(
+        (*given, given_out.as_str(), given_err.as_str()),
+        (Some(code), out, err)
+    );
+}
+
+#[test]
+fn every_command_has_a_page_that_fits_a_screen() {
+    let overview = hall(&["help"]);
+    assert_eq!((overview.code, overview.err.as_str()), (Some(0), ""));
+    assert_eq!(hall(&["--help"]), overview);
+    assert_eq!(hall(&["-h"]), overview);
+    for command in COMMANDS {
+        assert!(
+            overview.out.contains(&format!("  hall {command} ")),
+            "{command}"
+        );
+        let page = hall(&["help", command]);
+        assert_eq!((page.code, page.err.as_str()), (Some(0), ""), "{command}");
+        assert!(
+            page.out.starts_with(&format!("usage: hall {command} FILE")),
+            "{command}"
+        );
+        assert_eq!(hall(&[command, "--help"]), page, "{command}");
+        assert_eq!(
+            hall(&[command, "-h", "some", "more", "files"]),
+            page,
+            "{command}"
+        );
+        for text in [&overview.out, &page.out] {
+            assert!(text.lines().count() <= 24, "{text}");
+            assert!(text.lines().all(|line| line.len() <= 100), "{text}");
+        }
+    }
+}
+
+#[test]
+fn called_wrongly() {
+    let wrong: [&[&str]; 10] = [
+        &[],
+        &["sing"],
+        &["help", "sing"],
+        &["check"],
+        &["check", "--loud", "a"],
+        &["check", "a", "b", "c"],
+        &["build", "a", "-o"],
+        &["show", "a", "b"],
+        &["run", "--json", "--quiet", "examples/handover.hall"],
+        &["play", "-"],
+    ];
+    for arguments in wrong {
+        let answer = hall(arguments);
+        assert_eq!(
+            (answer.code, answer.out.as_str()),
+            (Some(2), ""),
+            "{arguments:?}"
+        );
+        assert!(
+            answer.err.starts_with("hall"),
+            "{arguments:?}: {}",
+            answer.err
+        );
+    }
+    let answer = hall(&["check", "--loud", "a"]);
+    assert_eq!(
+        answer.err,
+        "hall: check: there is no option '--loud'\nusage: hall check FILE [HALL] [--json] [--binary]\n"
+    );
+}
+
+#[test]
+fn the_version() {
+    is(&hall(&["--version"]), 0, "hall 0.1.0\n", "");
+}
+
+#[test]
+fn files_that_cannot_be_read_or_written() {
+    let folder = folder("unreadable");
+    for command in COMMANDS {
+        let arguments = [command, "nowhere.hall", "-o", "x"];
+        let arguments = if command == "build" {
+            &arguments[..]
+        } else {
+            &arguments[..2]
+        };
+        let answer = hall_in(&folder, arguments, b"");
+        assert_eq!(
+            (answer.code, answer.out.as_str()),
+            (Some(3), ""),
+            "{command}"
+        );
+        assert!(
+            answer.err.starts_with("hall: cannot read nowhere.hall: "),
+            "{}",
+            answer.err
+        );
+    }
+    let answer = hall_in(&folder, &["build", "a.hall", "-o", "nowhere/a.table"], b"");
+    assert_eq!((answer.code, answer.out.as_str()), (Some(3), ""));
+    assert!(
+        answer
+            .err
+            .starts_with("hall: cannot write nowhere/a.table: "),
+        "{}",
+        answer.err
+    );
+    let answer = hall_in(&folder, &["check", "a.table", "nowhere.stored"], b"");
+    assert_eq!(answer.code, Some(3));
+}
+
+#[test]
+fn a_text_and_its_table() {
+    let folder = folder("both");
+    let built = raw_hall_in(&folder, &["build", "a.hall"], b"");
+    assert_eq!(
+        (built.status.code(), built.stdout),
+        (Some(0), TABLE.to_vec())
+    );
+    is(
+        &hall_in(&folder, &["build", "a.hall", "-o", "new.table"], b""),
+        0,
+        "",
+        "",
+    );
+    assert_eq!(fs::read(folder.join("new.table")).unwrap(), TABLE);
+    // A file that stood there is replaced, and nothing else is left behind.
+    is(
+        &hall_in(&folder, &["build", "-o", "new.table", "a.table"], b""),
+        0,
+        "",
+        "",
+    );
+    assert_eq!(fs::read(folder.join("new.table")).unwrap(), TABLE);
+    assert_eq!(fs::read_dir(&folder).unwrap().count(), 3);
+    // The same by standard input.
+    let built = raw_hall_in(&folder, &["build", "-"], TEXT.as_bytes());
+    assert_eq!(built.stdout, TABLE);
+    let built = raw_hall_in(&folder, &["build", "--", "-"], &TABLE);
+    assert_eq!(built.stdout, TABLE);
+}
+
+#[test]
+fn shown_and_built_again() {
+    let folder = folder("shown");
+    let readable = hall_in(&folder, &["show", "a.table"], b"");
+    is(
+        &readable,
+        0,
+        "tray 0 t0 has 1\ntray 1 t1\n\nstart block (take t0, put t1, end)\n",
+        "",
+    );
+    let exact = hall_in(&folder, &["show", "--exact", "a.hall"], b"");
+    is(
+        &exact,
+        0,
+        "exact\ntray 0 a\ntray 1 b\nterm 0 is end\nterm 1 is put b, term 0\nterm 2 is take a, term 1\n\
+         term 3 is block (term 2)                    # desk\ntokens a 1\nstart term 3\n",
+        "",
+    );
+    for text in [readable.out, exact.out] {
+        assert_eq!(
+            raw_hall_in(&folder, &["build", "-"], text.as_bytes()).stdout,
+            TABLE
+        );
+    }
+    // An unused term is left out, which is said.
+    let answer = hall_in(&folder, &["show", "-"], &[1, 2, 0, 13, 1]);
+    assert_eq!(
+        (answer.code, answer.out.as_str()),
+        (Some(0), "tray 0 t0\n\nstart put t0\n")
+    );
+    assert!(
+        answer
+            .err
+            .contains("this text builds 4 bytes, the table has 5"),
+        "{}",
+        answer.err
+    );
+    let answer = hall_in(&folder, &["show", "--exact", "-"], &[1, 2, 0, 13, 1]);
+    assert_eq!((answer.code, answer.err.as_str()), (Some(0), ""));
+}
+
+#[test]
+fn checked() {
+    let folder = folder("checked");
+    let limits = "accepted. 4 of 200 terms, 2 of 16 trays, 1 of 64 stations, longest way 2 of 16, most ways 1 of 8.\n";
+    for name in ["a.hall", "a.table"] {
+        is(
+            &hall_in(&folder, &["check", name], b""),
+            0,
+            &format!("{name}: {limits}"),
+            "",
+        );
+    }
+    let answer = hall_in(&folder, &["check", "-"], TEXT.as_bytes());
+    is(&answer, 0, &format!("standard input: {limits}"), "");
+    let answer = hall_in(&folder, &["check", "-"], b"tray a\n");
+    assert!(
+        answer.err.starts_with("standard input:1:7: error: "),
+        "{}",
+        answer.err
+    );
+    // A text read as a table is none.
+    let answer = hall_in(&folder, &["check", "--binary", "a.hall"], b"");
+    assert_eq!(answer.code, Some(1));
+    assert!(
+        answer.err.ends_with("refused 1 at byte 0\n"),
+        "{}",
+        answer.err
+    );
+}
+
+#[test]
+fn stored_halls() {
+    let folder = folder("stored");
+    let (hall, _) = Hall::open(&TABLE).unwrap();
+    fs::write(folder.join("stored"), hall.as_bytes()).unwrap();
+    fs::write(folder.join("short"), &hall.as_bytes()[1..]).unwrap();
+    fs::write(folder.join("other.table"), [2, 0, 13, 0]).unwrap();
+    let check = |table: &str, stored: &str| hall_in(&folder, &["check", table, stored], b"");
+    is(
+        &check("a.table", "stored"),
+        0,
+        "stored: accepted: a hall of this table.\n",
+        "",
+    );
+    for (table, stored, last) in [
+        ("a.table", "short", "refused 10 at byte 0\n"),
+        ("other.table", "stored", "refused 11 at byte 0\n"),
+    ] {
+        let answer = check(table, stored);
+        assert_eq!((answer.code, answer.out.as_str()), (Some(1), ""));
+        assert!(answer.err.ends_with(last), "{}", answer.err);
+    }
+    let json = hall_in(&folder, &["check", "--json", "a.table", "stored"], b"");
+    is(&json, 0, "{\"accepted\": true}\n", "");
+    // Term numbers of a text may change, so a stored hall wants the table.
+    let answer = check("a.hall", "stored");
+    assert_eq!((answer.code, answer.out.as_str()), (Some(2), ""));
+}
+
+#[test]
+fn choices_behind_a_table() {
+    let folder = folder("behind");
+    let lesson = format!("{TEXT}choices\n  act desk step desk step desk act desk act put b\n");
+    fs::write(folder.join("b.hall"), lesson).unwrap();
+    is(
+        &hall_in(
+            &folder,
+            &["build", "--choices", "b.hall", "-o", "b.table"],
+            b"",
+        ),
+        0,
+        "",
+        "",
+    );
+    let bytes = fs::read(folder.join("b.table")).unwrap();
+    assert_eq!(bytes[..14], TABLE);
+    assert_eq!(bytes[14..], [1, 0, 2, 0, 0, 2, 0, 0, 1, 0, 1, 0]);
+    let run = |file: &str| hall_in(&folder, &["run", "--quiet", file], b"");
+    let last = "5 choices done: 1 commit, 0 failed at commit, 0 gave up. The hall is still.\n";
+    is(&run("b.hall"), 0, last, "");
+    is(&run("b.table"), 0, last, "");
+    // check takes all of it as the table, and says what it is.
+    let answer = hall_in(&folder, &["check", "b.table"], b"");
+    assert_eq!(answer.code, Some(1));
+    assert!(
+        answer
+            .err
+            .contains("the first 14 bytes are an accepted table"),
+        "{}",
+        answer.err
+    );
+    // The bytes alone, as choices of the text.
+    fs::write(folder.join("b.choices"), &bytes[14..]).unwrap();
+    is(
+        &hall_in(&folder, &["run", "--quiet", "a.hall", "b.choices"], b""),
+        0,
+        last,
+        "",
+    );
+}
+
+#[test]
+fn choices_behind_a_refused_one_are_left_out_of_a_list() {
+    let folder = package().join("examples");
+    let answer = raw_hall_in(
+        &folder,
+        &["build", "--choices", "rehearsal-10-brim.hall"],
+        b"",
+    );
+    assert_eq!(answer.status.code(), Some(0));
+    assert!(
+        answer.stdout.ends_with(&[1, 1, 1, 1]),
+        "{:?}",
+        answer.stdout
+    );
+    let err = String::from_utf8(answer.stderr).unwrap();
+    assert!(
+        err.contains("note: a refused choice ends a list of choices"),
+        "{err}"
+    );
+    assert!(err.contains("2 behind it left out"), "{err}");
+    let wrong = ["build", "--choices", "tests/errors/run-missed.hall"];
+    let answer = raw_hall_in(package(), &wrong, b"");
+    assert_eq!(
+        (answer.status.code(), answer.stdout.as_slice()),
+        (Some(1), &[][..])
+    );
+}
+
+#[test]
+fn a_run_without_choices() {
+    let folder = folder("without");
+    let answer = hall_in(&folder, &["run", "a.hall"], b"");
+    is(
+        &answer,
+        0,
+        "trays     a 1   b 0\nstations   0  desk  block, not begun\n",
+        "a.hall: note: there are no choices to make: try hall play a.hall, or write 'choices' behind 'start'\n",
+    );
+}
+
+#[test]
+fn a_lesson_in_an_exact_text() {
+    let folder = folder("exact-lesson");
+    let exact = hall_in(&folder, &["show", "--exact", "a.hall"], b"").out;
+    let lesson = format!("{exact}choices act block => opens step block => finds");
+    fs::write(folder.join("exact.hall"), lesson).unwrap();
+    let answer = hall_in(&folder, &["run", "exact.hall"], b"");
+    assert_eq!((answer.code, answer.err.as_str()), (Some(0), ""));
+    assert!(
+        answer.out.contains("block notes that it will take one a"),
+        "{}",
+        answer.out
+    );
+}
+
+/// A text has at most 1 MiB, and no file more than 16.
+#[test]
+fn files_that_are_too_large() {
+    let folder = scratch("large");
+    let mut text = String::from("tray a\nstart put a\n#");
+    text.push_str(&"x".repeat((1 << 20) - text.len()));
+    fs::write(folder.join("whole"), &text).unwrap();
+    fs::write(folder.join("more"), text + "x").unwrap();
+    fs::write(folder.join("huge"), vec![b'#'; (1 << 24) + 1]).unwrap();
+    assert_eq!(hall_in(&folder, &["check", "whole"], b"").code, Some(0));
+    let answer = hall_in(&folder, &["check", "more"], b"");
+    assert_eq!((answer.code, answer.out.as_str()), (Some(1), ""));
+    assert!(
+        answer
+            .err
+            .starts_with("more:1:1: error: a text has at most 1 MiB\n"),
+        "{}",
+        answer.err
+    );
+    let answer = hall_in(&folder, &["check", "huge"], b"");
+    is(
+        &answer,
+        3,
+        "",
+        "hall: cannot read huge: larger than 16 MiB\n",
+    );
+}
+
+#[test]
+fn a_closed_pipe_ends_quietly() {
+    let folder = scratch("pipe");
+    let acts = "  act 0\n".repeat(60);
+    let text = format!("tray token\nstart 64 of put token\nchoices\n{acts}");
+    fs::write(folder.join("long.hall"), text).unwrap();
+    let arguments = ["run", "--board", "long.hall"];
+    let whole = raw_hall_in(&folder, &arguments, b"");
+    assert!(whole.stdout.len() > 100_000, "{} bytes", whole.stdout.len());
+    let mut child = Command::new(env!("CARGO_BIN_EXE_hall"))
+        .args(arguments)
+        .current_dir(&folder)
+        .stdin(Stdio::null())
+        .stdout(Stdio::piped())
+        .stderr(Stdio::piped())
+        .spawn()
+        .unwrap();
+    let mut some = [0; 10];
+    child.stdout.take().unwrap().read_exact(&mut some).unwrap();
+    let mut err = String::new();
+    child
+        .stderr
+        .take()
+        .unwrap()
+        .read_to_string(&mut err)
+        .unwrap();
+    assert_eq!((child.wait().unwrap().code(), err.as_str()), (Some(0), ""));
+}
+
+#[test]
+fn colour_adds_no_words() {
+    let example = |name: &str| package().join(name).display().to_string();
+    for (command, file) in [
+        ("run", "examples/version-two-leftover.hall"),
+        ("check", "examples/handover.hall"),
+        ("run", "tests/errors/run-missed.hall"),
+        ("check", "tests/errors/stations.hall"),
+    ] {
+        let file = example(file);
+        let plain = called(&[command, &file], b"", Style::PLAIN, false);
+        let coloured = called(&[command, &file], b"", Style::COLOURED, true);
+        let painted = |answer: &Answer| format!("{}{}", answer.out, answer.err).contains('\u{1b}');
+        assert!(!painted(&plain) && painted(&coloured), "{file}");
+        let bare = Answer {
+            code: coloured.code,
+            out: bare(&coloured.out),
+            err: bare(&coloured.err),
+        };
+        assert_eq!(plain, bare);
+    }
+}
+
+/// Words without their paint.
+fn bare(painted: &str) -> String {
+    let mut bare = String::new();
+    for (index, piece) in painted.split("\u{1b}[").enumerate() {
+        let words = if index == 0 {
+            piece
+        } else {
+            piece.split_once('m').unwrap().1
+        };
+        bare.push_str(words);
+    }
+    bare
+}
+
+#[test]
+fn bytes_stay_off_the_terminal() {
+    let file = package()
+        .join("examples/handover.hall")
+        .display()
+        .to_string();
+    let answer = called(&["build", &file], b"", Style::PLAIN, true);
+    let refused = "hall: build: bytes do not belong on a terminal: add -o FILE\n";
+    is(&answer, 2, "", refused);
+}
+
+/// What runs of four lessons say, to the byte.
+#[test]
+fn runs_as_they_are_told() {
+    let told = package().join("tests/told");
+    for name in [
+        "version-two-leftover",
+        "version-three-two-sheets",
+        "handover",
+        "join",
+    ] {
+        let file = format!("examples/{name}.hall");
+        let answer = hall_in(package(), &["run", &file], b"");
+        let expected = fs::read_to_string(told.join(format!("{name}.out"))).unwrap();
+        assert_eq!(answer.out, expected, "{name}");
+    }
+    assert_eq!(fs::read_dir(Path::new(&told)).unwrap().count(), 6);
+}

@@ -1,0 +1,245 @@
+//! What is written for programs, read back.
+
+use crate::common::{files, hall_in, name_of, package};
+
+/// A value that was read.
+#[derive(Clone, Debug, PartialEq, Eq)]
+pub(crate) enum Value {
+    Null,
+    Truth(bool),
+    Number(u64),
+    Words(String),
+    List(Vec<Value>),
+    Object(Vec<(String, Value)>),
+}
+
+impl Value {
+    pub(crate) fn fields(&self) -> &[(String, Value)] {
+        match self {
+            Value::Object(fields) => fields,
+            other => panic!("no object: {other:?}"),
+        }
+    }
+
+    pub(crate) fn field(&self, name: &str) -> &Value {
+        let mut all = self.fields().iter().filter(|(field, _)| field == name);
+        let found = all
+            .next()
+            .unwrap_or_else(|| panic!("no {name} in {self:?}"));
+        assert!(all.next().is_none(), "{name} twice in {self:?}");
+        &found.1
+    }
+
+    pub(crate) fn number(&self, name: &str) -> u64 {
+        match self.field(name) {
+            Value::Number(number) => *number,
+            other => panic!("{name} is {other:?}"),
+        }
+    }
+
+    pub(crate) fn words(&self, name: &str) -> &str {
+        match self.field(name) {
+            Value::Words(words) => words,
+            other => panic!("{name} is {other:?}"),
+        }
+    }
+
+    pub(crate) fn list(&self) -> &[Value] {
+        match self {
+            Value::List(values) => values,
+            other => panic!("no list: {other:?}"),
+        }
+    }
+}
+
+/// One line.
+pub(crate) fn parsed(line: &str) -> Value {
+    let mut rest = line;
+    let value = value(&mut rest).unwrap_or_else(|| panic!("not a value: {line}"));
+    assert_eq!(rest, "", "something follows in {line}");
+    value
+}
+
+fn value(rest: &mut &str) -> Option<Value> {
+    *rest = rest.trim_start();
+    let first = rest.chars().next()?;
+    match first {
+        '{' => {
+            let fields = between(rest, '}', |rest| {
+                *rest = rest.trim_start();
+                let name = words(rest)?;
+                *rest = rest.trim_start().strip_prefix(':')?;
+                Some((name, value(rest)?))
+            })?;
+            Some(Value::Object(fields))
+        }
+        '[' => Some(Value::List(between(rest, ']', value)?)),
+        '"' => words(rest).map(Value::Words),
+        '0'..='9' => {
+            let end = rest
+                .find(|c: char| !c.is_ascii_digit())
+                .unwrap_or(rest.len());
+            let number = rest[..end].parse().ok()?;
+            *rest = &rest[end..];
+            Some(Value::Number(number))
+        }
+        _ => [
+            ("true", Value::Truth(true)),
+            ("false", Value::Truth(false)),
+            ("null", Value::Null),
+        ]
+        .into_iter()
+        .find_map(|(word, value)| {
+            *rest = rest.strip_prefix(word)?;
+            Some(value)
+        }),
+    }
+}
+
+/// What stands between brackets, parted by commas.
+fn between<T>(
+    rest: &mut &str,
+    close: char,
+    mut one: impl FnMut(&mut &str) -> Option<T>,
+) -> Option<Vec<T>> {
+    let mut all = Vec::new();
+    *rest = rest[1..].trim_start();
+    if let Some(behind) = rest.strip_prefix(close) {
+        *rest = behind;
+        return Some(all);
+    }
+    loop {
+        all.push(one(rest)?);
+        *rest = rest.trim_start();
+        if let Some(behind) = rest.strip_prefix(close) {
+            *rest = behind;
+            return Some(all);
+        }
+        *rest = rest.strip_prefix(',')?;
+    }
+}
+
+fn words(rest: &mut &str) -> Option<String> {
+    let mut units = Vec::new();
+    let mut characters = rest.strip_prefix('"')?.char_indices();
+    let begun = rest.len() - rest.strip_prefix('"')?.len();
+    loop {
+        let (at, character) = characters.next()?;
+        match character {
+            '"' => {
+                *rest = &rest[begun + at + 1..];
+                return String::from_utf16(&units).ok();
+            }
+            '\\' => match characters.next()?.1 {
+                'u' => {
+                    let digits: String = (0..4)
+                        .filter_map(|_| characters.next())
+                        .map(|it| it.1)
+                        .collect();
+                    units.push(u16::from_str_radix(&digits, 16).ok()?);
+                }
+                plain @ ('"' | '\\') => units.push(u16::try_from(u32::from(plain)).ok()?),
+                _ => return None,
+            },
+            plain => units.push(u16::try_from(u32::from(plain)).ok()?),
+        }
+    }
+}
+
+#[test]
+fn the_reader_itself() {
+    let read = parsed("{\"a\": [1, \"x\\u00e4\\\"\", true], \"b\": {}}");
+    assert_eq!(
+        read.field("a").list()[1],
+        Value::Words("x\u{e4}\"".to_owned())
+    );
+    assert_eq!(read.field("b").fields(), []);
+}
+
+/// The problems of a text say where they are, as the words for people do.
+#[test]
+fn problems_for_programs() {
+    let folder = package().join("tests/errors");
+    let mut checked = 0;
+    for file in files(&folder, "hall")
+        .into_iter()
+        .chain(files(&folder, "table"))
+    {
+        let name = name_of(&file);
+        if name.starts_with("run-") || name.starts_with("note-") {
+            continue;
+        }
+        let answer = hall_in(&folder, &["check", "--json", name], b"");
+        assert_eq!((answer.code, answer.err.as_str()), (Some(1), ""), "{name}");
+        assert!(answer.out.is_ascii(), "{name}");
+        assert_eq!(answer.out.lines().count(), 1, "{name}");
+        let read = parsed(answer.out.trim_end());
+        assert_eq!(*read.field("accepted"), Value::Truth(false), "{name}");
+        let told = hall_in(&folder, &["check", name], b"").err;
+        for problem in read.field("problems").list() {
+            checked += 1;
+            let message = problem.words("message");
+            let head = if file.extension().is_some_and(|ending| ending == "table") {
+                format!(
+                    "{name}: byte {}: error: {message}\n",
+                    problem.number("place")
+                )
+            } else {
+                let (line, column) = (problem.number("line"), problem.number("column"));
+                format!("{name}:{line}:{column}: error: {message}\n")
+            };
+            assert!(told.contains(&head), "{name}: {head}");
+        }
+    }
+    assert!(checked > 150, "{checked} problems");
+}
+
+/// A run for programs has the same sentences as a run for people.
+#[test]
+fn runs_for_programs() {
+    let folder = package().join("examples");
+    for file in files(&folder, "hall") {
+        let name = name_of(&file);
+        let told = hall_in(&folder, &["run", name], b"").out;
+        let told: String = told.split_whitespace().collect::<Vec<_>>().join(" ");
+        let objects = hall_in(&folder, &["run", "--json", name], b"").out;
+        let objects: Vec<Value> = objects.lines().map(parsed).collect();
+        let (last, choices) = objects.split_last().unwrap();
+        let moved = choices
+            .iter()
+            .filter(|it| it.fields().iter().any(|(name, _)| name == "moved"));
+        assert_eq!(moved.count() as u64, last.number("done"), "{name}");
+        for choice in choices {
+            assert!(
+                told.contains(choice.words("sentence")),
+                "{name}: {choice:?}"
+            );
+        }
+    }
+}
+
+/// What goes wrong in a run is an object too, and the last line still comes.
+#[test]
+fn wrong_runs_for_programs() {
+    let folder = package().join("tests/errors");
+    let wrong = files(&folder, "hall");
+    let wrong = wrong
+        .iter()
+        .filter(|file| name_of(file).starts_with("run-"));
+    let mut checked = 0;
+    for file in wrong {
+        let name = name_of(file);
+        let answer = hall_in(&folder, &["run", "--json", name], b"");
+        assert_eq!((answer.code, answer.err.as_str()), (Some(1), ""), "{name}");
+        let objects: Vec<Value> = answer.out.lines().map(parsed).collect();
+        let [.., problem, last] = objects.as_slice() else {
+            panic!("{name}: {objects:?}");
+        };
+        let message = problem.field("problem").words("message");
+        let told = hall_in(&folder, &["run", name], b"").err;
+        assert!(told.contains(message), "{name}: {message}");
+        last.number("done");
+        checked += 1;
+    }
+    assert!(checked >= 12, "{checked}");
+}

@@ -1,0 +1,22 @@
+//! The workbench from outside: the program with its streams and exit codes,
+//! and the library over random tables and damaged texts.
+
+#![allow(
+    clippy::unwrap_used,
+    clippy::expect_used,
+    clippy::panic,
+    clippy::indexing_slicing
+)]
+
+mod commands;
+mod common;
+mod damaged;
+mod documents;
+mod errors;
+mod examples;
+mod json;
+mod meaning;
+mod planted;
+mod playing;
+mod round_trips;
+mod runs;

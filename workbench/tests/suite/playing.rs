@@ -1,0 +1,171 @@
+//! Playing at the prompt.
+
+use std::fs;
+
+use crate::common::{hall_in, package, scratch, Answer};
+
+const TEXT: &str = "\
+tray batch
+tray long
+tray short
+rule desk is block (
+    take batch, put long, end
+  or else
+    put short, end
+)
+rule scanner is put batch
+start desk beside 2 of scanner
+";
+
+fn played(name: &str, input: &str) -> Answer {
+    let folder = scratch(name);
+    fs::write(folder.join("a.hall"), TEXT).unwrap();
+    hall_in(&folder, &["play", "a.hall"], input.as_bytes())
+}
+
+/// What stands behind each prompt.
+fn parts(answer: &Answer) -> Vec<&str> {
+    answer.out.split("\n> ").collect()
+}
+
+/// What is printed at play, to the byte.
+#[test]
+fn a_hall_at_play_as_it_is_told() {
+    let told = package().join("tests/told");
+    let input = fs::read_to_string(told.join("play.in")).unwrap();
+    let expected = fs::read_to_string(told.join("play.out")).unwrap();
+    let answer = played("play", &input);
+    assert_eq!(answer.out, expected);
+    assert_eq!((answer.code, answer.err.as_str()), (Some(0), ""));
+}
+
+#[test]
+fn the_end_of_the_input_leaves() {
+    let answer = played("end", "");
+    assert_eq!((answer.code, answer.err.as_str()), (Some(0), ""));
+    assert!(answer.out.ends_with("> \n"), "{}", answer.out);
+}
+
+/// Taking a choice back leads to the board before it, and again to the same
+/// board.
+#[test]
+fn undo() {
+    let answer = played("undo", "1\nact scanner 1\nu\nact scanner 1\nu\nu\nu\nq\n");
+    let parts = parts(&answer);
+    let board = |part: &str| part.split_once("\n\n").map(|it| it.1.to_owned());
+    let first = parts[0].trim_start();
+    assert_eq!(board(parts[2]), board(parts[4]), "the same choice");
+    assert_eq!(board(parts[1]), board(parts[3]), "before it");
+    assert_eq!(board(parts[3]), board(parts[5]), "before it again");
+    assert_eq!(board(parts[6]).as_deref(), Some(first), "the opening");
+    assert!(parts[7].contains("nothing to take back"), "{}", parts[7]);
+    assert_eq!(answer.code, Some(0));
+}
+
+/// Names, as a lesson says them; `board` and `why` as written.
+#[test]
+fn words_of_a_lesson() {
+    let answer = played("words", "act desk\nstep desk\nboard\nwhy desk\nw desk\nq\n");
+    let parts = parts(&answer);
+    assert!(parts[1].contains("desk opens an attempt"), "{}", parts[1]);
+    assert!(parts[2].contains("desk splits into 2 ways"), "{}", parts[2]);
+    assert!(
+        parts[3].contains("node 1  |- >>  take batch, put long, end   (will lack batch)"),
+        "{}",
+        parts[3]
+    );
+    let told = |part: &str| part.split_once('\n').unwrap().1.to_owned();
+    assert_eq!(told(parts[4]), told(parts[5]));
+    assert!(
+        parts[4].contains("desk: the ways of its block"),
+        "{}",
+        parts[4]
+    );
+}
+
+/// What is refused or unknown leaves the hall as it is.
+#[test]
+fn refused_and_unknown() {
+    let input = "step desk\nact scanner\nact nobody\nact 9\n77\nhello\nu\nq\n";
+    let answer = played("refused", input);
+    let parts = parts(&answer);
+    assert!(
+        parts[1].contains("refused 15: desk has no open attempt."),
+        "{}",
+        parts[1]
+    );
+    assert!(parts[1].contains("now 'act desk' opens"), "{}", parts[1]);
+    assert!(
+        answer.err.contains("there are 2 of 'scanner'"),
+        "{}",
+        answer.err
+    );
+    assert!(
+        answer.err.contains("no rule is called 'nobody'"),
+        "{}",
+        answer.err
+    );
+    assert!(
+        parts[4].contains("refused 14: no station stands at position 9."),
+        "{}",
+        parts[4]
+    );
+    assert!(
+        parts[5].contains("a number: make that choice"),
+        "{}",
+        parts[5]
+    );
+    assert!(
+        parts[6].contains("a number: make that choice"),
+        "{}",
+        parts[6]
+    );
+    assert!(parts[7].contains("nothing to take back"), "{}", parts[7]);
+    assert_eq!(answer.code, Some(0));
+}
+
+/// What was played becomes a lesson, without what was taken back.
+#[test]
+fn saved_and_run_again() {
+    let folder = scratch("saved");
+    fs::write(folder.join("a.hall"), TEXT).unwrap();
+    let input =
+        "act scanner 2\nact desk\nu\nact desk\n\n\nsave some.choices\nsave nowhere/x\nsave\nq\n";
+    let answer = hall_in(&folder, &["play", "a.hall"], input.as_bytes());
+    assert_eq!((answer.code, answer.err.as_str()), (Some(0), ""));
+    assert!(
+        answer.out.contains("4 written to some.choices"),
+        "{}",
+        answer.out
+    );
+    assert!(
+        answer.out.contains("cannot write nowhere/x"),
+        "{}",
+        answer.out
+    );
+    let saved = fs::read_to_string(folder.join("some.choices")).unwrap();
+    let head = "choices\n  act scanner 2 => puts\n  act desk => opens\n  step desk => splits\n";
+    assert!(saved.starts_with(head), "{saved}");
+    assert_eq!(saved.lines().count(), 5);
+    let run = hall_in(&folder, &["run", "--quiet", "a.hall", "some.choices"], b"");
+    assert_eq!(run.code, Some(0));
+    assert!(run.out.starts_with("4 choices done: "), "{}", run.out);
+    // They can be made first, and one plays on from there.
+    let input = b"u\nq\n";
+    let answer = hall_in(&folder, &["play", "a.hall", "some.choices"], input);
+    assert_eq!((answer.code, answer.err.as_str()), (Some(0), ""));
+    assert!(
+        answer.out.contains("attempt, opened at batch 1"),
+        "{}",
+        answer.out
+    );
+    // Choices that do not go as they say are told, and nothing is played.
+    fs::write(folder.join("bad.choices"), "act desk => commits\n").unwrap();
+    let answer = hall_in(&folder, &["play", "a.hall", "bad.choices"], b"");
+    assert_eq!((answer.code, answer.out.as_str()), (Some(1), ""));
+    assert!(
+        answer.err.contains("'commits' was expected here"),
+        "{}",
+        answer.err
+    );
+}
