@@ -36,7 +36,7 @@ pub enum Allowed {
 /// such run.
 #[must_use]
 pub fn endless(model: &Model, found: &Found, allowed: Allowed, limits: Limits) -> Endless {
-    if found.repeats {
+    if found.marks.repeats {
         let walked = Walk::new(model, &found.store, allowed).walk(limits);
         if walked != Endless::No {
             return walked;

@@ -86,7 +86,7 @@ pub fn investigate_model(
     progress: &mut Progress<'_>,
 ) -> Explored {
     let found = search(&model, questions, limits, progress);
-    let exact = match (found.cut, found.full_hall) {
+    let exact = match (found.cut, found.marks.full_hall) {
         (Some(cut), _) => Exact::No(Doubt::Cut(cut)),
         (None, None) => Exact::NeverFull,
         (None, Some(_)) if !model.has_alternatives() => Exact::NoAlternatives,

@@ -5,7 +5,7 @@ use std::time::{Duration, Instant};
 use super::model::{Kind, Model};
 use super::question::Question;
 use super::steps::{Deed, Limit, Step, Stepper, Tried};
-use super::store::{Index, Kept, Store};
+use super::store::{Batch, Index, Store};
 
 /// How far an exploration may go.
 #[derive(Clone, Copy, Debug)]
@@ -72,21 +72,11 @@ pub struct Barred {
     pub code: u8,
 }
 
-/// What an exploration found.
-#[derive(Clone, Debug)]
-pub struct Found {
-    /// The situations, and from which each was first reached. Those with notes
-    /// are among them.
-    pub store: Store,
-    /// How many situations there are, those with notes left out.
-    pub situations: u64,
-    /// How many steps there are between them.
+/// What the steps showed.
+#[derive(Clone, Debug, Default)]
+pub struct Marks {
+    /// How many there are.
     pub steps: u64,
-    /// The situations from which no step is left, in the order in which they
-    /// were found.
-    pub ends: Vec<Index>,
-    /// For each slot the least and the most that its tray ever has.
-    pub extremes: Vec<(u8, u8)>,
     /// Which codes ever act.
     pub acted: Vec<bool>,
     /// For each code which of its ways are ever taken, a bit for each.
@@ -99,6 +89,63 @@ pub struct Found {
     pub full_hall: Option<Barred>,
     /// Where 20 was first met.
     pub full_tray: Option<Barred>,
+}
+
+impl Marks {
+    fn of(codes: usize) -> Marks {
+        Marks {
+            acted: vec![false; codes],
+            taken: vec![0; codes],
+            ..Marks::default()
+        }
+    }
+
+    fn mark(&mut self, model: &Model, step: Step) {
+        self.steps += 1;
+        let code = usize::from(step.code);
+        if let Some(acted) = self.acted.get_mut(code) {
+            *acted = true;
+        }
+        match step.deed {
+            Deed::Repeat => self.repeats = true,
+            Deed::Commit(way) => {
+                self.commits = true;
+                let block = match model.kind(step.code) {
+                    Some(Kind::Noted { block, .. }) => usize::from(*block),
+                    _ => code,
+                };
+                if let Some(taken) = self.taken.get_mut(block) {
+                    *taken |= 1 << way;
+                }
+            }
+            Deed::Put | Deed::Take | Deed::Note(_) => {}
+        }
+    }
+
+    fn meet(&mut self, limit: Limit, at: Index, code: u8) {
+        let first = match limit {
+            Limit::Stations => &mut self.full_hall,
+            Limit::Tray => &mut self.full_tray,
+        };
+        first.get_or_insert(Barred { at, code });
+    }
+}
+
+/// What an exploration found.
+#[derive(Clone, Debug)]
+pub struct Found {
+    /// The situations, and from which each was first reached. Those with notes
+    /// are among them.
+    pub store: Store,
+    /// How many situations there are, those with notes left out.
+    pub situations: u64,
+    /// The situations from which no step is left, in the order in which they
+    /// were found.
+    pub ends: Vec<Index>,
+    /// For each slot the least and the most that its tray ever has.
+    pub extremes: Vec<(u8, u8)>,
+    /// What the steps between them showed.
+    pub marks: Marks,
     /// For each question of `never`, the first situation in which it is so.
     pub never: Vec<Option<Index>>,
     /// For each question of `ends`, the first end at which it is not so.
@@ -111,8 +158,11 @@ pub struct Found {
 /// done with.
 pub type Progress<'a> = dyn FnMut(usize, usize) + 'a;
 
-/// So many situations are gone through between two looks at the limits.
-const BETWEEN_LOOKS: u32 = 1 << 12;
+/// So many situations, or a few more, are looked up at once.
+const BATCH: usize = 256;
+
+/// So many batches are gone through between two looks at the limits.
+const BETWEEN_LOOKS: u32 = 16;
 
 /// Goes through every situation of a model, or as many as the limits allow.
 pub fn search(
@@ -126,7 +176,9 @@ pub fn search(
         questions,
         found: Found::of_opening(model, questions),
     };
-    search.keep(model.opening(), 0);
+    let mut opening = Batch::default();
+    opening.add(model.opening(), 0);
+    search.keep(&opening);
     search.go_through(limits, progress);
     search.found
 }
@@ -143,127 +195,105 @@ struct Search<'a> {
 impl Search<'_> {
     fn go_through(&mut self, limits: Limits, progress: &mut Progress<'_>) {
         let mut stepper = Stepper::new(self.model);
-        let mut situation = Vec::new();
-        let mut index = 0;
-        while usize::try_from(index).is_ok_and(|done| done < self.found.store.len()) {
-            if index % BETWEEN_LOOKS == 0 {
+        let mut batch = Batch::default();
+        let mut batches = 0_u32;
+        let mut done = 0;
+        while done < self.found.store.len() && self.found.cut.is_none() {
+            if batches % BETWEEN_LOOKS == 0 {
                 self.found.cut = limits.met(self.found.memory());
-                progress(self.found.store.len(), usize::try_from(index).unwrap_or(0));
+                progress(self.found.store.len(), done);
             }
-            if self.found.cut.is_some() {
-                return;
+            batches = batches.wrapping_add(1);
+            batch.clear();
+            while done < self.found.store.len() && batch.len() < BATCH {
+                self.go_on(&mut stepper, done, &mut batch);
+                done += 1;
             }
-            situation.clear();
-            situation.extend_from_slice(self.found.store.get(index));
-            self.go_on(&mut stepper, index, &situation);
-            index += 1;
+            self.keep(&batch);
         }
     }
 
     /// All steps from one situation.
-    fn go_on(&mut self, stepper: &mut Stepper<'_>, index: Index, situation: &[u8]) {
+    fn go_on(&mut self, stepper: &mut Stepper<'_>, place: usize, batch: &mut Batch) {
+        let Ok(index) = Index::try_from(place) else {
+            return;
+        };
+        let Search {
+            model,
+            found,
+            questions,
+        } = self;
+        let situation = found.store.get(index);
+        let marks = &mut found.marks;
         let mut ended = true;
         stepper.each(situation, |step, tried| match tried {
             Tried::To(next) => {
                 ended &= matches!(step.deed, Deed::Note(_));
-                self.found.steps += 1;
-                self.mark(step);
-                self.keep(next, index);
+                marks.mark(model, step);
+                batch.add(next, index);
             }
-            Tried::Barred(limit) => self.found.meet(limit, index, step.code),
+            Tried::Barred(limit) => marks.meet(limit, index, step.code),
         });
-        if ended && self.model.without_notes(situation) && self.found.cut.is_none() {
-            self.end(index, situation);
-        }
-    }
-
-    fn mark(&mut self, step: Step) {
-        let code = usize::from(step.code);
-        if let Some(acted) = self.found.acted.get_mut(code) {
-            *acted = true;
-        }
-        match step.deed {
-            Deed::Repeat => self.found.repeats = true,
-            Deed::Commit(way) => {
-                self.found.commits = true;
-                let block = match self.model.kind(step.code) {
-                    Some(Kind::Noted { block, .. }) => usize::from(*block),
-                    _ => code,
-                };
-                if let Some(taken) = self.found.taken.get_mut(block) {
-                    *taken |= 1 << way;
+        if ended && model.without_notes(situation) {
+            found.ends.push(index);
+            let (counts, stations) = model.split(situation);
+            for (first, question) in found.broken_ends.iter_mut().zip(&questions.ends) {
+                if first.is_none() && !question.holds(counts, stations.len()) {
+                    *first = Some(index);
                 }
             }
-            Deed::Put | Deed::Take | Deed::Note(_) => {}
         }
     }
 
-    fn keep(&mut self, situation: &[u8], parent: Index) {
-        match self.found.store.keep(situation, parent) {
-            Ok(Kept::New(index)) => self.met_first(index, situation),
-            Ok(Kept::Known(_)) => {}
-            Err(_) => self.found.cut = Some(Cut::Memory),
-        }
-    }
-
-    /// A situation that was not there before. With notes each is there without
-    /// them too, so that one is looked at.
-    fn met_first(&mut self, index: Index, situation: &[u8]) {
-        if !self.model.without_notes(situation) {
-            return;
-        }
-        self.found.situations += 1;
-        let (counts, stations) = self.model.split(situation);
-        for ((least, most), count) in self.found.extremes.iter_mut().zip(counts) {
-            *least = (*least).min(*count);
-            *most = (*most).max(*count);
-        }
-        for (first, question) in self.found.never.iter_mut().zip(&self.questions.never) {
-            if first.is_none() && question.holds(counts, stations.len()) {
-                *first = Some(index);
+    fn keep(&mut self, batch: &Batch) {
+        let Search {
+            model,
+            found,
+            questions,
+        } = self;
+        let Found {
+            store,
+            situations,
+            extremes,
+            never,
+            ..
+        } = found;
+        let kept = store.keep_batch(batch, |index, situation| {
+            // With notes each situation is there without them too.
+            if !model.without_notes(situation) {
+                return;
             }
-        }
-    }
-
-    fn end(&mut self, index: Index, situation: &[u8]) {
-        self.found.ends.push(index);
-        let (counts, stations) = self.model.split(situation);
-        for (first, question) in self.found.broken_ends.iter_mut().zip(&self.questions.ends) {
-            if first.is_none() && !question.holds(counts, stations.len()) {
-                *first = Some(index);
+            *situations += 1;
+            let (counts, stations) = model.split(situation);
+            for ((least, most), count) in extremes.iter_mut().zip(counts) {
+                *least = (*least).min(*count);
+                *most = (*most).max(*count);
             }
+            for (first, question) in never.iter_mut().zip(&questions.never) {
+                if first.is_none() && question.holds(counts, stations.len()) {
+                    *first = Some(index);
+                }
+            }
+        });
+        if kept.is_err() {
+            found.cut = Some(Cut::Memory);
         }
     }
 }
 
 impl Found {
     fn of_opening(model: &Model, questions: &Questions) -> Found {
-        let codes = model.kinds().len();
         let (counts, _) = model.split(model.opening());
         Found {
             store: Store::new(),
             situations: 0,
-            steps: 0,
             ends: Vec::new(),
             extremes: counts.iter().map(|count| (*count, *count)).collect(),
-            acted: vec![false; codes],
-            taken: vec![0; codes],
-            repeats: false,
-            commits: false,
-            full_hall: None,
-            full_tray: None,
+            marks: Marks::of(model.kinds().len()),
             never: vec![None; questions.never.len()],
             broken_ends: vec![None; questions.ends.len()],
             cut: None,
         }
-    }
-
-    fn meet(&mut self, limit: Limit, at: Index, code: u8) {
-        let first = match limit {
-            Limit::Stations => &mut self.full_hall,
-            Limit::Tray => &mut self.full_tray,
-        };
-        first.get_or_insert(Barred { at, code });
     }
 
     /// The memory in use.
