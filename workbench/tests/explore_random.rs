@@ -41,14 +41,20 @@ fn sets(explored: &Explored) -> [BTreeSet<Vec<u8>>; 2] {
         .map(|index| store.get(index).to_vec())
         .filter(|situation| explored.model.without_notes(situation));
     let ends = explored.found.ends.iter();
-    [all.collect(), ends.map(|end| store.get(*end).to_vec()).collect()]
+    [
+        all.collect(),
+        ends.map(|end| store.get(*end).to_vec()).collect(),
+    ]
 }
 
 fn engine_sets(found: &EngineFound) -> [BTreeSet<Vec<u8>>; 2] {
     let store = &found.situations;
     let all = store.indexes().map(|index| store.get(index).to_vec());
     let ends = found.ends.iter();
-    [all.collect(), ends.map(|end| store.get(*end).to_vec()).collect()]
+    [
+        all.collect(),
+        ends.map(|end| store.get(*end).to_vec()).collect(),
+    ]
 }
 
 /// What would be found if notes were never taken.

@@ -277,7 +277,10 @@ fn each_choice(table: &Table, hall: &Hall, mut show: impl FnMut(Choice, Result<&
 /// The bytes of a hall up to the last one that is not zero.
 fn without_zeros(hall: &Hall) -> &[u8] {
     let bytes = hall.as_bytes().as_slice();
-    let used = bytes.iter().rposition(|byte| *byte != 0).map_or(0, |at| at + 1);
+    let used = bytes
+        .iter()
+        .rposition(|byte| *byte != 0)
+        .map_or(0, |at| at + 1);
     bytes.get(..used).unwrap_or(bytes)
 }
 

@@ -15,14 +15,23 @@
 //! | [`investigate`] | whether that was exact; once more with notes where not |
 //! | [`endless`] | runs that never end |
 //! | [`replay`] | a way to a situation, made on the library |
+//! | [`labels`] | what the stations of a code are called |
+//! | [`waiting`] | who is left at an end, and why |
 //! | [`engine`] | all halls by the library's own steps |
 
+pub mod dot;
 pub mod endless;
 pub mod engine;
+pub mod facts;
+pub mod groups;
 pub mod investigate;
+pub mod labels;
 pub mod model;
+pub mod objects;
 pub mod question;
 pub mod replay;
+pub mod report;
 pub mod search;
 pub mod steps;
 pub mod store;
+pub mod waiting;

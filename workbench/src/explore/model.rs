@@ -8,6 +8,7 @@
 
 use crate::stations::{Action, Station};
 use crate::table::{Counts, Table, Term, TRAYS};
+use crate::ways::ways_of_block;
 
 /// The most stations that a hall can have; one more is refused 19.
 pub const MOST_STATIONS: usize = 64;
@@ -276,34 +277,14 @@ pub fn opened_terms(table: &Table, process: u8) -> Vec<u8> {
     opened
 }
 
-/// The ways of an expression that finish in `end`, the first one first, each
-/// with its number among all ways.
-fn finished_ways(table: &Table, body: u8) -> Vec<(usize, Vec<Action>)> {
-    let mut finished = Vec::new();
-    let mut number = 0;
-    let mut to_do = vec![(body, Vec::new())];
-    while let Some((expression, mut actions)) = to_do.pop() {
-        match table.term(expression) {
-            Term::NoteTake { tray, rest } => {
-                actions.push(Action::Take(tray));
-                to_do.push((rest, actions));
-            }
-            Term::NotePut { tray, rest } => {
-                actions.push(Action::Put(tray));
-                to_do.push((rest, actions));
-            }
-            Term::OrElse { left, right } => {
-                to_do.push((right, actions.clone()));
-                to_do.push((left, actions));
-            }
-            Term::End => {
-                number += 1;
-                finished.push((number, actions));
-            }
-            _ => number += 1,
-        }
-    }
-    finished
+/// The ways of a block that finish in `end`, the first one first, each with its
+/// number among all ways.
+fn finished_ways(table: &Table, block: u8) -> Vec<(usize, Vec<Action>)> {
+    (1..)
+        .zip(ways_of_block(table, block))
+        .filter(|(_, way)| way.ends)
+        .map(|(number, way)| (number, way.actions))
+        .collect()
 }
 
 /// A model whose codes are being given out.
@@ -354,8 +335,8 @@ impl<'a> Draft<'a> {
         };
         match self.table.term(term) {
             Term::Take { then, .. } | Term::Repeatedly { then, .. } => self.give_codes(then),
-            Term::Block { body } => {
-                for (_, actions) in finished_ways(self.table, body) {
+            Term::Block { .. } => {
+                for (_, actions) in finished_ways(self.table, term) {
                     for tray in crate::stations::puts(&actions) {
                         self.give_put_code(tray);
                     }
@@ -432,9 +413,9 @@ impl Model {
                 self.take(term, tray, opens, true)
             }
             Term::Take { tray, then } => self.take(term, tray, self.opened(table, then), false),
-            Term::Block { body } => Kind::Block {
+            Term::Block { .. } => Kind::Block {
                 term,
-                ways: self.ways_of(table, body),
+                ways: self.ways_of(table, term),
                 noted: Vec::new(),
             },
             // Not a station: no code is given to it.
@@ -452,8 +433,8 @@ impl Model {
         }
     }
 
-    fn ways_of(&self, table: &Table, body: u8) -> Vec<Way> {
-        finished_ways(table, body)
+    fn ways_of(&self, table: &Table, block: u8) -> Vec<Way> {
+        finished_ways(table, block)
             .into_iter()
             .map(|(number, actions)| self.way(number, actions))
             .collect()
@@ -481,7 +462,10 @@ impl Model {
 
     /// The slot of a tray that the table names.
     fn slot(&self, tray: u8) -> usize {
-        self.trays.iter().position(|used| *used == tray).unwrap_or(0)
+        self.trays
+            .iter()
+            .position(|used| *used == tray)
+            .unwrap_or(0)
     }
 }
 

@@ -12,6 +12,7 @@
 use std::fmt;
 
 use crate::text::tree::Program;
+use crate::text::words::nearest;
 
 use super::model::Model;
 
@@ -319,10 +320,11 @@ impl Reader<'_> {
             .iter()
             .map(|tray| tray.name.as_str())
             .collect();
-        Err(self.mistake(format!(
-            "no tray is called '{word}'; there are {}",
-            names.join(", ")
-        )))
+        let hint = match nearest(word, names.iter().copied()) {
+            Some(near) => format!("did you mean '{near}'?"),
+            None => format!("there are {}", names.join(", ")),
+        };
+        Err(self.mistake(format!("no tray is called '{word}': {hint}")))
     }
 
     /// A mistake at the next word.

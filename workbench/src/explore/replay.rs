@@ -40,6 +40,8 @@ pub struct Line {
 pub struct Witness {
     /// The choices in order.
     pub lines: Vec<Line>,
+    /// A last choice that is refused, and by which number.
+    pub refused: Option<String>,
     /// How many steps they make: a block acts in one.
     pub steps: usize,
     /// The hall at their end.
@@ -47,6 +49,12 @@ pub struct Witness {
 }
 
 impl Witness {
+    /// The choices as they stand in a text, in order.
+    pub fn words(&self) -> impl Iterator<Item = &str> {
+        let made = self.lines.iter().map(|line| line.words.as_str());
+        made.chain(self.refused.as_deref())
+    }
+
     /// The choices as bytes.
     #[must_use]
     pub fn bytes(&self) -> Vec<u8> {
@@ -58,12 +66,32 @@ impl Witness {
     }
 }
 
+/// Makes choices on the library and names them.
+///
+/// # Errors
+///
+/// Where one is refused.
+pub fn rehearse(
+    table: &Table,
+    program: &Program,
+    model: &Model,
+    choices: &[Choice],
+) -> Result<Witness, Contradiction> {
+    let mut replay = Replay::open(table, program, model)?;
+    for choice in choices {
+        replay.choose(*choice)?;
+        replay.steps += 1;
+    }
+    Ok(replay.witness())
+}
+
 /// A hall in which steps are made.
 #[derive(Clone, Debug)]
 pub struct Replay<'a> {
     model: &'a Model,
     rehearsal: Rehearsal<'a>,
     lines: Vec<Line>,
+    refused: Option<String>,
     steps: usize,
 }
 
@@ -101,6 +129,7 @@ impl<'a> Replay<'a> {
             model,
             rehearsal,
             lines: Vec::new(),
+            refused: None,
             steps: 0,
         };
         replay.compare(model.opening())?;
@@ -121,11 +150,37 @@ impl<'a> Replay<'a> {
         Ok(())
     }
 
+    /// Has the engine say that a station cannot act, by this number.
+    ///
+    /// # Errors
+    ///
+    /// Where it says something else.
+    pub fn refused(&mut self, code: u8, number: u8) -> Result<(), Contradiction> {
+        let position = self
+            .position_of(code)
+            .ok_or_else(|| contradiction(format!("no station of code {code} stands")))?;
+        if matches!(self.model.kind(code), Some(Kind::Block { .. })) {
+            self.attempt(position)?;
+        }
+        let choice = Choice::Act { position };
+        match self.rehearsal.ask(choice) {
+            Err(refusal) if refusal.number == number => {
+                let words = words(&self.rehearsal.now().names, choice);
+                self.refused = Some(format!("{words} => refused {number}"));
+                Ok(())
+            }
+            other => Err(contradiction(format!(
+                "refusal {number} was foretold, and the engine answered {other:?}"
+            ))),
+        }
+    }
+
     /// What was made so far.
     #[must_use]
     pub fn witness(&self) -> Witness {
         Witness {
             lines: self.lines.clone(),
+            refused: self.refused.clone(),
             steps: self.steps,
             last: self.rehearsal.now().clone(),
         }
@@ -204,12 +259,12 @@ impl<'a> Replay<'a> {
         let Some(Station::Attempt(attempt)) = station else {
             return None;
         };
-        (0_u8..)
-            .take(attempt.nodes.len())
-            .find(|node| {
-                let node = *node;
-                self.rehearsal.ask(Choice::Inside { position, node }).is_ok()
-            })
+        (0_u8..).take(attempt.nodes.len()).find(|node| {
+            let node = *node;
+            self.rehearsal
+                .ask(Choice::Inside { position, node })
+                .is_ok()
+        })
     }
 
     fn act(&mut self, position: u8, rule: u8) -> Result<(), Contradiction> {

@@ -360,7 +360,10 @@ fn hash(record: &[u8]) -> u64 {
     let length = u64::try_from(record.len()).unwrap_or(0);
     let mut hash = mix(length, u64::from_le_bytes(last));
     for word in words {
-        hash = mix(hash, <[u8; 8]>::try_from(word).map_or(0, u64::from_le_bytes));
+        hash = mix(
+            hash,
+            <[u8; 8]>::try_from(word).map_or(0, u64::from_le_bytes),
+        );
     }
     hash ^= hash >> 32;
     hash = hash.wrapping_mul(FACTOR);
