@@ -12,7 +12,7 @@ use super::search::Cut;
 use super::waiting;
 
 /// Longer ways are cut in print; a file has all of them.
-const MOST_CHOICES: usize = 60;
+const MOST_CHOICES: usize = 100;
 
 /// What the words are about.
 #[derive(Clone, Copy, Debug)]
@@ -121,9 +121,9 @@ impl Report<'_> {
         let mut lines = wrapped(
             &first,
             &format!(
-                "{}{many} after {}",
+                "{}{many} {}",
                 self.style.bold(&self.counts(&end.counts)),
-                counted_steps(&end.witness)
+                when(&end.witness)
             ),
         );
         if end.left.is_empty() {
@@ -197,11 +197,11 @@ impl Report<'_> {
     fn for_ever(&self) -> Vec<String> {
         let facts = self.facts;
         let (witness, before, commits) = match (&facts.for_ever_no_commit, &facts.for_ever) {
-            (ForEver::Yes(witness, before), _) => (witness, *before, "with no commit in it"),
+            (ForEver::Yes(witness, before), _) => (witness, *before, "even without a commit"),
             (without, ForEver::Yes(witness, before)) => {
                 let commits = match without {
-                    ForEver::No => "and never without a commit",
-                    _ => "whether also without a commit is not known",
+                    ForEver::No => "but not without a commit",
+                    _ => "whether without a commit is not known",
                 };
                 (witness, *before, commits)
             }
@@ -215,7 +215,7 @@ impl Report<'_> {
         let mut lines = wrapped(
             "",
             &format!(
-                "runs that go on for ever: there are, {commits}; the last {} can be made again and again:",
+                "runs that go on for ever: yes, {commits}; the last {} can be made again and again:",
                 counted(again, "choice")
             ),
         );
@@ -231,10 +231,10 @@ impl Report<'_> {
         let mut lines = Vec::new();
         for (witness, words) in met {
             if let Some(witness) = witness {
-                let steps = counted_steps(witness);
                 lines.push(format!(
-                    "limit met: {}, first after {steps}:",
-                    self.style.bad(words)
+                    "limit met: {}, first {}:",
+                    self.style.bad(words),
+                    when(witness)
                 ));
                 lines.extend(choices(witness, 5));
             }
@@ -269,9 +269,9 @@ impl Report<'_> {
                     .map(|tray| crate::ways::count_of(&last, *tray))
                     .collect();
                 let words = format!(
-                    "{} after {}: {}",
+                    "{} {}: {}",
                     self.style.bad("broken"),
-                    counted_steps(witness),
+                    when(witness),
                     self.counts(&counts)
                 );
                 (words, Some(witness), Some(left))
@@ -324,6 +324,9 @@ fn cut_words(cut: Cut) -> &'static str {
 /// A way as `choices` text, cut where it is long.
 fn choices(witness: &Witness, indent: usize) -> Vec<String> {
     let words: Vec<&str> = witness.words().collect();
+    if words.is_empty() {
+        return Vec::new();
+    }
     let margin = " ".repeat(indent);
     let mut lines = vec![format!("{margin}choices")];
     let shown = words.get(..MOST_CHOICES).unwrap_or(&words);
@@ -353,8 +356,13 @@ pub fn choice_lines(words: &[&str], indent: usize) -> Vec<String> {
     lines
 }
 
-fn counted_steps(witness: &Witness) -> String {
-    counted(u64::try_from(witness.steps).unwrap_or(u64::MAX), "step")
+/// After how many steps.
+#[must_use]
+pub fn when(witness: &Witness) -> String {
+    match u64::try_from(witness.steps).unwrap_or(u64::MAX) {
+        0 => "at the opening".to_owned(),
+        steps => format!("after {}", counted(steps, "step")),
+    }
 }
 
 fn list(items: &[String], between: &str) -> String {

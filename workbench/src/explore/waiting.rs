@@ -6,6 +6,9 @@ use crate::table::{Table, Term};
 use crate::text::tree::Program;
 use crate::ways::{count_of, shortage_words, shortages, ways_of_block};
 
+/// So many names of stations that are left alike are told.
+const FEW: usize = 6;
+
 /// How a station is left.
 #[derive(Clone, Debug, PartialEq, Eq)]
 pub struct Left {
@@ -74,9 +77,19 @@ pub fn told(left: &[Left]) -> Vec<String> {
         .into_iter()
         .map(|(words, names)| match names.as_slice() {
             [name] => format!("{name} {words}"),
-            names => format!("{}: each {words}", names.join(", ")),
+            names => format!("{}: each {words}", some_of(names)),
         })
         .collect()
+}
+
+/// Names in a row; of many the first few and how many more.
+fn some_of(names: &[&str]) -> String {
+    match names.get(..FEW) {
+        Some(few) if names.len() > FEW + 2 => {
+            format!("{} and {} more", few.join(", "), names.len() - FEW)
+        }
+        _ => names.join(", "),
+    }
 }
 
 fn state_of(table: &Table, program: &Program, now: &Moment, station: &Station) -> (State, String) {

@@ -6,7 +6,7 @@ use crate::commands::{Args, Failure, Outcome, Streams};
 use crate::explore::facts::{Answer, Asked, Verdict};
 use crate::explore::groups::{groups, Group, Ungrouped, MOST_GROUPS};
 use crate::explore::objects;
-use crate::explore::report::{choice_lines, counted};
+use crate::explore::report::{choice_lines, counted, when};
 use crate::json::{list, Object};
 use crate::style::{wrapped, Style};
 
@@ -152,12 +152,7 @@ fn smallest_lines(group: &Group, style: Style) -> Vec<String> {
     lines.push(format!("  {}", style.bold(&group.start)));
     for answer in &group.answers {
         if let Verdict::Broken(witness, _) = &answer.verdict {
-            let steps = u64::try_from(witness.steps).unwrap_or(0);
-            lines.push(format!(
-                "{} is broken after {}:",
-                question(answer),
-                counted(steps, "step")
-            ));
+            lines.push(format!("{} is broken {}:", question(answer), when(witness)));
             lines.push("  choices".to_owned());
             let words: Vec<&str> = witness.words().collect();
             lines.extend(choice_lines(&words, 4));

@@ -53,7 +53,7 @@ pub(super) fn explore(args: &Args, streams: &mut Streams<'_>) -> Outcome {
     };
     let began = Instant::now();
     let job = Job {
-        name,
+        name: if name == "-" { "standard input" } else { name },
         loaded: &loaded,
         questions: questions(args, &loaded)?,
         limits: limits(args, began)?,
