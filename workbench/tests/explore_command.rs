@@ -3,14 +3,20 @@
     clippy::unwrap_used,
     clippy::expect_used,
     clippy::panic,
-    clippy::indexing_slicing
+    clippy::indexing_slicing,
+    clippy::format_push_string
 )]
 
 use std::fs;
 use std::path::PathBuf;
 
+use reference::generator::Random;
 use workbench::commands::{self, Streams};
+use workbench::explore::model::Model;
+use workbench::explore::question::Question;
 use workbench::style::Style;
+use workbench::table::Table;
+use workbench::text::tree::Program;
 
 /// Exit code, standard output, standard error.
 fn hall(arguments: &[&str], input: &str) -> (u8, String, String) {
@@ -398,6 +404,43 @@ fn mistakes_in_questions() {
         err.contains("column 257: brackets nest 64 deep at most"),
         "{err}"
     );
+}
+
+/// Pieces of questions by chance: read or not, and a mistake lies in the text
+/// or just behind it.
+#[test]
+fn questions_of_any_words() {
+    let pieces = [
+        "a", "a-b", "c", "stations", "and", "or", "not", "(", ")", "=", "!=", "<", "<=", ">", ">=",
+        "+", "-", "0", "1", "7x", "999999", "1000000", "==", "!", "&", "\u{e4}", " ", "\t",
+        "\u{0}", "_",
+    ];
+    let table = Table::read(&[2, 0, 12, 1, 1, 13, 0]).unwrap();
+    let mut program = Program::of_table(&table);
+    program.trays[0].name = "a".to_owned();
+    program.trays[1].name = "a-b".to_owned();
+    let model = Model::of(&table);
+    let mut random = Random::new(7);
+    let mut read = 0;
+    for _ in 0..100_000 {
+        let mut text = String::new();
+        for _ in 0..random.below(9) {
+            text.push_str(pieces[random.below(pieces.len())]);
+            text.push_str(["", " "][random.below(2)]);
+        }
+        match Question::read(&text, &program, &model) {
+            Ok(question) => {
+                read += 1;
+                let _ = question.holds(&[0, 255], 64);
+            }
+            Err(mistake) => {
+                let last = mistake.column + mistake.length - 1;
+                assert!(mistake.column >= 1 && mistake.length >= 1, "{text:?}");
+                assert!(last <= text.chars().count() + 1, "{text:?}: {mistake:?}");
+            }
+        }
+    }
+    assert!(read > 100, "{read}");
 }
 
 #[test]

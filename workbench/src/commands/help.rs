@@ -111,7 +111,7 @@ prints is choices text for 'hall run', and was made on the engine before it was 
   --groups                     asks the same of every group of the parts behind 'start', and names
                                the smallest that shows the fault
   --engine                     by the engine's own steps, every position and node: for small halls
-  --all                        every sort of end, not the first 12 alone
+  --all                        every sort of end; else the nearest 12, with --json 1000
   --save NAME                  each way as a file: NAME-end-1.choices, NAME-never-1.choices, ..
   --dot FILE                   a picture of a small hall, for Graphviz
   --seconds N, --memory MB     stop there (memory: 2000); then nothing is said to hold

@@ -1,6 +1,6 @@
 //! Every situation that a hall can come to, breadth first.
 
-use std::time::{Duration, Instant};
+use std::time::Instant;
 
 use super::model::{Kind, Model};
 use super::question::Question;
@@ -183,9 +183,6 @@ pub fn search(
     search.found
 }
 
-/// How long the caller has to wait for the next word on the progress.
-pub const PROGRESS_EVERY: Duration = Duration::from_secs(1);
-
 struct Search<'a> {
     model: &'a Model,
     questions: &'a Questions,
@@ -208,6 +205,11 @@ impl Search<'_> {
             while done < self.found.store.len() && batch.len() < BATCH {
                 self.go_on(&mut stepper, done, &mut batch);
                 done += 1;
+            }
+            // More slots are asked for all at once: they have to fit too.
+            if self.found.memory_with(batch.len()) > limits.memory {
+                self.found.cut = Some(Cut::Memory);
+                return;
             }
             self.keep(&batch);
         }
@@ -300,6 +302,10 @@ impl Found {
     #[must_use]
     pub fn memory(&self) -> usize {
         self.store.memory() + 4 * self.ends.len()
+    }
+
+    fn memory_with(&self, more: usize) -> usize {
+        self.store.memory_with(more) + 4 * self.ends.len()
     }
 
     /// Whether a question was found broken.

@@ -133,6 +133,16 @@ impl Store {
             + size_of::<Slot>() * self.slots.len()
     }
 
+    /// The memory in use once so many more records have slots.
+    #[must_use]
+    pub fn memory_with(&self, more: usize) -> usize {
+        let mut slots = self.slots.len();
+        while too_full(self.len() + more, slots) {
+            slots *= 2;
+        }
+        self.memory() + size_of::<Slot>() * (slots - self.slots.len())
+    }
+
     /// The record of a number, empty for one that there is not.
     #[must_use]
     pub fn get(&self, index: Index) -> &[u8] {
@@ -225,7 +235,7 @@ impl Store {
     }
 
     fn keep_hashed(&mut self, record: &[u8], parent: Index, hash: u64) -> Result<Kept, NoRoom> {
-        if (self.len() + 1) * 5 > self.slots.len() * 4 {
+        if too_full(self.len() + 1, self.slots.len()) {
             self.grow()?;
         }
         match self.look_up(record, hash) {
@@ -329,6 +339,11 @@ impl Default for Store {
     }
 }
 
+/// Whether more than four slots in five would be taken.
+fn too_full(records: usize, slots: usize) -> bool {
+    records * 5 > slots * 4
+}
+
 /// The record of a slot, none where it is free.
 fn index_in([a, b, c, d, _]: Slot) -> Option<Index> {
     u32::from_le_bytes([a, b, c, d]).checked_sub(1)
@@ -394,6 +409,10 @@ mod tests {
             assert_eq!(store.keep(&record(number), 0), Ok(Kept::Known(number)));
             assert_eq!(store.get(number), record(number));
         }
+        // 65,536 slots are enough for 52,428 records.
+        let now = store.memory();
+        assert_eq!(store.memory_with(2_428), now);
+        assert_eq!(store.memory_with(2_429), now + 5 * 65_536);
         assert_eq!(store.find(&record(50_000)), None);
         assert_eq!(store.len(), 50_000);
         assert_eq!(store.way_to(7), [0, 1, 4, 7]);

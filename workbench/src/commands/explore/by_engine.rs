@@ -1,6 +1,6 @@
 //! `hall explore --engine`
 
-use super::progress::progress;
+use super::progress::Progress;
 use super::{exit, wrong, Job};
 use crate::commands::load::Loaded;
 use crate::commands::{Args, Failure, Outcome, Streams};
@@ -36,8 +36,11 @@ pub(super) fn by_engine(job: &Job<'_>, args: &Args, streams: &mut Streams<'_>) -
         return Err(wrong("--dot and --save are not for --engine"));
     }
     let table = &job.loaded.table;
-    let found = engine_search(table, job.limits, &mut progress())?;
-    let by_steps = investigate(table, &Questions::default(), job.limits, &mut progress());
+    let mut progress = Progress::new();
+    let mut tell = |seen, done| progress.tell(seen, done);
+    let found = engine_search(table, job.limits, &mut tell)?;
+    let by_steps = investigate(table, &Questions::default(), job.limits, &mut tell);
+    drop(progress);
     let compared = found.cut.is_none() && by_steps.complete();
     if compared {
         compare(&found, &by_steps)?;

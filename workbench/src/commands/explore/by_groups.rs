@@ -1,6 +1,6 @@
 //! `hall explore --groups`
 
-use super::progress::progress;
+use super::progress::Progress;
 use super::{exit, wrong, Job};
 use crate::commands::{Args, Failure, Outcome, Streams};
 use crate::explore::facts::{Answer, Asked, Verdict};
@@ -27,13 +27,15 @@ pub(super) fn by_groups(job: &Job<'_>, args: &Args, streams: &mut Streams<'_>) -
     {
         return Err(wrong("--dot and --save are not for --groups"));
     }
+    let mut progress = Progress::new();
     let groups = groups(
         &job.loaded.program,
         &job.questions,
         job.limits,
-        &mut progress(),
-    )
-    .map_err(|ungrouped| match ungrouped {
+        &mut |seen, done| progress.tell(seen, done),
+    );
+    drop(progress);
+    let groups = groups.map_err(|ungrouped| match ungrouped {
         Ungrouped::TooMany(number) => wrong(&format!(
             "the start has {number} groups, and at most {MOST_GROUPS} are gone through: name \
              parts that belong together as one rule"

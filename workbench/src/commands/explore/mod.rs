@@ -20,12 +20,14 @@ use crate::explore::question::{Mistake, Question};
 use crate::explore::replay::{Contradiction, Witness};
 use crate::explore::report::{choice_lines, Report};
 use crate::explore::search::{Limits, Questions};
-use progress::progress;
+use progress::Progress;
 
 /// Megabytes that are used where nothing else is said.
 const USUAL_MEMORY: usize = 2000;
 /// Sorts of ends that are told where not all are wanted.
 const USUAL_ENDS: usize = 12;
+/// The same for `--json`.
+const USUAL_ENDS_FOR_PROGRAMS: usize = 1000;
 
 impl From<Contradiction> for Failure {
     fn from(contradiction: Contradiction) -> Failure {
@@ -70,11 +72,15 @@ pub(super) fn explore(args: &Args, streams: &mut Streams<'_>) -> Outcome {
 
 fn by_steps(job: &Job<'_>, args: &Args, streams: &mut Streams<'_>) -> Outcome {
     let Loaded { table, program, .. } = job.loaded;
-    let explored = investigate(table, &job.questions, job.limits, &mut progress());
-    let most_ends = if args.has("--all") || job.json {
-        usize::MAX
-    } else {
-        USUAL_ENDS
+    let mut progress = Progress::new();
+    let explored = investigate(table, &job.questions, job.limits, &mut |seen, done| {
+        progress.tell(seen, done);
+    });
+    drop(progress);
+    let most_ends = match (args.has("--all"), job.json) {
+        (true, _) => usize::MAX,
+        (false, true) => USUAL_ENDS_FOR_PROGRAMS,
+        (false, false) => USUAL_ENDS,
     };
     let facts = Collector {
         table,
