@@ -91,7 +91,7 @@ fn choose(parts: &[(PartId, usize)]) -> Result<Vec<Vec<usize>>, Ungrouped> {
         chosen = chosen
             .into_iter()
             .flat_map(|group| {
-                (0..=*copies).map(move |number| {
+                (0..=*copies).rev().map(move |number| {
                     let mut group = group.clone();
                     group.push(number);
                     group

@@ -307,19 +307,15 @@ impl Reader<'_> {
 
     /// A tray that no record names has nothing and gets nothing.
     fn tray(&self, word: &str) -> Result<Value, Mistake> {
-        if let Some(tray) = self.program.tray_named(word) {
+        let trays = &self.program.trays;
+        if let Some(tray) = trays.iter().find(|tray| tray.name == word) {
             let slot = self.model.trays().iter().position(|t| *t == tray.number);
             return Ok(slot.map_or(Value::Number(0), Value::Slot));
         }
         if word == "stations" {
             return Ok(Value::Stations);
         }
-        let names: Vec<&str> = self
-            .program
-            .trays
-            .iter()
-            .map(|tray| tray.name.as_str())
-            .collect();
+        let names: Vec<&str> = trays.iter().map(|tray| tray.name.as_str()).collect();
         let hint = match nearest(word, names.iter().copied()) {
             Some(near) => format!("did you mean '{near}'?"),
             None => format!("there are {}", names.join(", ")),

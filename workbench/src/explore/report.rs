@@ -65,12 +65,11 @@ impl Report<'_> {
         let mut head = wrapped(
             "",
             &format!(
-                "{}: {}, {} between them, {seen} ({:.1} s, {}).",
+                "{}: {}, {} between them, {seen}{}.",
                 self.style.bold(self.name),
                 counted(found.situations, "situation"),
                 counted(found.marks.steps, "step"),
-                self.seconds,
-                megabytes(found.memory()),
+                self.cost(),
             ),
         );
         let exact = self.explored.exact;
@@ -84,6 +83,15 @@ impl Report<'_> {
             &format!("exact: {word} ({})", exact_words(exact)),
         ));
         head
+    }
+
+    /// What it took, where somebody had to wait for it.
+    fn cost(&self) -> String {
+        if self.seconds < 1.0 {
+            return String::new();
+        }
+        let memory = megabytes(self.explored.found.memory());
+        format!(" ({:.1} s, {memory})", self.seconds)
     }
 
     fn ends(&self) -> Vec<String> {

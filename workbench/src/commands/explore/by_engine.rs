@@ -155,7 +155,7 @@ fn text(
     let mut lines = wrapped(
         "",
         &format!(
-            "{}: by the engine's own steps {}, {} between them, {} and {}; {} ({:.1} s).",
+            "{}: by the engine's own steps {}, {} between them, {} and {}; {}.",
             style.bold(job.name),
             counted(number(found.halls.len()), "hall"),
             counted(found.steps, "step"),
@@ -165,8 +165,7 @@ fn text(
                 "all of them seen"
             } else {
                 "cut short, there are more"
-            },
-            job.began.elapsed().as_secs_f64()
+            }
         ),
     );
     lines.push(
