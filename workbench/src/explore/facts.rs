@@ -337,6 +337,17 @@ impl Collector<'_> {
     }
 }
 
+impl Answer {
+    /// The question as it is told.
+    #[must_use]
+    pub fn told(&self) -> String {
+        match self.asked {
+            Asked::Never => format!("never {}", self.question),
+            Asked::Ends => format!("every end has {}", self.question),
+        }
+    }
+}
+
 impl Asked {
     /// The word for it.
     #[must_use]

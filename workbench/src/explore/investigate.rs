@@ -73,18 +73,6 @@ pub fn investigate(
     progress: &mut Progress<'_>,
 ) -> Explored {
     let model = Model::of(table);
-    let with_notes = || Model::with_notes(table);
-    investigate_model(model, with_notes, questions, limits, progress)
-}
-
-/// The same for a model at hand; `with_notes` makes the one with notes.
-pub fn investigate_model(
-    model: Model,
-    with_notes: impl FnOnce() -> Option<Model>,
-    questions: &Questions,
-    limits: Limits,
-    progress: &mut Progress<'_>,
-) -> Explored {
     let found = search(&model, questions, limits, progress);
     let exact = match (found.cut, found.marks.full_hall) {
         (Some(cut), _) => Exact::No(Doubt::Cut(cut)),
@@ -100,7 +88,7 @@ pub fn investigate_model(
     if exact != Exact::No(Doubt::TooManyNotes) {
         return plain;
     }
-    match with_notes() {
+    match Model::with_notes(table) {
         Some(model) => again(plain, model, questions, limits, progress),
         None => plain,
     }

@@ -129,17 +129,6 @@ impl Model {
         Some(model)
     }
 
-    /// The same hall with other stations at its opening: codes of this model.
-    #[must_use]
-    pub fn opened_with(&self, stations: &[u8]) -> Model {
-        let mut model = self.clone();
-        model.opening.truncate(self.trays.len());
-        let mut codes = stations.to_vec();
-        codes.sort_unstable();
-        model.opening.extend(codes);
-        model
-    }
-
     /// The trays in use; a slot is an index into them.
     #[must_use]
     pub fn trays(&self) -> &[u8] {

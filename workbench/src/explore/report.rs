@@ -5,7 +5,7 @@ use std::fmt::Write as _;
 use crate::style::{wrapped, Style, WIDTH};
 use crate::text::tree::Program;
 
-use super::facts::{Answer, Asked, End, Facts, ForEver, Verdict};
+use super::facts::{Answer, End, Facts, ForEver, Verdict};
 use super::investigate::{Doubt, Exact, Explored};
 use super::replay::Witness;
 use super::search::Cut;
@@ -259,10 +259,6 @@ impl Report<'_> {
     }
 
     fn answer(&self, answer: &Answer) -> Vec<String> {
-        let question = match answer.asked {
-            Asked::Never => format!("never {}: ", answer.question),
-            Asked::Ends => format!("every end has {}: ", answer.question),
-        };
         let (verdict, witness, left) = match &answer.verdict {
             Verdict::Holds => (self.style.good("holds"), None, None),
             Verdict::Open => (
@@ -285,7 +281,7 @@ impl Report<'_> {
                 (words, Some(witness), Some(left))
             }
         };
-        let mut lines = wrapped("", &format!("{question}{verdict}"));
+        let mut lines = wrapped("", &format!("{}: {verdict}", answer.told()));
         for line in left.map(|left| waiting::told(left)).unwrap_or_default() {
             lines.extend(wrapped("     ", &line));
         }

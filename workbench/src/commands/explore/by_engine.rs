@@ -194,10 +194,7 @@ fn text(
 }
 
 fn answer_lines(answer: &Answer, style: Style) -> Vec<String> {
-    let question = match answer.asked {
-        Asked::Never => format!("never {}", answer.question),
-        Asked::Ends => format!("every end has {}", answer.question),
-    };
+    let question = answer.told();
     match &answer.verdict {
         Verdict::Holds => vec![format!("{question}: {}", style.good("holds"))],
         Verdict::Open => vec![format!("{question}: not known")],

@@ -3,7 +3,7 @@
 use super::progress::Progress;
 use super::{exit, wrong, Job};
 use crate::commands::{Args, Failure, Outcome, Streams};
-use crate::explore::facts::{Answer, Asked, Verdict};
+use crate::explore::facts::{Answer, Verdict};
 use crate::explore::groups::{groups, Group, Ungrouped, MOST_GROUPS};
 use crate::explore::objects;
 use crate::explore::report::{choice_lines, counted, when};
@@ -111,13 +111,6 @@ fn holds(answer: &Answer) -> bool {
     matches!(answer.verdict, Verdict::Holds)
 }
 
-fn question(answer: &Answer) -> String {
-    match answer.asked {
-        Asked::Never => format!("never {}", answer.question),
-        Asked::Ends => format!("every end has {}", answer.question),
-    }
-}
-
 fn group_lines(group: &Group, style: Style) -> Vec<String> {
     let verdicts: Vec<String> = group
         .answers
@@ -128,7 +121,7 @@ fn group_lines(group: &Group, style: Style) -> Vec<String> {
                 Verdict::Broken(..) => style.bad("broken"),
                 Verdict::Open => "not known".to_owned(),
             };
-            format!("{}: {verdict}", question(answer))
+            format!("{}: {verdict}", answer.told())
         })
         .collect();
     wrapped(
@@ -154,7 +147,7 @@ fn smallest_lines(group: &Group, style: Style) -> Vec<String> {
     lines.push(format!("  {}", style.bold(&group.start)));
     for answer in &group.answers {
         if let Verdict::Broken(witness, _) = &answer.verdict {
-            lines.push(format!("{} is broken {}:", question(answer), when(witness)));
+            lines.push(format!("{} is broken {}:", answer.told(), when(witness)));
             lines.push("  choices".to_owned());
             let words: Vec<&str> = witness.words().collect();
             lines.extend(choice_lines(&words, 4));

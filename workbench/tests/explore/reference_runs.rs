@@ -1,17 +1,8 @@
 //! Explorations against the one-step run of the second implementation: the same
 //! situations, steps, ends and runs without end.
-#![allow(
-    clippy::unwrap_used,
-    clippy::expect_used,
-    clippy::panic,
-    clippy::indexing_slicing
-)]
-
-mod explore_halls;
-
 use std::collections::{BTreeMap, BTreeSet, VecDeque};
 
-use explore_halls::{near_the_limits, tight};
+use crate::halls::{near_the_limits, tight};
 use reference::atomic::{possible_steps, start, take_step, NotPossible, OneStep, Place, Step};
 use reference::generator::{contended_table, Random};
 use reference::run::Tally;

@@ -1,16 +1,7 @@
 //! Explorations against the library's own steps, on random small halls.
-#![allow(
-    clippy::unwrap_used,
-    clippy::expect_used,
-    clippy::panic,
-    clippy::indexing_slicing
-)]
-
-mod explore_halls;
-
 use std::collections::BTreeSet;
 
-use explore_halls::{near_the_limits, tight};
+use crate::halls::{near_the_limits, tight};
 use reference::generator::{accepted_table, contended_table, Random, Shape};
 use ruonfidd::Hall;
 use workbench::explore::engine::{engine_search, EngineFound};
@@ -222,7 +213,6 @@ fn contended_halls() {
         let table = contended_table(&mut Random::new(seed));
         met.compare(&table, &format!("contended {seed}"));
     }
-    eprintln!("{met:?}");
     assert!(met.halls > 500 && met.full_tray > 5, "{met:?}");
 }
 
@@ -235,7 +225,6 @@ fn any_small_halls() {
         let table = accepted_table(&mut random, shape);
         met.compare(&table, &format!("any {seed}"));
     }
-    eprintln!("{met:?}");
     assert!(met.halls > 1_300 && met.full_tray > 10, "{met:?}");
     assert!(
         met.broken > 500 && met.ends > 1_000 && met.rounds > 20,
@@ -250,7 +239,6 @@ fn halls_near_the_limits() {
         let table = near_the_limits(&mut Random::new(seed));
         met.compare(&table, &format!("near the limits {seed}"));
     }
-    eprintln!("{met:?}");
     assert!(met.halls > 300 && met.full_tray > 30, "{met:?}");
     assert!(
         met.with_notes > 30 && met.without_alternatives > 10,
@@ -265,6 +253,5 @@ fn halls_where_notes_matter() {
         let table = tight(&mut Random::new(seed));
         met.compare(&table, &format!("tight {seed}"));
     }
-    eprintln!("{met:?}");
     assert!(met.with_notes > 50 && met.notes_mattered > 10, "{met:?}");
 }
