@@ -135,6 +135,30 @@ fn printed_ways_replay() {
     }
 }
 
+/// Every example but the refused ones can be explored to the end, and each way
+/// printed is one that `hall run` goes.
+#[test]
+fn examples() {
+    let folder = PathBuf::from(env!("CARGO_MANIFEST_DIR")).join("examples");
+    let mut explored = 0;
+    for entry in fs::read_dir(folder).unwrap() {
+        let file = entry.unwrap().path();
+        if file.extension().map_or(true, |ending| ending != "hall") {
+            continue;
+        }
+        let lesson = fs::read_to_string(&file).unwrap();
+        let rules = |line: &&str| !line.starts_with("choices");
+        let lines: Vec<&str> = lesson.lines().take_while(rules).collect();
+        let text = lines.join("\n") + "\n";
+        let (code, out, err) = explore(&text, &[]);
+        assert_eq!((code, err.as_str()), (0, ""), "{}", file.display());
+        assert!(out.contains("exact: yes"), "{}\n{out}", file.display());
+        all_replay(&text, &out);
+        explored += 1;
+    }
+    assert!(explored >= 20, "{explored}");
+}
+
 /// A name of a file that is this test's alone.
 fn scratch(name: &str) -> PathBuf {
     let folder = std::env::temp_dir().join(format!("hall-explore-{}", std::process::id()));
