@@ -9,6 +9,7 @@
 
 mod command;
 mod common;
+mod doubts;
 mod halls;
 mod questions;
 mod random;
