@@ -289,7 +289,7 @@ impl Store {
             if tag == tag_of(hash) && self.get(index) == record {
                 return Ok(index);
             }
-            at = (at + 1) & (self.slots.len() - 1);
+            at = self.next_slot(at);
         }
     }
 
@@ -300,9 +300,14 @@ impl Store {
         }
     }
 
-    /// The number of slots is a power of two.
+    /// The number of slots is a power of two; it is 0 only where memory ran out
+    /// while they were made anew, and then every slot is taken for a free one.
     fn first_slot(&self, hash: u64) -> usize {
-        usize::try_from(hash).unwrap_or(0) & (self.slots.len() - 1)
+        usize::try_from(hash).unwrap_or(0) & self.slots.len().wrapping_sub(1)
+    }
+
+    fn next_slot(&self, at: usize) -> usize {
+        at.wrapping_add(1) & self.slots.len().wrapping_sub(1)
     }
 
     /// Twice as many slots. The old ones are let go first, since all that they
@@ -326,7 +331,7 @@ impl Store {
             let hash = hash(self.get(index));
             let mut at = self.first_slot(hash);
             while self.slots.get(at).is_some_and(|slot| *slot != FREE) {
-                at = (at + 1) & (self.slots.len() - 1);
+                at = self.next_slot(at);
             }
             self.take_slot(at, index + 1, hash);
         }
