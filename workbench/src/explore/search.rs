@@ -103,8 +103,10 @@ impl Marks {
     fn mark(&mut self, model: &Model, step: Step) {
         self.steps += 1;
         let code = usize::from(step.code);
+        // To open an attempt is not to act: it may come to nothing.
+        let acts = !matches!(step.deed, Deed::Note(_));
         if let Some(acted) = self.acted.get_mut(code) {
-            *acted = true;
+            *acted |= acts;
         }
         match step.deed {
             Deed::Repeat => self.repeats = true,

@@ -408,6 +408,52 @@ fn runs_for_ever_with_commits_alone() {
     assert_eq!(all_replay(text, &out), 1);
 }
 
+/// The desk opens while the giver still stands there, with no room for two puts;
+/// the giver goes, and now there is room for what the desk saw before. Without
+/// notes the desk would only ever see what the giver has put.
+#[test]
+fn a_fault_that_only_notes_show() {
+    let text = "tray a\ntray c\ntray d\nrule giver is put a\n\
+        rule desk is block (take a, end or else put c, put c, end)\n\
+        rule idle is take d then nothing\nstart desk beside giver beside 62 of idle\n";
+    let (code, out, err) = explore(text, &["--never", "c > 1"]);
+    assert_eq!((code, err.as_str()), (1, ""), "{out}");
+    let told = out.replace('\n', " ");
+    assert!(
+        told.contains("explored with notes of what each attempt found"),
+        "{out}"
+    );
+    assert!(
+        told.contains("never c > 1: broken after 5 steps: a 1, c 2"),
+        "{out}"
+    );
+    assert!(told.contains("ways never taken: none"), "{out}");
+    assert_eq!(all_replay(text, &out), 4, "{out}");
+    let (_, out, _) = explore(text, &["--engine", "--never", "c > 1"]);
+    assert!(
+        out.contains("the same situations and the same ends"),
+        "{out}"
+    );
+    assert!(out.contains("never c > 1: broken"), "{out}");
+    assert_eq!(all_replay(text, &out), 1, "{out}");
+    // Three puts have no room even then: the desk opens and never acts.
+    let tighter = text.replace("put c, put c, end", "put c, put c, put c, end");
+    let tighter = tighter.replace("take a, end", "take a, take a, end");
+    let (_, out, _) = explore(&tighter, &[]);
+    assert!(
+        out.contains("stations that never act: desk, idle\n"),
+        "{out}"
+    );
+    // With one station fewer there is room, and no need for notes.
+    let roomy = text.replace("62 of", "61 of");
+    let (code, out, _) = explore(&roomy, &["--never", "c > 1"]);
+    assert_eq!(code, 1);
+    assert!(
+        out.contains("the limit of 64 stations was never met"),
+        "{out}"
+    );
+}
+
 #[test]
 fn limits_at_an_end() {
     let text =
