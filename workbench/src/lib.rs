@@ -23,6 +23,7 @@
 pub mod board;
 pub mod bytes_told;
 pub mod commands;
+pub mod explore;
 pub mod input;
 pub mod json;
 pub mod lesson;

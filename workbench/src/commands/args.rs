@@ -10,6 +10,7 @@ pub struct Args {
     /// What follows `-o`.
     pub output: Option<String>,
     options: Vec<String>,
+    values: Vec<(String, String)>,
 }
 
 /// The options of each command, besides `--help`, and how many files it takes.
@@ -20,7 +21,23 @@ fn known(command: &str) -> (&'static [&'static str], usize) {
         "show" => (&["--exact", "--binary"], 1),
         "run" => (&["--board", "--quiet", "--json", "--binary"], 2),
         "play" => (&["--binary"], 2),
+        "explore" => (&["--groups", "--engine", "--all", "--json", "--binary"], 1),
         _ => (&[], 0),
+    }
+}
+
+/// The options of a command that are followed by something.
+fn with_value(command: &str) -> &'static [&'static str] {
+    match command {
+        "explore" => &[
+            "--never",
+            "--ends",
+            "--seconds",
+            "--memory",
+            "--dot",
+            "--save",
+        ],
+        _ => &[],
     }
 }
 
@@ -45,6 +62,11 @@ impl Args {
                         .next()
                         .ok_or_else(|| usage(command, "-o wants a file"))?;
                     args.output = Some(file.clone());
+                }
+                option if is_option && with_value(command).contains(&option) => {
+                    let wants = || usage(command, &format!("{option} wants something behind it"));
+                    let value = rest.next().ok_or_else(wants)?;
+                    args.values.push((option.to_owned(), value.clone()));
                 }
                 option if is_option && options.contains(&option) => {
                     args.options.push(option.to_owned());
@@ -71,6 +93,14 @@ impl Args {
     #[must_use]
     pub fn has(&self, option: &str) -> bool {
         self.options.iter().any(|given| given == option)
+    }
+
+    /// What stands behind an option, each time it was given.
+    pub fn values<'a>(&'a self, option: &'a str) -> impl Iterator<Item = &'a str> {
+        self.values
+            .iter()
+            .filter(move |(given, _)| given == option)
+            .map(|(_, value)| value.as_str())
     }
 
     /// The file of this index.

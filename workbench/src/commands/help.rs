@@ -9,6 +9,7 @@ hall, the workbench of the hall engine: rules as text, runs that explain themsel
   hall show FILE               the text of a table
   hall run FILE [CHOICES]      a lesson, choice by choice, in sentences
   hall play FILE [CHOICES]     the same by hand
+  hall explore FILE            every way the hall can go, and what can go wrong
   hall help COMMAND            more about one of them
 
 FILE is a text or a table of bytes; - is standard input.
@@ -25,6 +26,7 @@ pub fn page(command: &str) -> Option<&'static str> {
         "show" => SHOW,
         "run" => RUN,
         "play" => PLAY,
+        "explore" => EXPLORE,
         _ => return None,
     })
 }
@@ -92,4 +94,26 @@ CHOICES are made first.
   w clerk    why: what an attempt will come to
   save FILE  the choices so far, with what they answered, as a lesson's text
   q          leaves
+";
+
+const EXPLORE: &str = "\
+usage: hall explore FILE [--never Q] [--ends Q] [--groups] [--engine] [--all] [--save NAME]
+                    [--dot FILE] [--seconds N] [--memory MB] [--json] [--binary]
+
+Tries every way the hall can go, a block acting in one step, and says: how many situations there
+are, where they end and who is left there, what each tray has at least and at most, who never
+acts, whether a run can go on for ever, and whether a limit of the engine was met. Each way it
+prints is choices text for 'hall run', and was made on the engine before it was printed.
+
+  --never 'done > 2'           must be so in no situation: holds, or broken with a way to it
+  --ends 'win + lose = 3'      must be so at every end; = != < <= > >= + - and or not ( ), trays,
+                               numbers, and 'stations' for how many stand there
+  --groups                     asks the same of every group of the parts behind 'start', and names
+                               the smallest that shows the fault
+  --engine                     by the engine's own steps, every position and node: for small halls
+  --all                        every sort of end; else the nearest 12, with --json 1000
+  --save NAME                  each way as a file: NAME-end-1.choices, NAME-never-1.choices, ..
+  --dot FILE                   a picture of a small hall, for Graphviz
+  --seconds N, --memory MB     stop there (memory: 2000); then nothing is said to hold
+Exit: 1 where something asked is broken, or was not found out.
 ";

@@ -3,6 +3,7 @@
 pub mod args;
 mod build;
 mod check;
+mod explore;
 pub mod help;
 pub mod load;
 mod play;
@@ -137,6 +138,7 @@ fn dispatch(arguments: &[String], streams: &mut Streams<'_>) -> Outcome {
         "show" => show::show(&args, streams),
         "run" => run::run(&args, streams),
         "play" => play::play(&args, streams),
+        "explore" => explore::explore(&args, streams),
         _ => Err(no_command(command)),
     }
 }

@@ -1,0 +1,211 @@
+//! `hall explore --engine`
+
+use super::progress::Progress;
+use super::{exit, wrong, Job};
+use crate::commands::load::Loaded;
+use crate::commands::{Args, Failure, Outcome, Streams};
+use crate::explore::engine::{engine_search, EngineFound, Failed};
+use crate::explore::facts::{Answer, Asked, Verdict};
+use crate::explore::investigate::{investigate, Explored};
+use crate::explore::model::Model;
+use crate::explore::objects;
+use crate::explore::question::Question;
+use crate::explore::replay::rehearse;
+use crate::explore::report::{choice_lines, counted};
+use crate::explore::search::Questions;
+use crate::explore::store::Index;
+use crate::json::{list, Object};
+use crate::style::{wrapped, Style};
+
+impl From<Failed> for Failure {
+    fn from(failed: Failed) -> Failure {
+        Failure::Contradiction(match failed {
+            Failed::Refused(refusal) => format!("the engine refuses a hall of its own: {refusal}"),
+            Failed::NoSituation => "a hall of the engine has a station of no table".to_owned(),
+        })
+    }
+}
+
+pub(super) fn by_engine(job: &Job<'_>, args: &Args, streams: &mut Streams<'_>) -> Outcome {
+    if args
+        .values("--dot")
+        .chain(args.values("--save"))
+        .next()
+        .is_some()
+    {
+        return Err(wrong("--dot and --save are not for --engine"));
+    }
+    let table = &job.loaded.table;
+    let mut progress = Progress::new();
+    let mut tell = |seen, done| progress.tell(seen, done);
+    let found = engine_search(table, job.limits, &mut tell)?;
+    let by_steps = investigate(table, &Questions::default(), job.limits, &mut tell);
+    drop(progress);
+    let compared = found.cut.is_none() && by_steps.complete();
+    if compared {
+        compare(&found, &by_steps)?;
+    }
+    let answers = answers(job, &found)?;
+    if job.json {
+        writeln!(streams.out, "{}", object(&found, compared, &answers))?;
+    } else {
+        let text = text(job, &found, compared, &answers, streams.style);
+        streams.out.write_all(text.as_bytes())?;
+    }
+    Ok(exit(
+        answers
+            .iter()
+            .all(|answer| matches!(answer.verdict, Verdict::Holds)),
+    ))
+}
+
+/// The engine's steps and the rules have to lead to the same situations and to
+/// the same ends.
+fn compare(found: &EngineFound, by_steps: &Explored) -> Result<(), Failure> {
+    let store = &by_steps.found.store;
+    let situations = u64::try_from(found.situations.len()).unwrap_or(u64::MAX);
+    let foretold = |index: Index| store.find(found.situations.get(index));
+    let known = found
+        .situations
+        .indexes()
+        .all(|index| foretold(index).is_some());
+    let mut ends: Vec<Option<Index>> = found.ends.iter().map(|end| foretold(*end)).collect();
+    ends.sort_unstable();
+    let by_rules: Vec<Option<Index>> = by_steps.found.ends.iter().copied().map(Some).collect();
+    if known && situations == by_steps.found.situations && ends == by_rules {
+        return Ok(());
+    }
+    Err(Failure::Contradiction(format!(
+        "by its own steps the engine comes to {} and {}, by the rules there are {} and {}",
+        counted(situations, "situation"),
+        counted(u64::try_from(ends.len()).unwrap_or(u64::MAX), "end"),
+        counted(by_steps.found.situations, "situation"),
+        counted(u64::try_from(by_rules.len()).unwrap_or(u64::MAX), "end"),
+    )))
+}
+
+fn answers(job: &Job<'_>, found: &EngineFound) -> Result<Vec<Answer>, Failure> {
+    let model = Model::of(&job.loaded.table);
+    let is_so = |question: &Question, index: Index| {
+        let (counts, stations) = model.split(found.situations.get(index));
+        question.holds(counts, stations.len())
+    };
+    let mut answers = Vec::new();
+    for question in &job.questions.never {
+        let mut all = found.situations.indexes();
+        let broken = all.find(|index| is_so(question, *index));
+        answers.push(answer(job, found, Asked::Never, question, broken)?);
+    }
+    for question in &job.questions.ends {
+        let mut ends = found.ends.iter().copied();
+        let broken = ends.find(|index| !is_so(question, *index));
+        answers.push(answer(job, found, Asked::Ends, question, broken)?);
+    }
+    Ok(answers)
+}
+
+fn answer(
+    job: &Job<'_>,
+    found: &EngineFound,
+    asked: Asked,
+    question: &Question,
+    broken: Option<Index>,
+) -> Result<Answer, Failure> {
+    let Loaded { table, program, .. } = job.loaded;
+    let verdict = match broken {
+        Some(situation) => {
+            let place = usize::try_from(situation).unwrap_or(usize::MAX);
+            let hall = found.first_hall.get(place).copied().unwrap_or(0);
+            let choices = found.choices_to(table, hall)?;
+            let witness = rehearse(table, program, &Model::of(table), &choices)?;
+            Verdict::Broken(Box::new(witness), Vec::new())
+        }
+        None if found.cut.is_none() => Verdict::Holds,
+        None => Verdict::Open,
+    };
+    Ok(Answer {
+        asked,
+        question: question.text.clone(),
+        verdict,
+    })
+}
+
+fn object(found: &EngineFound, compared: bool, answers: &[Answer]) -> String {
+    Object::new()
+        .count("halls", found.halls.len())
+        .number("steps", found.steps)
+        .count("situations", found.situations.len())
+        .count("ends", found.ends.len())
+        .truth("complete", found.cut.is_none())
+        .truth("compared", compared)
+        .truth("met_19", found.full_hall)
+        .truth("met_20", found.full_tray)
+        .raw("answers", list(answers.iter().map(objects::answer)))
+        .written()
+}
+
+fn text(
+    job: &Job<'_>,
+    found: &EngineFound,
+    compared: bool,
+    answers: &[Answer],
+    style: Style,
+) -> String {
+    let number = |count: usize| u64::try_from(count).unwrap_or(u64::MAX);
+    let mut lines = wrapped(
+        "",
+        &format!(
+            "{}: by the engine's own steps {}, {} between them, {} and {}; {}.",
+            style.bold(job.name),
+            counted(number(found.halls.len()), "hall"),
+            counted(found.steps, "step"),
+            counted(number(found.situations.len()), "situation"),
+            counted(number(found.ends.len()), "end"),
+            if found.cut.is_none() {
+                "all of them seen"
+            } else {
+                "cut short, there are more"
+            }
+        ),
+    );
+    lines.push(
+        if compared {
+            "compared with the rules: the same situations and the same ends"
+        } else {
+            "not compared with the rules: not all is known"
+        }
+        .to_owned(),
+    );
+    let met: Vec<&str> = [(found.full_hall, "19"), (found.full_tray, "20")]
+        .into_iter()
+        .filter(|(met, _)| *met)
+        .map(|(_, number)| number)
+        .collect();
+    lines.push(match met.as_slice() {
+        [] => "limits of the engine met: none".to_owned(),
+        numbers => format!("limits of the engine met: {}", numbers.join(", ")),
+    });
+    for answer in answers {
+        lines.extend(answer_lines(answer, style));
+    }
+    let mut text = lines.join("\n");
+    text.push('\n');
+    text
+}
+
+fn answer_lines(answer: &Answer, style: Style) -> Vec<String> {
+    let question = answer.told();
+    match &answer.verdict {
+        Verdict::Holds => vec![format!("{question}: {}", style.good("holds"))],
+        Verdict::Open => vec![format!("{question}: not known")],
+        Verdict::Broken(witness, _) => {
+            let words: Vec<&str> = witness.words().collect();
+            let mut lines = vec![
+                format!("{question}: {}", style.bad("broken")),
+                "  choices".to_owned(),
+            ];
+            lines.extend(choice_lines(&words, 4));
+            lines
+        }
+    }
+}

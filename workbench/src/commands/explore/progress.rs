@@ -1,0 +1,65 @@
+//! How far an exploration is, each second, for a person who waits.
+
+use std::io::{self, IsTerminal, Write};
+use std::time::{Duration, Instant};
+
+use crate::explore::report::grouped;
+
+const EVERY: Duration = Duration::from_secs(1);
+
+/// As wide as a line of it gets.
+const WIDTH: usize = 72;
+
+/// Tells on standard error how many situations there are, where that is a
+/// terminal, and wipes its line away in the end; else it tells nothing.
+pub(super) struct Progress {
+    began: Instant,
+    next: Instant,
+    terminal: bool,
+    told: bool,
+}
+
+impl Progress {
+    pub(super) fn new() -> Progress {
+        let began = Instant::now();
+        Progress {
+            began,
+            next: began + EVERY,
+            terminal: io::stderr().is_terminal(),
+            told: false,
+        }
+    }
+
+    /// So many situations are there, and so many of them are done with.
+    pub(super) fn tell(&mut self, seen: usize, done: usize) {
+        if !self.terminal {
+            return;
+        }
+        let now = Instant::now();
+        if now < self.next {
+            return;
+        }
+        self.next = now + EVERY;
+        self.told = true;
+        let number = |count: usize| grouped(u64::try_from(count).unwrap_or(u64::MAX));
+        line(&format!(
+            "{} situations, {} still to go on from, {} s",
+            number(seen),
+            number(seen.saturating_sub(done)),
+            self.began.elapsed().as_secs()
+        ));
+    }
+}
+
+impl Drop for Progress {
+    fn drop(&mut self) {
+        if self.told {
+            line("");
+        }
+    }
+}
+
+/// Whether anybody sees it changes nothing.
+fn line(words: &str) {
+    let _ = write!(io::stderr(), "\r{words:<WIDTH$}\r");
+}

@@ -1,0 +1,370 @@
+//! What an exploration has to say, with every way in it made on the library.
+
+use std::collections::HashMap;
+
+use crate::table::Table;
+use crate::text::tree::Program;
+use crate::ways::action_words;
+
+use super::endless::{endless, Allowed, Endless};
+use super::investigate::Explored;
+use super::labels::Labels;
+use super::model::Kind;
+use super::replay::{replay, Contradiction, Replay, Witness};
+use super::search::{Barred, Limits, Questions};
+use super::steps::Limit;
+use super::store::Index;
+use super::waiting::{left, Left};
+
+/// All that is reported of an exploration.
+#[derive(Clone, Debug)]
+pub struct Facts {
+    /// The ends, those with the same counts taken together, the nearest first.
+    pub ends: Vec<End>,
+    /// How many sorts of ends there are; some may be left out of `ends`.
+    pub sorts: usize,
+    /// For each tray in use its name, and the least and the most it ever has.
+    pub trays: Vec<(String, u8, u8)>,
+    /// Stations that stand in some situation and act in none.
+    pub never_act: Vec<String>,
+    /// Stations that the table could open and that never stand there.
+    pub never_open: Vec<String>,
+    /// Ways of blocks that are never taken: the block, the way's number and its
+    /// words.
+    pub never_taken: Vec<(String, usize, String)>,
+    /// Whether a run can go on for ever.
+    pub for_ever: ForEver,
+    /// Whether one can without a commit.
+    pub for_ever_no_commit: ForEver,
+    /// Where 19 was first met.
+    pub full_hall: Option<Witness>,
+    /// Where 20 was first met.
+    pub full_tray: Option<Witness>,
+    /// What is answered to the questions.
+    pub answers: Vec<Answer>,
+}
+
+/// Ends with the same counts.
+#[derive(Clone, Debug)]
+pub struct End {
+    /// The counts of the trays in use.
+    pub counts: Vec<u8>,
+    /// How many situations.
+    pub situations: usize,
+    /// The shortest way to one of them.
+    pub witness: Witness,
+    /// Who is left there.
+    pub left: Vec<Left>,
+}
+
+/// Whether a run can go on for ever.
+#[derive(Clone, Debug)]
+pub enum ForEver {
+    /// Every run ends.
+    No,
+    /// A way into a round, of which so many choices come before the round.
+    Yes(Box<Witness>, usize),
+    /// None was found, and not all is known.
+    Unknown,
+}
+
+/// Whether something must never be so, or must be so at every end.
+#[derive(Clone, Copy, Debug, PartialEq, Eq)]
+pub enum Asked {
+    /// `--never`
+    Never,
+    /// `--ends`
+    Ends,
+}
+
+/// The answer to a question.
+#[derive(Clone, Debug)]
+pub struct Answer {
+    /// What was asked.
+    pub asked: Asked,
+    /// The question.
+    pub question: String,
+    /// What was found.
+    pub verdict: Verdict,
+}
+
+/// What was found.
+#[derive(Clone, Debug)]
+pub enum Verdict {
+    /// All situations are known, and none breaks it.
+    Holds,
+    /// The shortest way to a situation that breaks it; where it is an end, who
+    /// is left there.
+    Broken(Box<Witness>, Vec<Left>),
+    /// None was found that breaks it, and not all are known.
+    Open,
+}
+
+/// Collects the facts.
+#[derive(Clone, Copy, Debug)]
+pub struct Collector<'a> {
+    /// The table.
+    pub table: &'a Table,
+    /// Its text.
+    pub program: &'a Program,
+    /// What was found.
+    pub explored: &'a Explored,
+    /// What was asked.
+    pub questions: &'a Questions,
+    /// What looking for rounds may cost.
+    pub limits: Limits,
+    /// So many sorts of ends are told.
+    pub most_ends: usize,
+}
+
+impl Collector<'_> {
+    /// All facts.
+    ///
+    /// # Errors
+    ///
+    /// Where the engine does not go one of the ways found.
+    pub fn collect(&self) -> Result<Facts, Contradiction> {
+        let (ends, sorts) = self.ends()?;
+        let labels = Labels::of(self.table, self.program, &self.explored.model);
+        let (never_act, never_open) = self.never_act(&labels);
+        let marks = &self.explored.found.marks;
+        let for_ever_no_commit = self.for_ever(Allowed::NoCommit)?;
+        let for_ever = match &for_ever_no_commit {
+            known @ ForEver::Yes(..) => known.clone(),
+            known if !marks.commits => known.clone(),
+            _ => self.for_ever(Allowed::Any)?,
+        };
+        Ok(Facts {
+            ends,
+            sorts,
+            trays: self.trays(),
+            never_act,
+            never_open,
+            never_taken: self.never_taken(&labels),
+            for_ever,
+            for_ever_no_commit,
+            full_hall: self.barred(marks.full_hall, Limit::Stations)?,
+            full_tray: self.barred(marks.full_tray, Limit::Tray)?,
+            answers: self.answers()?,
+        })
+    }
+
+    /// The way to a situation.
+    ///
+    /// # Errors
+    ///
+    /// Where the engine does not go it.
+    pub fn way_to(&self, index: Index) -> Result<Witness, Contradiction> {
+        let Explored { model, found, .. } = self.explored;
+        replay(self.table, self.program, model, &found.store, index)
+    }
+
+    fn left_at(&self, witness: &Witness) -> Vec<Left> {
+        left(self.table, self.program, &witness.last)
+    }
+
+    /// The ends are found in the order of their distance, so the first of a
+    /// sort is the nearest.
+    fn ends(&self) -> Result<(Vec<End>, usize), Contradiction> {
+        let Explored { model, found, .. } = self.explored;
+        let mut sorts: Vec<(Index, usize)> = Vec::new();
+        let mut of_counts: HashMap<&[u8], usize> = HashMap::new();
+        for index in &found.ends {
+            let (counts, _) = model.split(found.store.get(*index));
+            let sort = *of_counts.entry(counts).or_insert(sorts.len());
+            match sorts.get_mut(sort) {
+                Some((_, situations)) => *situations += 1,
+                None => sorts.push((*index, 1)),
+            }
+        }
+        let told: Result<Vec<End>, Contradiction> = sorts
+            .iter()
+            .take(self.most_ends)
+            .map(|(index, situations)| {
+                let witness = self.way_to(*index)?;
+                let (counts, _) = model.split(found.store.get(*index));
+                Ok(End {
+                    counts: counts.to_vec(),
+                    situations: *situations,
+                    left: self.left_at(&witness),
+                    witness,
+                })
+            })
+            .collect();
+        Ok((told?, sorts.len()))
+    }
+
+    fn trays(&self) -> Vec<(String, u8, u8)> {
+        let trays = self.explored.model.trays().iter();
+        trays
+            .zip(&self.explored.found.extremes)
+            .map(|(tray, (least, most))| (self.program.tray_name(*tray), *least, *most))
+            .collect()
+    }
+
+    /// Codes that stand somewhere and never act, and codes that never stand
+    /// anywhere: what opens is what acts and the start put there.
+    fn never_act(&self, labels: &Labels) -> (Vec<String>, Vec<String>) {
+        let Explored { model, found, .. } = self.explored;
+        let mut stood = vec![false; model.kinds().len()];
+        let mut mark = |codes: &[u8]| {
+            for code in codes {
+                if let Some(stood) = stood.get_mut(usize::from(*code)) {
+                    *stood = true;
+                }
+            }
+        };
+        mark(model.split(model.opening()).1);
+        for (kind, (acted, taken)) in self.kinds_with_marks() {
+            match kind {
+                Kind::Take { opens, .. } if acted => mark(opens),
+                Kind::Block { ways, .. } => {
+                    for (bit, way) in ways.iter().enumerate() {
+                        if taken >> bit & 1 == 1 {
+                            mark(&way.puts);
+                        }
+                    }
+                }
+                _ => {}
+            }
+        }
+        let mut never_act = Vec::new();
+        let mut never_open = Vec::new();
+        for (code, (kind, (acted, taken))) in (0_u8..).zip(self.kinds_with_marks()) {
+            let stood = stood.get(usize::from(code)).copied().unwrap_or(false);
+            if matches!(kind, Kind::Noted { .. }) || acted || taken > 0 {
+                continue;
+            }
+            if stood {
+                never_act.push(labels.told(code));
+            } else if found.cut.is_none() {
+                never_open.push(labels.told(code));
+            }
+        }
+        (never_act, never_open)
+    }
+
+    fn kinds_with_marks(&self) -> impl Iterator<Item = (&Kind, (bool, u8))> {
+        let Explored { model, found, .. } = self.explored;
+        let marks = found.marks.acted.iter().zip(&found.marks.taken);
+        let marks = marks.map(|(acted, taken)| (*acted, *taken));
+        model.kinds().iter().zip(marks)
+    }
+
+    /// Of blocks that act.
+    fn never_taken(&self, labels: &Labels) -> Vec<(String, usize, String)> {
+        let mut never = Vec::new();
+        for (code, (kind, (_, taken))) in (0_u8..).zip(self.kinds_with_marks()) {
+            let Kind::Block { ways, .. } = kind else {
+                continue;
+            };
+            for (bit, way) in ways.iter().enumerate() {
+                if taken > 0 && taken >> bit & 1 == 0 {
+                    let words = action_words(self.program, &way.actions);
+                    never.push((labels.told(code), way.number, words));
+                }
+            }
+        }
+        never
+    }
+
+    fn for_ever(&self, allowed: Allowed) -> Result<ForEver, Contradiction> {
+        let Explored { model, found, .. } = self.explored;
+        let round = match endless(model, found, allowed, self.limits) {
+            Endless::No if self.explored.complete() => return Ok(ForEver::No),
+            Endless::No | Endless::Unknown(_) => return Ok(ForEver::Unknown),
+            Endless::Round(round) => round,
+        };
+        let mut replay = Replay::open(self.table, self.program, model)?;
+        if let Some(first) = round.first() {
+            replay.follow(&found.store, &found.store.way_to(*first))?;
+        }
+        let before = replay.choices();
+        replay.follow(&found.store, &round)?;
+        Ok(ForEver::Yes(Box::new(replay.witness()), before))
+    }
+
+    fn barred(
+        &self,
+        barred: Option<Barred>,
+        limit: Limit,
+    ) -> Result<Option<Witness>, Contradiction> {
+        let Some(Barred { at, code }) = barred else {
+            return Ok(None);
+        };
+        let Explored { model, found, .. } = self.explored;
+        let mut replay = Replay::open(self.table, self.program, model)?;
+        replay.follow(&found.store, &found.store.way_to(at))?;
+        replay.refused(code, limit.number())?;
+        Ok(Some(replay.witness()))
+    }
+
+    /// The answers to the questions alone.
+    ///
+    /// # Errors
+    ///
+    /// Where the engine does not go one of the ways found.
+    pub fn answers(&self) -> Result<Vec<Answer>, Contradiction> {
+        let found = &self.explored.found;
+        let never = self.questions.never.iter().zip(&found.never);
+        let ends = self.questions.ends.iter().zip(&found.broken_ends);
+        let never = never.map(|it| (Asked::Never, it));
+        never
+            .chain(ends.map(|it| (Asked::Ends, it)))
+            .map(|(asked, (question, broken))| {
+                Ok(Answer {
+                    asked,
+                    question: question.text.clone(),
+                    verdict: self.verdict(asked, *broken)?,
+                })
+            })
+            .collect()
+    }
+
+    fn verdict(&self, asked: Asked, broken: Option<Index>) -> Result<Verdict, Contradiction> {
+        match broken {
+            Some(index) => {
+                let witness = self.way_to(index)?;
+                let left = match asked {
+                    Asked::Never => Vec::new(),
+                    Asked::Ends => self.left_at(&witness),
+                };
+                Ok(Verdict::Broken(Box::new(witness), left))
+            }
+            None if self.explored.complete() => Ok(Verdict::Holds),
+            None => Ok(Verdict::Open),
+        }
+    }
+}
+
+impl Answer {
+    /// The question as it is told.
+    #[must_use]
+    pub fn told(&self) -> String {
+        match self.asked {
+            Asked::Never => format!("never {}", self.question),
+            Asked::Ends => format!("every end has {}", self.question),
+        }
+    }
+}
+
+impl Asked {
+    /// The word for it.
+    #[must_use]
+    pub fn word(self) -> &'static str {
+        match self {
+            Asked::Never => "never",
+            Asked::Ends => "ends",
+        }
+    }
+}
+
+impl Facts {
+    /// Whether every question was answered: it holds.
+    #[must_use]
+    pub fn all_hold(&self) -> bool {
+        self.answers
+            .iter()
+            .all(|answer| matches!(answer.verdict, Verdict::Holds))
+    }
+}

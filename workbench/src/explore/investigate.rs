@@ -1,0 +1,127 @@
+//! An exploration that knows whether it is exact.
+//!
+//! Commits by the first way readable now leave out those by a way that was the
+//! first one when the attempt opened and is not any more. It owes that to puts
+//! in between, and the same situation is reached when these puts come after the
+//! commit; only the limit of 64 stations can forbid the delay. So where that
+//! limit was met, and some block has a choice of ways, the hall is explored once
+//! more with notes of what each attempt found.
+
+use crate::table::Table;
+
+use super::model::Model;
+use super::search::{search, Cut, Found, Limits, Progress, Questions};
+
+/// Whether the situations found are those of the hall, all of them and no
+/// others.
+#[derive(Clone, Copy, Debug, PartialEq, Eq)]
+pub enum Exact {
+    /// They are: 19 was never met.
+    NeverFull,
+    /// They are: 19 was met, and no block has two ways.
+    NoAlternatives,
+    /// They are: all was seen with notes.
+    WithNotes,
+    /// Each of them is one, and there may be more.
+    No(Doubt),
+}
+
+/// Why there may be more situations.
+#[derive(Clone, Copy, Debug, PartialEq, Eq)]
+pub enum Doubt {
+    /// The exploration was cut short.
+    Cut(Cut),
+    /// That without notes was not, that with notes was.
+    NotesCut(Cut),
+    /// There are more sorts of blocks with notes than codes.
+    TooManyNotes,
+}
+
+impl Exact {
+    /// Whether nothing is left out.
+    #[must_use]
+    pub fn yes(self) -> bool {
+        !matches!(self, Exact::No(_))
+    }
+}
+
+/// What was found, and what it rests on.
+#[derive(Clone, Debug)]
+pub struct Explored {
+    /// The stations' codes.
+    pub model: Model,
+    /// What was found.
+    pub found: Found,
+    /// Whether that is all.
+    pub exact: Exact,
+}
+
+impl Explored {
+    /// Whether all situations are known, so that what none of them breaks
+    /// holds.
+    #[must_use]
+    pub fn complete(&self) -> bool {
+        self.exact.yes() && self.found.cut.is_none()
+    }
+}
+
+/// Explores a hall, with notes where they are needed.
+pub fn investigate(
+    table: &Table,
+    questions: &Questions,
+    limits: Limits,
+    progress: &mut Progress<'_>,
+) -> Explored {
+    let model = Model::of(table);
+    let found = search(&model, questions, limits, progress);
+    let exact = match (found.cut, found.marks.full_hall) {
+        (Some(cut), _) => Exact::No(Doubt::Cut(cut)),
+        (None, None) => Exact::NeverFull,
+        (None, Some(_)) if !model.has_alternatives() => Exact::NoAlternatives,
+        (None, Some(_)) => Exact::No(Doubt::TooManyNotes),
+    };
+    let plain = Explored {
+        model,
+        found,
+        exact,
+    };
+    if exact != Exact::No(Doubt::TooManyNotes) {
+        return plain;
+    }
+    match Model::with_notes(table) {
+        Some(model) => again(plain, model, questions, limits, progress),
+        None => plain,
+    }
+}
+
+/// Explores with notes. Where that is cut short, what was found without them is
+/// more, unless a question was found broken.
+fn again(
+    mut plain: Explored,
+    model: Model,
+    questions: &Questions,
+    limits: Limits,
+    progress: &mut Progress<'_>,
+) -> Explored {
+    let left = Limits {
+        memory: limits.memory.saturating_sub(plain.found.memory()),
+        ..limits
+    };
+    let found = search(&model, questions, left, progress);
+    let Some(cut) = found.cut else {
+        return Explored {
+            model,
+            found,
+            exact: Exact::WithNotes,
+        };
+    };
+    plain.exact = Exact::No(Doubt::NotesCut(cut));
+    if plain.found.breaks_something() || !found.breaks_something() {
+        return plain;
+    }
+    Explored {
+        model,
+        found,
+        exact: plain.exact,
+    }
+}

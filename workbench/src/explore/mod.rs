@@ -1,0 +1,37 @@
+//! Every way a hall can go.
+//!
+//! A situation is what stands in the trays and which stations there are, open
+//! attempts read as blocks not begun. That each committed block acts in one
+//! step at its commit is proved of the engine; so the situations that its runs
+//! come to are those of runs in which a block acts whole.
+//!
+//! | Module | What it holds |
+//! |---|---|
+//! | [`model`] | stations as codes, situations as bytes |
+//! | [`steps`] | what can happen next |
+//! | [`store`] | situations, each kept once |
+//! | [`question`] | what is asked of them |
+//! | [`search`] | all of them, breadth first |
+//! | [`investigate`] | whether that was exact; once more with notes where not |
+//! | [`endless`] | runs that never end |
+//! | [`replay`] | a way to a situation, made on the library |
+//! | [`labels`] | what the stations of a code are called |
+//! | [`waiting`] | who is left at an end, and why |
+//! | [`engine`] | all halls by the library's own steps |
+
+pub mod dot;
+pub mod endless;
+pub mod engine;
+pub mod facts;
+pub mod groups;
+pub mod investigate;
+pub mod labels;
+pub mod model;
+pub mod objects;
+pub mod question;
+pub mod replay;
+pub mod report;
+pub mod search;
+pub mod steps;
+pub mod store;
+pub mod waiting;

@@ -1,0 +1,134 @@
+//! An exploration for programs: one object.
+
+use crate::json::{list, string, Object};
+use crate::text::tree::Program;
+
+use super::facts::{Answer, End, Facts, ForEver, Verdict};
+use super::investigate::Explored;
+use super::replay::Witness;
+use super::report::exact_words;
+use super::waiting::Left;
+
+/// The object of an exploration.
+#[must_use]
+pub fn object(program: &Program, explored: &Explored, facts: &Facts, seconds: f64) -> String {
+    let found = &explored.found;
+    let trays = facts.trays.iter().fold(Object::new(), |trays, tray| {
+        let (name, least, most) = tray;
+        trays.raw(name, format!("[{least}, {most}]"))
+    });
+    let taken = facts.never_taken.iter().map(|(block, way, words)| {
+        Object::new()
+            .string("block", block)
+            .count("way", *way)
+            .string("steps", words)
+            .written()
+    });
+    Object::new()
+        .number("situations", found.situations)
+        .number("steps", found.marks.steps)
+        .truth("complete", explored.complete())
+        .truth("exact", explored.exact.yes())
+        .string("exact_by", exact_words(explored.exact))
+        .raw("seconds", format!("{seconds:.2}"))
+        .count("memory", found.memory())
+        .count("end_situations", found.ends.len())
+        .count("end_sorts", facts.sorts)
+        .raw(
+            "ends",
+            list(
+                facts
+                    .ends
+                    .iter()
+                    .map(|end| end_object(program, explored, end)),
+            ),
+        )
+        .raw("trays", trays.written())
+        .raw("never_act", strings(&facts.never_act))
+        .raw("never_open", strings(&facts.never_open))
+        .raw("never_taken", list(taken))
+        .raw("for_ever", for_ever(&facts.for_ever))
+        .raw(
+            "for_ever_without_commit",
+            for_ever(&facts.for_ever_no_commit),
+        )
+        .raw("met_19", witness_or_null(facts.full_hall.as_ref()))
+        .raw("met_20", witness_or_null(facts.full_tray.as_ref()))
+        .raw("answers", list(facts.answers.iter().map(answer)))
+        .written()
+}
+
+fn end_object(program: &Program, explored: &Explored, end: &End) -> String {
+    let counts = explored.model.trays().iter().zip(&end.counts);
+    let trays = counts.fold(Object::new(), |trays, (tray, count)| {
+        trays.number(&program.tray_name(*tray), *count)
+    });
+    with_witness(
+        Object::new()
+            .raw("trays", trays.written())
+            .count("situations", end.situations)
+            .raw("left", list(end.left.iter().map(left))),
+        &end.witness,
+    )
+    .written()
+}
+
+fn left(left: &Left) -> String {
+    Object::new()
+        .string("station", &left.name)
+        .string("state", left.state.word())
+        .string("sentence", format!("{} {}", left.name, left.words))
+        .written()
+}
+
+/// The answer to a question.
+#[must_use]
+pub fn answer(answer: &Answer) -> String {
+    let object = Object::new()
+        .string("asked", answer.asked.word())
+        .string("question", &answer.question);
+    match &answer.verdict {
+        Verdict::Holds => object.string("verdict", "holds"),
+        Verdict::Open => object.string("verdict", "not known"),
+        Verdict::Broken(witness, stations) => with_witness(
+            object
+                .string("verdict", "broken")
+                .raw("left", list(stations.iter().map(left))),
+            witness,
+        ),
+    }
+    .written()
+}
+
+fn with_witness(object: Object, witness: &Witness) -> Object {
+    let bytes = witness
+        .bytes()
+        .iter()
+        .map(u8::to_string)
+        .collect::<Vec<_>>();
+    object
+        .count("steps", witness.steps)
+        .raw("choices", list(witness.words().map(string)))
+        .raw("bytes", list(bytes))
+}
+
+fn witness_or_null(witness: Option<&Witness>) -> String {
+    witness.map_or("null".to_owned(), |witness| {
+        with_witness(Object::new(), witness).written()
+    })
+}
+
+/// A round begins behind so many of its choices.
+fn for_ever(for_ever: &ForEver) -> String {
+    match for_ever {
+        ForEver::No => "false".to_owned(),
+        ForEver::Unknown => "null".to_owned(),
+        ForEver::Yes(witness, before) => {
+            with_witness(Object::new().count("round_from", *before), witness).written()
+        }
+    }
+}
+
+fn strings(words: &[String]) -> String {
+    list(words.iter().map(|word| string(word)))
+}

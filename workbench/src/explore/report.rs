@@ -1,0 +1,404 @@
+//! An exploration told in a trainer's words.
+
+use std::fmt::Write as _;
+
+use crate::style::{wrapped, Style, WIDTH};
+use crate::text::tree::Program;
+
+use super::facts::{Answer, End, Facts, ForEver, Verdict};
+use super::investigate::{Doubt, Exact, Explored};
+use super::replay::Witness;
+use super::search::Cut;
+use super::waiting;
+
+/// Longer ways are cut in print; a file has all of them.
+const MOST_CHOICES: usize = 100;
+
+/// What the words are about.
+#[derive(Clone, Copy, Debug)]
+pub struct Report<'a> {
+    /// The file's name.
+    pub name: &'a str,
+    /// Its text.
+    pub program: &'a Program,
+    /// What was found.
+    pub explored: &'a Explored,
+    /// What is to be said of it.
+    pub facts: &'a Facts,
+    /// How long it took.
+    pub seconds: f64,
+    /// Colour.
+    pub style: Style,
+}
+
+impl Report<'_> {
+    /// All of it.
+    #[must_use]
+    pub fn text(&self) -> String {
+        let mut lines = self.head();
+        lines.push(String::new());
+        lines.extend(self.ends());
+        lines.push(String::new());
+        lines.extend(self.summary());
+        lines.extend(self.for_ever());
+        lines.extend(self.limits());
+        for answer in &self.facts.answers {
+            lines.push(String::new());
+            lines.extend(self.answer(answer));
+        }
+        let mut text = lines.join("\n");
+        text.push('\n');
+        text
+    }
+
+    fn complete(&self) -> bool {
+        self.explored.complete()
+    }
+
+    fn head(&self) -> Vec<String> {
+        let found = &self.explored.found;
+        let seen = if found.cut.is_none() {
+            "all of them seen"
+        } else {
+            "and there are more"
+        };
+        let mut head = wrapped(
+            "",
+            &format!(
+                "{}: {}, {} between them, {seen}{}.",
+                self.style.bold(self.name),
+                counted(found.situations, "situation"),
+                counted(found.marks.steps, "step"),
+                self.cost(),
+            ),
+        );
+        let exact = self.explored.exact;
+        let word = if exact.yes() {
+            self.style.good("yes")
+        } else {
+            self.style.bad("no")
+        };
+        head.extend(wrapped(
+            "",
+            &format!("exact: {word} ({})", exact_words(exact)),
+        ));
+        head
+    }
+
+    /// What it took, where somebody had to wait for it.
+    fn cost(&self) -> String {
+        if self.seconds < 1.0 {
+            return String::new();
+        }
+        let memory = megabytes(self.explored.found.memory());
+        format!(" ({:.1} s, {memory})", self.seconds)
+    }
+
+    fn ends(&self) -> Vec<String> {
+        let found = &self.explored.found;
+        let ends = u64::try_from(found.ends.len()).unwrap_or(u64::MAX);
+        let seen = if self.complete() { "" } else { " seen" };
+        let mut lines = match (ends, self.complete()) {
+            (0, true) => {
+                vec!["No end: whatever happens, something can always follow.".to_owned()]
+            }
+            (0, false) => vec!["No end was seen.".to_owned()],
+            _ => vec![format!(
+                "{}{seen}, of {} by what the trays have:",
+                counted(ends, "end"),
+                counted(u64::try_from(self.facts.sorts).unwrap_or(0), "sort"),
+            )],
+        };
+        for (number, end) in (1..).zip(&self.facts.ends) {
+            lines.extend(self.end(number, end));
+        }
+        let more = self.facts.sorts - self.facts.ends.len().min(self.facts.sorts);
+        if more > 0 {
+            let more = u64::try_from(more).unwrap_or(0);
+            lines.push(format!("  and {} more (--all tells them)", grouped(more)));
+        }
+        lines
+    }
+
+    fn end(&self, number: usize, end: &End) -> Vec<String> {
+        let first = format!("{number:>3}  ");
+        let many = match end.situations {
+            1 => String::new(),
+            many => format!("; {many} situations, the nearest"),
+        };
+        let mut lines = wrapped(
+            &first,
+            &format!(
+                "{}{many} {}",
+                self.style.bold(&self.counts(&end.counts)),
+                when(&end.witness)
+            ),
+        );
+        if end.left.is_empty() {
+            lines.push("     nobody is left".to_owned());
+        }
+        for line in waiting::told(&end.left) {
+            lines.extend(wrapped("     ", &line));
+        }
+        lines.extend(choices(&end.witness, 5));
+        lines
+    }
+
+    /// The trays that have something.
+    fn counts(&self, counts: &[u8]) -> String {
+        let trays = self.explored.model.trays().iter().zip(counts);
+        let words: Vec<String> = trays
+            .filter(|(_, count)| **count > 0)
+            .map(|(tray, count)| format!("{} {count}", self.program.tray_name(*tray)))
+            .collect();
+        if words.is_empty() {
+            "all trays empty".to_owned()
+        } else {
+            words.join(", ")
+        }
+    }
+
+    fn summary(&self) -> Vec<String> {
+        let facts = self.facts;
+        let trays: Vec<String> = facts
+            .trays
+            .iter()
+            .map(|(name, least, most)| {
+                if least == most {
+                    format!("{name} always {least}")
+                } else {
+                    format!("{name} {least} to {most}")
+                }
+            })
+            .collect();
+        let taken: Vec<String> = facts
+            .never_taken
+            .iter()
+            .map(|(block, way, words)| match words.as_str() {
+                "" => format!("way {way} of {block} (no steps)"),
+                words => format!("way {way} of {block} ({words})"),
+            })
+            .collect();
+        let so_far = if self.complete() {
+            ""
+        } else {
+            ", as far as seen"
+        };
+        let mut lines = wrapped(&format!("trays{so_far}: "), &list(&trays, ", "));
+        lines.extend(wrapped(
+            &format!("stations that never act{so_far}: "),
+            &list(&facts.never_act, ", "),
+        ));
+        if !facts.never_open.is_empty() {
+            lines.extend(wrapped(
+                &format!("stations that never come to stand there{so_far}: "),
+                &list(&facts.never_open, ", "),
+            ));
+        }
+        lines.extend(wrapped(
+            &format!("ways never taken{so_far}: "),
+            &list(&taken, "; "),
+        ));
+        lines
+    }
+
+    fn for_ever(&self) -> Vec<String> {
+        let facts = self.facts;
+        let (witness, before, commits) = match (&facts.for_ever_no_commit, &facts.for_ever) {
+            (ForEver::Yes(witness, before), _) => (witness, *before, "even without a commit"),
+            (without, ForEver::Yes(witness, before)) => {
+                let commits = match without {
+                    ForEver::No => "but not without a commit",
+                    _ => "whether without a commit is not known",
+                };
+                (witness, *before, commits)
+            }
+            (_, ForEver::No) => {
+                return vec!["runs that go on for ever: none".to_owned()];
+            }
+            _ => return vec!["runs that go on for ever: not known".to_owned()],
+        };
+        let again = witness.lines.len() - before.min(witness.lines.len());
+        let again = u64::try_from(again).unwrap_or(0);
+        let mut lines = wrapped(
+            "",
+            &format!(
+                "runs that go on for ever: yes, {commits}; the last {} can be made again and again:",
+                counted(again, "choice")
+            ),
+        );
+        lines.extend(choices(witness, 5));
+        lines
+    }
+
+    fn limits(&self) -> Vec<String> {
+        let met = [
+            (&self.facts.full_hall, "19, more than 64 stations"),
+            (&self.facts.full_tray, "20, more than 255 tokens in a tray"),
+        ];
+        let mut lines = Vec::new();
+        for (witness, words) in met {
+            if let Some(witness) = witness {
+                lines.push(format!(
+                    "limit met: {}, first {}:",
+                    self.style.bad(words),
+                    when(witness)
+                ));
+                lines.extend(choices(witness, 5));
+            }
+        }
+        if lines.is_empty() {
+            let so_far = if self.complete() {
+                ""
+            } else {
+                ", as far as seen"
+            };
+            lines.push(format!("limits of the engine met{so_far}: none"));
+        }
+        lines
+    }
+
+    fn answer(&self, answer: &Answer) -> Vec<String> {
+        let (verdict, witness, left) = match &answer.verdict {
+            Verdict::Holds => (self.style.good("holds"), None, None),
+            Verdict::Open => (
+                "not known; nothing that was seen breaks it".to_owned(),
+                None,
+                None,
+            ),
+            Verdict::Broken(witness, left) => {
+                let last = witness.last.counts;
+                let trays = self.explored.model.trays().iter();
+                let counts: Vec<u8> = trays
+                    .map(|tray| crate::ways::count_of(&last, *tray))
+                    .collect();
+                let words = format!(
+                    "{} {}: {}",
+                    self.style.bad("broken"),
+                    when(witness),
+                    self.counts(&counts)
+                );
+                (words, Some(witness), Some(left))
+            }
+        };
+        let mut lines = wrapped("", &format!("{}: {verdict}", answer.told()));
+        for line in left.map(|left| waiting::told(left)).unwrap_or_default() {
+            lines.extend(wrapped("     ", &line));
+        }
+        if let Some(witness) = witness {
+            lines.extend(choices(witness, 5));
+        }
+        lines
+    }
+}
+
+/// What exactness rests on.
+#[must_use]
+pub fn exact_words(exact: Exact) -> String {
+    match exact {
+        Exact::NeverFull => "the limit of 64 stations was never met".to_owned(),
+        Exact::NoAlternatives => {
+            "the limit of 64 stations was met, and no block has two ways".to_owned()
+        }
+        Exact::WithNotes => {
+            "the limit of 64 stations was met, so this was explored with notes of what each \
+             attempt found when it opened"
+                .to_owned()
+        }
+        Exact::No(Doubt::Cut(cut)) => format!("cut short by {}", cut_words(cut)),
+        Exact::No(Doubt::NotesCut(cut)) => format!(
+            "the limit of 64 stations was met, and exploring with notes was cut short by {}",
+            cut_words(cut)
+        ),
+        Exact::No(Doubt::TooManyNotes) => {
+            "the limit of 64 stations was met, and there are too many blocks with several ways to \
+             explore with notes"
+                .to_owned()
+        }
+    }
+}
+
+fn cut_words(cut: Cut) -> &'static str {
+    match cut {
+        Cut::Time => "--seconds",
+        Cut::Memory => "--memory",
+    }
+}
+
+/// A way as `choices` text, cut where it is long.
+fn choices(witness: &Witness, indent: usize) -> Vec<String> {
+    let words: Vec<&str> = witness.words().collect();
+    if words.is_empty() {
+        return Vec::new();
+    }
+    let margin = " ".repeat(indent);
+    let mut lines = vec![format!("{margin}choices")];
+    let shown = words.get(..MOST_CHOICES).unwrap_or(&words);
+    lines.extend(choice_lines(shown, indent + 2));
+    if words.len() > shown.len() {
+        lines.push(format!(
+            "{margin}  # and {} more: --save keeps all of them",
+            words.len() - shown.len()
+        ));
+    }
+    lines
+}
+
+/// Choices side by side, as many as a line has room for.
+#[must_use]
+pub fn choice_lines(words: &[&str], indent: usize) -> Vec<String> {
+    let margin = " ".repeat(indent);
+    let mut lines: Vec<String> = Vec::new();
+    for word in words {
+        match lines.last_mut() {
+            Some(line) if line.len() + 2 + word.len() <= WIDTH => {
+                let _ = write!(line, "  {word}");
+            }
+            _ => lines.push(format!("{margin}{word}")),
+        }
+    }
+    lines
+}
+
+/// After how many steps.
+#[must_use]
+pub fn when(witness: &Witness) -> String {
+    match u64::try_from(witness.steps).unwrap_or(u64::MAX) {
+        0 => "at the opening".to_owned(),
+        steps => format!("after {}", counted(steps, "step")),
+    }
+}
+
+fn list(items: &[String], between: &str) -> String {
+    if items.is_empty() {
+        "none".to_owned()
+    } else {
+        items.join(between)
+    }
+}
+
+/// A number of things.
+#[must_use]
+pub fn counted(count: u64, what: &str) -> String {
+    let plural = if count == 1 { "" } else { "s" };
+    format!("{} {what}{plural}", grouped(count))
+}
+
+/// A number with a comma before every three digits.
+#[must_use]
+pub fn grouped(number: u64) -> String {
+    let digits = number.to_string();
+    let mut written = String::new();
+    for (at, digit) in digits.chars().enumerate() {
+        if at > 0 && (digits.len() - at) % 3 == 0 {
+            written.push(',');
+        }
+        written.push(digit);
+    }
+    written
+}
+
+fn megabytes(bytes: usize) -> String {
+    let tenths = bytes / 100_000;
+    format!("{}.{} MB", tenths / 10, tenths % 10)
+}

@@ -1,0 +1,321 @@
+//! Every situation that a hall can come to, breadth first.
+
+use std::time::Instant;
+
+use super::model::{Kind, Model};
+use super::question::Question;
+use super::steps::{Deed, Limit, Step, Stepper, Tried};
+use super::store::{Batch, Index, Store};
+
+/// How far an exploration may go.
+#[derive(Clone, Copy, Debug)]
+pub struct Limits {
+    /// When it has to stop.
+    pub until: Option<Instant>,
+    /// How many bytes it may use.
+    pub memory: usize,
+}
+
+impl Limits {
+    /// No limit of time, and so many bytes.
+    #[must_use]
+    pub fn memory(bytes: usize) -> Limits {
+        Limits {
+            until: None,
+            memory: bytes,
+        }
+    }
+
+    /// Which limit is met with so many bytes in use.
+    #[must_use]
+    pub fn met(&self, memory: usize) -> Option<Cut> {
+        if memory > self.memory {
+            return Some(Cut::Memory);
+        }
+        let late = self.until.is_some_and(|until| Instant::now() >= until);
+        late.then_some(Cut::Time)
+    }
+}
+
+/// Why an exploration ended before all was seen.
+#[derive(Clone, Copy, Debug, PartialEq, Eq)]
+pub enum Cut {
+    /// The time was over.
+    Time,
+    /// The memory was used up.
+    Memory,
+}
+
+/// What is asked beside all that is reported anyway.
+#[derive(Clone, Debug, Default)]
+pub struct Questions {
+    /// What must be so in no situation.
+    pub never: Vec<Question>,
+    /// What must be so at every end.
+    pub ends: Vec<Question>,
+}
+
+impl Questions {
+    /// Whether nothing is asked.
+    #[must_use]
+    pub fn is_empty(&self) -> bool {
+        self.never.is_empty() && self.ends.is_empty()
+    }
+}
+
+/// A step that a limit of the engine forbids, where it was first met.
+#[derive(Clone, Copy, Debug, PartialEq, Eq)]
+pub struct Barred {
+    /// The situation.
+    pub at: Index,
+    /// The station that could not act.
+    pub code: u8,
+}
+
+/// What the steps showed.
+#[derive(Clone, Debug, Default)]
+pub struct Marks {
+    /// How many there are.
+    pub steps: u64,
+    /// Which codes ever act.
+    pub acted: Vec<bool>,
+    /// For each code which of its ways are ever taken, a bit for each.
+    pub taken: Vec<u8>,
+    /// Whether a repeated take ever acts: without one every run ends.
+    pub repeats: bool,
+    /// Whether a block is ever committed.
+    pub commits: bool,
+    /// Where 19 was first met.
+    pub full_hall: Option<Barred>,
+    /// Where 20 was first met.
+    pub full_tray: Option<Barred>,
+}
+
+impl Marks {
+    fn of(codes: usize) -> Marks {
+        Marks {
+            acted: vec![false; codes],
+            taken: vec![0; codes],
+            ..Marks::default()
+        }
+    }
+
+    fn mark(&mut self, model: &Model, step: Step) {
+        self.steps += 1;
+        let code = usize::from(step.code);
+        // To open an attempt is not to act: it may come to nothing.
+        let acts = !matches!(step.deed, Deed::Note(_));
+        if let Some(acted) = self.acted.get_mut(code) {
+            *acted |= acts;
+        }
+        match step.deed {
+            Deed::Repeat => self.repeats = true,
+            Deed::Commit(way) => {
+                self.commits = true;
+                let block = match model.kind(step.code) {
+                    Some(Kind::Noted { block, .. }) => usize::from(*block),
+                    _ => code,
+                };
+                if let Some(taken) = self.taken.get_mut(block) {
+                    *taken |= 1 << way;
+                }
+            }
+            Deed::Put | Deed::Take | Deed::Note(_) => {}
+        }
+    }
+
+    fn meet(&mut self, limit: Limit, at: Index, code: u8) {
+        let first = match limit {
+            Limit::Stations => &mut self.full_hall,
+            Limit::Tray => &mut self.full_tray,
+        };
+        first.get_or_insert(Barred { at, code });
+    }
+}
+
+/// What an exploration found.
+#[derive(Clone, Debug)]
+pub struct Found {
+    /// The situations, and from which each was first reached. Those with notes
+    /// are among them.
+    pub store: Store,
+    /// How many situations there are, those with notes left out.
+    pub situations: u64,
+    /// The situations from which no step is left, in the order in which they
+    /// were found.
+    pub ends: Vec<Index>,
+    /// For each slot the least and the most that its tray ever has.
+    pub extremes: Vec<(u8, u8)>,
+    /// What the steps between them showed.
+    pub marks: Marks,
+    /// For each question of `never`, the first situation in which it is so.
+    pub never: Vec<Option<Index>>,
+    /// For each question of `ends`, the first end at which it is not so.
+    pub broken_ends: Vec<Option<Index>>,
+    /// Why not all was seen.
+    pub cut: Option<Cut>,
+}
+
+/// Told now and then how many situations there are and how many of them are
+/// done with.
+pub type Progress<'a> = dyn FnMut(usize, usize) + 'a;
+
+/// So many situations, or a few more, are looked up at once.
+const BATCH: usize = 256;
+
+/// So many batches are gone through between two looks at the limits.
+const BETWEEN_LOOKS: u32 = 16;
+
+/// Goes through every situation of a model, or as many as the limits allow.
+pub fn search(
+    model: &Model,
+    questions: &Questions,
+    limits: Limits,
+    progress: &mut Progress<'_>,
+) -> Found {
+    let mut search = Search {
+        model,
+        questions,
+        found: Found::of_opening(model, questions),
+    };
+    let mut opening = Batch::default();
+    opening.add(model.opening(), 0);
+    search.keep(&opening);
+    search.go_through(limits, progress);
+    search.found
+}
+
+struct Search<'a> {
+    model: &'a Model,
+    questions: &'a Questions,
+    found: Found,
+}
+
+impl Search<'_> {
+    fn go_through(&mut self, limits: Limits, progress: &mut Progress<'_>) {
+        let mut stepper = Stepper::new(self.model);
+        let mut batch = Batch::default();
+        let mut batches = 0_u32;
+        let mut done = 0;
+        while done < self.found.store.len() && self.found.cut.is_none() {
+            if batches % BETWEEN_LOOKS == 0 {
+                self.found.cut = limits.met(self.found.memory());
+                progress(self.found.store.len(), done);
+            }
+            batches = batches.wrapping_add(1);
+            batch.clear();
+            while done < self.found.store.len() && batch.len() < BATCH {
+                self.go_on(&mut stepper, done, &mut batch);
+                done += 1;
+            }
+            // More slots are asked for all at once: they have to fit too.
+            if self.found.memory_with(batch.len()) > limits.memory {
+                self.found.cut = Some(Cut::Memory);
+                return;
+            }
+            self.keep(&batch);
+        }
+    }
+
+    /// All steps from one situation.
+    fn go_on(&mut self, stepper: &mut Stepper<'_>, place: usize, batch: &mut Batch) {
+        let Ok(index) = Index::try_from(place) else {
+            return;
+        };
+        let Search {
+            model,
+            found,
+            questions,
+        } = self;
+        let situation = found.store.get(index);
+        let marks = &mut found.marks;
+        let mut ended = true;
+        stepper.each(situation, |step, tried| match tried {
+            Tried::To(next) => {
+                ended &= matches!(step.deed, Deed::Note(_));
+                marks.mark(model, step);
+                batch.add(next, index);
+            }
+            Tried::Barred(limit) => marks.meet(limit, index, step.code),
+        });
+        if ended && model.without_notes(situation) {
+            found.ends.push(index);
+            let (counts, stations) = model.split(situation);
+            for (first, question) in found.broken_ends.iter_mut().zip(&questions.ends) {
+                if first.is_none() && !question.holds(counts, stations.len()) {
+                    *first = Some(index);
+                }
+            }
+        }
+    }
+
+    fn keep(&mut self, batch: &Batch) {
+        let Search {
+            model,
+            found,
+            questions,
+        } = self;
+        let Found {
+            store,
+            situations,
+            extremes,
+            never,
+            ..
+        } = found;
+        let kept = store.keep_batch(batch, |index, situation| {
+            // With notes each situation is there without them too.
+            if !model.without_notes(situation) {
+                return;
+            }
+            *situations += 1;
+            let (counts, stations) = model.split(situation);
+            for ((least, most), count) in extremes.iter_mut().zip(counts) {
+                *least = (*least).min(*count);
+                *most = (*most).max(*count);
+            }
+            for (first, question) in never.iter_mut().zip(&questions.never) {
+                if first.is_none() && question.holds(counts, stations.len()) {
+                    *first = Some(index);
+                }
+            }
+        });
+        if kept.is_err() {
+            found.cut = Some(Cut::Memory);
+        }
+    }
+}
+
+impl Found {
+    fn of_opening(model: &Model, questions: &Questions) -> Found {
+        let (counts, _) = model.split(model.opening());
+        Found {
+            store: Store::new(),
+            situations: 0,
+            ends: Vec::new(),
+            extremes: counts.iter().map(|count| (*count, *count)).collect(),
+            marks: Marks::of(model.kinds().len()),
+            never: vec![None; questions.never.len()],
+            broken_ends: vec![None; questions.ends.len()],
+            cut: None,
+        }
+    }
+
+    /// The memory in use.
+    #[must_use]
+    pub fn memory(&self) -> usize {
+        self.store.memory() + 4 * self.ends.len()
+    }
+
+    fn memory_with(&self, more: usize) -> usize {
+        self.store.memory_with(more) + 4 * self.ends.len()
+    }
+
+    /// Whether a question was found broken.
+    #[must_use]
+    pub fn breaks_something(&self) -> bool {
+        self.never
+            .iter()
+            .chain(&self.broken_ends)
+            .any(Option::is_some)
+    }
+}

@@ -1,0 +1,504 @@
+//! `hall explore` as it is called: words, exit codes, files, ways that replay.
+use std::fs;
+use std::path::PathBuf;
+
+use crate::common::{explore, hall, BALLOTS};
+
+fn philosophers(how_many: usize) -> String {
+    let mut text = String::new();
+    let mut start = Vec::new();
+    for left in 0..how_many {
+        text += &format!("tray stick{left} has 1\ntray sat{left}\n");
+    }
+    text += "tray eaten\n";
+    for left in 0..how_many {
+        let right = (left + 1) % how_many;
+        text += &format!(
+            "rule hungry{left} is block (take stick{left}, take stick{right}, put sat{left}, end)\n\
+             rule meal{left} is take sat{left} then\n  \
+             (put eaten beside put stick{left} beside put stick{right})\n"
+        );
+        start.push(format!("hungry{left} beside meal{left}"));
+    }
+    text + "start " + &start.join(" beside ") + "\n"
+}
+
+fn leader() -> String {
+    let mut text = String::from("tray token tray win tray lose\n");
+    for number in 0..3 {
+        text += &format!("tray yes{number} tray no{number}\n");
+    }
+    let mut start = vec!["put token".to_owned()];
+    for number in 0..3 {
+        text += &format!(
+            "rule ask{number} is block (take token, put yes{number}, end or else put no{number}, end)\n\
+             rule won{number} is take yes{number} then (put win beside put token)\n\
+             rule lost{number} is take no{number} then put lose\n"
+        );
+        start.push(format!(
+            "ask{number} beside won{number} beside lost{number}"
+        ));
+    }
+    text + "start " + &start.join(" beside ") + "\n"
+}
+
+const SEVEN: &str = "tray ballot has 1\ntray done\n\
+    rule desk is block (take ballot, put done, end)\nstart 7 of desk\n";
+
+fn number_in(json: &str, field: &str) -> u64 {
+    let front = format!("\"{field}\": ");
+    let at = json.find(&front).unwrap() + front.len();
+    let digits: String = json[at..]
+        .chars()
+        .take_while(char::is_ascii_digit)
+        .collect();
+    digits.parse().unwrap()
+}
+
+#[test]
+fn situations_of_named_halls() {
+    let handover = "tray batch tray done start put batch beside (take batch then put done)\n";
+    for (text, situations, ends) in [
+        (philosophers(3), 219, 1),
+        (philosophers(4), 1_177, 1),
+        (leader(), 892, 8),
+        (SEVEN.to_owned(), 3, 1),
+        (handover.to_owned(), 4, 1),
+    ] {
+        let (code, out, err) = explore(&text, &["--json"]);
+        assert_eq!((code, err.as_str()), (0, ""), "{out}");
+        assert_eq!(number_in(&out, "situations"), situations, "{text}");
+        assert_eq!(number_in(&out, "end_situations"), ends, "{text}");
+        assert!(out.contains("\"exact\": true"), "{out}");
+    }
+}
+
+#[test]
+fn the_engine_comes_to_the_same() {
+    let (code, out, _) = explore(&leader(), &["--engine", "--json", "--never", "win > 1"]);
+    assert_eq!(code, 1);
+    assert_eq!(number_in(&out, "halls"), 46_753);
+    assert_eq!(number_in(&out, "situations"), 892);
+    assert_eq!(number_in(&out, "ends"), 8);
+    assert!(out.contains("\"compared\": true"), "{out}");
+    let (_, told, _) = explore(&leader(), &["--json"]);
+    assert_eq!(number_in(&told, "end_sorts"), 4);
+    assert_eq!(number_in(&told, "steps"), 2_249);
+}
+
+/// The choices of a report, each behind the line `choices`.
+fn printed_choices(report: &str) -> Vec<String> {
+    let mut all = Vec::new();
+    let mut lines = report.lines().peekable();
+    while let Some(line) = lines.next() {
+        if line.trim() != "choices" {
+            continue;
+        }
+        let indent = line.len() - line.trim_start().len();
+        let mut choices = String::from("choices\n");
+        while let Some(line) = lines.next_if(|line| line.len() - line.trim_start().len() > indent) {
+            choices.push_str(line);
+            choices.push('\n');
+        }
+        all.push(choices);
+    }
+    all
+}
+
+/// Each printed way is taken by `hall run`, put behind the text.
+#[track_caller]
+fn all_replay(text: &str, report: &str) -> usize {
+    let ways = printed_choices(report);
+    for way in &ways {
+        let (code, out, err) = hall(&["run", "-"], &format!("{text}{way}"));
+        assert_eq!((code, err.as_str()), (0, ""), "{way}\n{out}");
+    }
+    ways.len()
+}
+
+#[test]
+fn printed_ways_replay() {
+    let idle = "tray a has 255\ntray b has 2\ntray c\n\
+        rule late is take b then (put a beside put a)\n\
+        rule crowd is take c then nothing\n\
+        rule turner is repeatedly take b then put b\n\
+        start late beside turner beside put a beside 60 of crowd\n";
+    for (text, options, ways) in [
+        (leader(), vec!["--never", "win > 1", "--ends", "win = 1"], 6),
+        (BALLOTS.to_owned(), vec!["--never", "aside > 0"], 3),
+        (philosophers(3), vec!["--never", "eaten = 3"], 2),
+        (idle.to_owned(), vec![], 4),
+    ] {
+        let (_, out, err) = explore(&text, &options);
+        assert_eq!(err, "");
+        assert_eq!(all_replay(&text, &out), ways, "{out}");
+    }
+}
+
+/// Every example but the refused ones can be explored to the end, and each way
+/// printed is one that `hall run` goes.
+#[test]
+fn examples() {
+    let folder = PathBuf::from(env!("CARGO_MANIFEST_DIR")).join("examples");
+    let mut explored = 0;
+    for entry in fs::read_dir(folder).unwrap() {
+        let file = entry.unwrap().path();
+        if file.extension().map_or(true, |ending| ending != "hall") {
+            continue;
+        }
+        let lesson = fs::read_to_string(&file).unwrap();
+        let rules = |line: &&str| !line.starts_with("choices");
+        let lines: Vec<&str> = lesson.lines().take_while(rules).collect();
+        let text = lines.join("\n") + "\n";
+        let (code, out, err) = explore(&text, &[]);
+        assert_eq!((code, err.as_str()), (0, ""), "{}", file.display());
+        assert!(out.contains("exact: yes"), "{}\n{out}", file.display());
+        all_replay(&text, &out);
+        explored += 1;
+    }
+    assert!(explored >= 20, "{explored}");
+}
+
+/// A name of a file that is this test's alone.
+fn scratch(name: &str) -> PathBuf {
+    let folder = std::env::temp_dir().join(format!("hall-explore-{}", std::process::id()));
+    fs::create_dir_all(&folder).unwrap();
+    folder.join(name)
+}
+
+#[test]
+fn saved_ways_are_whole_and_replay() {
+    let text = "tray a\ntray b\nrule one is take a then put b\n\
+        start 40 of put a beside 40 of one\n";
+    let text = text.replace("40 of put", "24 of put");
+    let hall_file = scratch("long.hall");
+    fs::write(&hall_file, &text).unwrap();
+    let prefix = scratch("long");
+    let (name, prefix) = (hall_file.to_str().unwrap(), prefix.to_str().unwrap());
+    let (code, out, err) = hall(
+        &["explore", name, "--save", prefix, "--never", "b = 24"],
+        "",
+    );
+    assert_eq!((code, err.as_str()), (1, ""), "{out}");
+    for (what, choices) in [("end-1", 72), ("never-1", 72)] {
+        let file = format!("{prefix}-{what}.choices");
+        let saved = fs::read_to_string(&file).unwrap();
+        assert_eq!(saved.matches("act ").count(), choices, "{saved}");
+        let (code, out, err) = hall(&["run", name, &file, "--quiet"], "");
+        assert_eq!((code, err.as_str()), (0, ""));
+        assert!(out.contains("72 choices done"), "{out}");
+    }
+}
+
+#[test]
+fn a_question_holds_or_is_broken() {
+    let (code, out, _) = explore(BALLOTS, &["--never", "counted > 1", "--never", "aside > 1"]);
+    assert_eq!(code, 0, "{out}");
+    assert!(out.contains("never counted > 1: holds\n"), "{out}");
+    assert!(out.contains("never aside > 1: holds\n"), "{out}");
+    let (code, out, _) = explore(BALLOTS, &["--ends", "counted = 1"]);
+    assert_eq!(code, 1, "{out}");
+    let broken = "every end has counted = 1: broken after 6 steps: screen 1, aside 1\n";
+    assert!(out.contains(broken), "{out}");
+    let (code, out, _) = explore(BALLOTS, &["--ends", "counted + aside = 1 and stations = 0"]);
+    assert_eq!(code, 0, "{out}");
+    assert!(out.contains("holds\n"), "{out}");
+}
+
+#[test]
+fn the_smallest_group() {
+    let (code, out, err) = explore(BALLOTS, &["--groups", "--never", "aside > 0"]);
+    assert_eq!((code, err.as_str()), (1, ""));
+    assert!(out.contains("7 groups"), "{out}");
+    assert_eq!(out.matches("never aside > 0: holds").count(), 6, "{out}");
+    assert!(out.contains("shows the fault has 3 parts"), "{out}");
+    assert_eq!(all_replay(BALLOTS, &out), 1);
+    let (code, out, _) = explore(BALLOTS, &["--groups", "--never", "aside > 1", "--json"]);
+    assert_eq!(code, 0);
+    assert!(out.ends_with("\"smallest\": null}\n"), "{out}");
+    assert_eq!(out.matches("\"verdict\": \"holds\"").count(), 7);
+}
+
+/// Of `n of` each number is a group; the start line printed opens that group.
+#[test]
+fn groups_of_copies() {
+    let text = "tray a has 2\ntray b\nrule one is block (take a, put b, end)\n\
+        start 3 of one beside (take b then take b then nothing)\n";
+    let (code, out, _) = explore(text, &["--groups", "--never", "b > 1"]);
+    assert_eq!(code, 1);
+    assert!(out.contains("7 groups"), "{out}");
+    let line = "  start 2 of one\n";
+    assert!(out.contains(line), "{out}");
+    let rules = text.lines().take(3).collect::<Vec<_>>().join("\n");
+    let group = format!("{rules}\n{line}");
+    assert_eq!(all_replay(&group, &out), 1);
+}
+
+#[test]
+fn groups_want_a_fault_and_few_parts() {
+    let (code, _, err) = explore(BALLOTS, &["--groups"]);
+    assert_eq!(code, 2);
+    assert!(err.contains("--never or --ends"), "{err}");
+    let mut text = String::from("tray a\n");
+    let mut start = Vec::new();
+    for number in 0..13 {
+        text += &format!("rule r{number} is put a\n");
+        start.push(format!("r{number}"));
+    }
+    text += &format!("start {}\n", start.join(" beside "));
+    let (code, _, err) = explore(&text, &["--groups", "--never", "a > 20"]);
+    assert_eq!(code, 2);
+    assert!(err.contains("8191 groups"), "{err}");
+}
+
+#[test]
+fn a_cut_run_never_says_that_something_holds() {
+    let text = "tray a has 200\ntray b\ntray c\ntray d\n\
+        rule one is repeatedly take a then put b\nrule two is repeatedly take b then put c\n\
+        rule three is repeatedly take c then put d\nstart one beside two beside three\n";
+    for options in [["--memory", "1"], ["--seconds", "0"], ["--seconds", "0.01"]] {
+        let mut arguments = options.to_vec();
+        arguments.extend(["--never", "d > 300", "--ends", "d >= 0"]);
+        let (code, out, err) = explore(text, &arguments);
+        assert_eq!((code, err.as_str()), (1, ""), "{out}");
+        assert!(!out.contains("holds"), "{out}");
+        assert!(out.contains("exact: no (cut short by "), "{out}");
+        assert_eq!(
+            out.matches("not known; nothing that was seen breaks it")
+                .count(),
+            2
+        );
+        assert!(out.contains("and there are more"), "{out}");
+        assert!(out.contains("runs that go on for ever: not known"), "{out}");
+        assert!(!out.contains("always follow"), "{out}");
+        arguments.push("--json");
+        let (code, out, _) = explore(text, &arguments);
+        assert_eq!(code, 1);
+        assert!(
+            out.contains("\"complete\": false, \"exact\": false"),
+            "{out}"
+        );
+        assert!(!out.contains("\"holds\""), "{out}");
+        arguments.pop();
+        arguments.push("--engine");
+        let (code, out, _) = explore(text, &arguments);
+        assert_eq!(code, 1);
+        assert!(!out.contains("holds"), "{out}");
+        assert!(out.contains("not compared"), "{out}");
+        arguments.pop();
+        arguments.push("--groups");
+        let (code, out, _) = explore(text, &["--groups", "--seconds", "0", "--never", "d > 300"]);
+        assert_eq!(code, 1);
+        assert!(!out.contains("holds"), "{out}");
+        assert!(out.contains("not all is known"), "{out}");
+    }
+}
+
+/// What is found before the cut is found all the same.
+#[test]
+fn a_cut_run_may_find_a_fault() {
+    let text = "tray a has 200\ntray b\ntray c\ntray d\n\
+        rule one is repeatedly take a then put b\nrule two is repeatedly take b then put c\n\
+        rule three is repeatedly take c then put d\nstart one beside two beside three\n";
+    let (code, out, _) = explore(text, &["--memory", "1", "--never", "d > 0"]);
+    assert_eq!(code, 1);
+    assert!(out.contains("never d > 0: broken after 6 steps"), "{out}");
+    assert!(all_replay(text, &out) > 0);
+}
+
+#[test]
+fn wrong_calls() {
+    for (options, words) in [
+        (vec!["--never"], "--never wants something behind it"),
+        (vec!["--memory", "0"], "--memory wants megabytes"),
+        (vec!["--memory", "x"], "--memory wants megabytes"),
+        (
+            vec!["--memory", "99999999999999999999"],
+            "--memory wants megabytes",
+        ),
+        (vec!["--seconds", "soon"], "--seconds wants a number"),
+        (vec!["--seconds", "-1"], "--seconds wants a number"),
+        (vec!["--seconds", "nan"], "--seconds wants a number"),
+        (vec!["--seconds", "1e300"], "--seconds wants a number"),
+        (vec!["--board"], "there is no option '--board'"),
+        (
+            vec!["--engine", "--groups", "--never", "a = 1"],
+            "one of --groups and --engine",
+        ),
+        (
+            vec!["--engine", "--dot", "x"],
+            "--dot and --save are not for --engine",
+        ),
+    ] {
+        let (code, out, err) = explore("tray a start put a\n", &options);
+        assert_eq!((code, out.as_str()), (2, ""), "{options:?}");
+        assert!(err.contains(words), "{err}");
+    }
+    let (code, _, err) = explore("tray a start put b\n", &[]);
+    assert_eq!(code, 1);
+    assert!(err.contains("no tray is called 'b'"), "{err}");
+    let (code, out, _) = hall(&["explore", "--help"], "");
+    assert_eq!(code, 0);
+    assert!(
+        out.lines().count() <= 30 && out.lines().all(|line| line.len() <= 100),
+        "{out}"
+    );
+}
+
+#[test]
+fn a_picture() {
+    let file = scratch("ballots.dot");
+    let name = file.to_str().unwrap();
+    let (code, _, err) = explore(BALLOTS, &["--dot", name]);
+    assert_eq!((code, err.as_str()), (0, ""));
+    let dot = fs::read_to_string(&file).unwrap();
+    assert!(dot.starts_with("digraph hall {\n") && dot.ends_with("}\n"));
+    assert_eq!(dot.matches(" -> ").count(), 39);
+    assert_eq!(dot.matches("peripheries=2").count(), 2);
+    let (code, _, err) = explore(&philosophers(4), &["--dot", name]);
+    assert_eq!(code, 3);
+    assert!(err.contains("more than 400 situations"), "{err}");
+}
+
+#[test]
+fn what_the_report_says() {
+    let text = "tray a\ntray b has 1\ntray c\n\
+        rule server is repeatedly take b then put b\n\
+        rule lonely is take a then put c\n\
+        rule stuck is block (take a, take a, put c, end or else take c, end)\n\
+        rule quick is block (end or else take b, put c, end)\n\
+        start server beside lonely beside stuck beside quick\n";
+    let (code, out, _) = explore(text, &[]);
+    assert_eq!(code, 0);
+    for words in [
+        "No end: whatever happens, something can always follow.",
+        "trays: a always 0, b 0 to 1, c always 0\n",
+        "stations that never act: lonely, stuck\n",
+        "stations that never come to stand there: lonely (at 'put c') / put c (from quick) / put c (from",
+        "ways never taken: way 2 of quick (take b, put c)\n",
+        "runs that go on for ever: yes, even without a commit; the last 2 choices can be made",
+        "limits of the engine met: none\n",
+    ] {
+        assert!(out.contains(words), "{words}\n{out}");
+    }
+    let (_, out, _) = explore(
+        "tray a has 1\ntray b\nrule stuck is block (take a, take a, put b, end or else take b, end)\n\
+         rule other is take b then nothing\nrule next is repeatedly take b then nothing\n\
+         start 2 of stuck beside other beside next\n",
+        &[],
+    );
+    for words in [
+        "1 end, of 1 sort by what the trays have:\n  1  a 1 at the opening\n",
+        "     stuck 1, stuck 2: each tries for ever: in way 1 a is short by 1; in way 2 b is short by 1\n",
+        "     other waits for b\n     next is ready for the next b\n",
+        "runs that go on for ever: none\n",
+    ] {
+        assert!(out.contains(words), "{words}\n{out}");
+    }
+}
+
+#[test]
+fn runs_for_ever_with_commits_alone() {
+    let text = "tray a has 1\ntray again has 1\n\
+        rule turn is repeatedly take again then block (take a, put a, put again, end)\n\
+        start turn\n";
+    let (_, out, _) = explore(text, &[]);
+    let words = "runs that go on for ever: yes, but not without a commit; the last";
+    assert!(out.contains(words), "{out}");
+    assert_eq!(all_replay(text, &out), 1);
+}
+
+/// The desk opens while the giver still stands there, with no room for two puts;
+/// the giver goes, and now there is room for what the desk saw before. Without
+/// notes the desk would only ever see what the giver has put.
+#[test]
+fn a_fault_that_only_notes_show() {
+    let text = "tray a\ntray c\ntray d\nrule giver is put a\n\
+        rule desk is block (take a, end or else put c, put c, end)\n\
+        rule idle is take d then nothing\nstart desk beside giver beside 62 of idle\n";
+    let (code, out, err) = explore(text, &["--never", "c > 1"]);
+    assert_eq!((code, err.as_str()), (1, ""), "{out}");
+    let told = out.replace('\n', " ");
+    assert!(
+        told.contains("explored with notes of what each attempt found"),
+        "{out}"
+    );
+    assert!(
+        told.contains("never c > 1: broken after 5 steps: a 1, c 2"),
+        "{out}"
+    );
+    assert!(told.contains("ways never taken: none"), "{out}");
+    assert_eq!(all_replay(text, &out), 4, "{out}");
+    let (_, out, _) = explore(text, &["--engine", "--never", "c > 1"]);
+    assert!(
+        out.contains("the same situations and the same ends"),
+        "{out}"
+    );
+    assert!(out.contains("never c > 1: broken"), "{out}");
+    assert_eq!(all_replay(text, &out), 1, "{out}");
+    // Three puts have no room even then: the desk opens and never acts.
+    let tighter = text.replace("put c, put c, end", "put c, put c, put c, end");
+    let tighter = tighter.replace("take a, end", "take a, take a, end");
+    let (_, out, _) = explore(&tighter, &[]);
+    assert!(
+        out.contains("stations that never act: desk, idle\n"),
+        "{out}"
+    );
+    // With one station fewer there is room, and no need for notes.
+    let roomy = text.replace("62 of", "61 of");
+    let (code, out, _) = explore(&roomy, &["--never", "c > 1"]);
+    assert_eq!(code, 1);
+    assert!(
+        out.contains("the limit of 64 stations was never met"),
+        "{out}"
+    );
+}
+
+#[test]
+fn limits_at_an_end() {
+    let text =
+        "tray a has 255\ntray b has 1\ntray c\nrule two is take b then (put c beside put c)\n\
+        rule many is block (take b, put c, put c, put c, end)\n\
+        start put a beside two beside many beside 61 of (take c then nothing)\n";
+    let (code, out, _) = explore(text, &[]);
+    assert_eq!(code, 0);
+    for words in [
+        "put a cannot put: a has 255, the most there can be (20)",
+        "two could take b, but what follows has no room among 64 stations (19)",
+        "many could commit, but what it puts has no room among 64 stations (19)",
+        "exact: yes (the limit of 64 stations was met, and no block has two ways)",
+        "limit met: 19, more than 64 stations",
+        "limit met: 20, more than 255 tokens",
+    ] {
+        assert!(
+            out.replace("\n     ", " ").contains(words),
+            "{words}\n{out}"
+        );
+    }
+}
+
+#[test]
+fn json_is_one_object_of_ascii() {
+    let (_, out, _) = explore(
+        &leader(),
+        &["--json", "--never", "win > 1", "--ends", "win = 1"],
+    );
+    assert_eq!(out.matches('\n').count(), 1);
+    assert!(out.is_ascii() && out.starts_with('{') && out.ends_with("}\n"));
+    let mut depth = 0;
+    let mut quoted = false;
+    let mut escaped = false;
+    for letter in out.chars() {
+        match letter {
+            _ if escaped => escaped = false,
+            '\\' if quoted => escaped = true,
+            '"' => quoted = !quoted,
+            '{' | '[' if !quoted => depth += 1,
+            '}' | ']' if !quoted => depth -= 1,
+            _ => {}
+        }
+        assert!(depth > 0 || matches!(letter, '}' | '\n'));
+    }
+    assert_eq!((depth, quoted), (0, false));
+    assert_eq!(out.matches("\"verdict\": \"broken\"").count(), 2);
+}

@@ -1,0 +1,38 @@
+//! `hall` called as a function, and a hall that several tests ask about.
+
+use workbench::commands::{self, Streams};
+use workbench::style::Style;
+
+/// Exit code, standard output, standard error.
+pub(crate) fn hall(arguments: &[&str], input: &str) -> (u8, String, String) {
+    let arguments: Vec<String> = arguments.iter().map(|it| (*it).to_owned()).collect();
+    let mut out = Vec::new();
+    let mut err = Vec::new();
+    let mut streams = Streams {
+        input: &mut input.as_bytes(),
+        out: &mut out,
+        err: &mut err,
+        style: Style::PLAIN,
+        err_style: Style::PLAIN,
+        out_is_terminal: false,
+        input_is_terminal: false,
+    };
+    let code = commands::main(&arguments, &mut streams);
+    let text = |bytes| String::from_utf8(bytes).unwrap();
+    (code, text(out), text(err))
+}
+
+/// Explores a text with these options.
+pub(crate) fn explore(text: &str, options: &[&str]) -> (u8, String, String) {
+    let mut arguments = vec!["explore", "-"];
+    arguments.extend(options);
+    hall(&arguments, text)
+}
+
+/// The ballot may be laid aside, and only all three stations show it.
+pub(crate) const BALLOTS: &str =
+    "tray ballot has 1\ntray screen has 1\ntray call\ntray aside\ntray counted\n\
+    rule desk is block (\n  take ballot, take screen, put counted, put screen, end\n\
+    or else\n  take ballot, put aside, end\n)\n\
+    rule guest is take call then take screen then put screen\nrule bell is put call\n\
+    start desk beside guest beside bell\n";

@@ -1,0 +1,16 @@
+//! Tests of `hall explore` and of what it rests on.
+#![allow(
+    clippy::unwrap_used,
+    clippy::expect_used,
+    clippy::panic,
+    clippy::indexing_slicing,
+    clippy::format_push_string
+)]
+
+mod command;
+mod common;
+mod doubts;
+mod halls;
+mod questions;
+mod random;
+mod reference_runs;

@@ -1,0 +1,257 @@
+//! Explorations against the library's own steps, on random small halls.
+use std::collections::BTreeSet;
+
+use crate::halls::{near_the_limits, tight};
+use reference::generator::{accepted_table, contended_table, Random, Shape};
+use ruonfidd::Hall;
+use workbench::explore::engine::{engine_search, EngineFound};
+use workbench::explore::facts::{Asked, Collector, ForEver, Verdict};
+use workbench::explore::investigate::{investigate, Exact, Explored};
+use workbench::explore::model::Model;
+use workbench::explore::question::Question;
+use workbench::explore::replay::{Line, Witness};
+use workbench::explore::search::{search, Limits, Questions};
+use workbench::stations::{counts, stations};
+use workbench::table::Table;
+use workbench::text::tree::Program;
+
+/// What a random hall may cost; a larger one is passed over.
+const SMALL: usize = 60_000;
+
+fn by_steps(table: &Table, questions: &Questions) -> Explored {
+    let limits = Limits::memory(100_000_000);
+    investigate(table, questions, limits, &mut |_, _| {})
+}
+
+fn by_engine(table: &Table) -> Option<EngineFound> {
+    let found = engine_search(table, Limits::memory(SMALL), &mut |_, _| {}).unwrap();
+    found.cut.is_none().then_some(found)
+}
+
+/// Situations and ends of an exploration, notes left out.
+fn sets(explored: &Explored) -> [BTreeSet<Vec<u8>>; 2] {
+    let store = &explored.found.store;
+    let all = store
+        .indexes()
+        .map(|index| store.get(index).to_vec())
+        .filter(|situation| explored.model.without_notes(situation));
+    let ends = explored.found.ends.iter();
+    [
+        all.collect(),
+        ends.map(|end| store.get(*end).to_vec()).collect(),
+    ]
+}
+
+fn engine_sets(found: &EngineFound) -> [BTreeSet<Vec<u8>>; 2] {
+    let store = &found.situations;
+    let all = store.indexes().map(|index| store.get(index).to_vec());
+    let ends = found.ends.iter();
+    [
+        all.collect(),
+        ends.map(|end| store.get(*end).to_vec()).collect(),
+    ]
+}
+
+/// What would be found if notes were never taken.
+fn without_notes(table: &Table) -> [BTreeSet<Vec<u8>>; 2] {
+    let model = Model::of(table);
+    let questions = Questions::default();
+    let limits = Limits::memory(100_000_000);
+    let found = search(&model, &questions, limits, &mut |_, _| {});
+    sets(&Explored {
+        model,
+        found,
+        exact: Exact::NeverFull,
+    })
+}
+
+/// One run over all choices of a witness comes to the hall that it shows.
+fn runs(table: &Table, witness: &Witness) -> Hall {
+    let (mut hall, mut tally) = Hall::open(table.bytes()).unwrap();
+    let done = hall.run(table.bytes(), &witness.bytes(), &mut tally);
+    assert_eq!(done, Ok(witness.lines.len()));
+    assert_eq!(stations(&hall), Some(witness.last.stations.clone()));
+    hall
+}
+
+/// The choices of a round lead back to the same counts and stations, and can be
+/// made by the same bytes again as often as stations keep their positions; at
+/// least the situation is the same.
+fn comes_round(table: &Table, witness: &Witness, before: usize) {
+    let model = Model::of(table);
+    let situation = |choices: &[Line]| {
+        let (mut hall, mut tally) = Hall::open(table.bytes()).unwrap();
+        for line in choices {
+            hall.step(table.bytes(), line.choice, &mut tally).unwrap();
+        }
+        model.situation(&counts(&hall), &stations(&hall).unwrap())
+    };
+    assert!(before < witness.lines.len());
+    let (entry, _) = witness.lines.split_at(before);
+    assert_eq!(situation(entry), situation(&witness.lines));
+}
+
+/// How often what was met.
+#[derive(Debug, Default)]
+struct Met {
+    halls: usize,
+    passed_over: usize,
+    full_hall: usize,
+    full_tray: usize,
+    with_notes: usize,
+    without_alternatives: usize,
+    notes_mattered: usize,
+    broken: usize,
+    ends: usize,
+    rounds: usize,
+}
+
+/// One question of each sort, about a tray by chance.
+fn questions(program: &Program, model: &Model, random: &mut Random) -> Questions {
+    let mut ask = |sign: &str| {
+        let Some(tray) = random.pick(model.trays()) else {
+            return Vec::new();
+        };
+        let number = random.below(3);
+        let text = format!("t{tray} {sign} {number}");
+        vec![Question::read(&text, program, model).unwrap()]
+    };
+    Questions {
+        never: ask(">"),
+        ends: ask("<="),
+    }
+}
+
+impl Met {
+    /// Makes every way on the library, and has the answers be those that the
+    /// sets give. The sets are those of the library.
+    fn replay(
+        &mut self,
+        table: &Table,
+        program: &Program,
+        explored: &Explored,
+        questions: &Questions,
+        [all, ends]: &[BTreeSet<Vec<u8>>; 2],
+    ) {
+        let facts = Collector {
+            table,
+            program,
+            explored,
+            questions,
+            limits: Limits::memory(100_000_000),
+            most_ends: usize::MAX,
+        }
+        .collect()
+        .unwrap();
+        let is_so = |question: &Question, situation: &Vec<u8>| {
+            let (counts, stations) = explored.model.split(situation);
+            question.holds(counts, stations.len())
+        };
+        for answer in &facts.answers {
+            let holds = match answer.asked {
+                Asked::Never => !all.iter().any(|it| is_so(&questions.never[0], it)),
+                Asked::Ends => ends.iter().all(|it| is_so(&questions.ends[0], it)),
+            };
+            match &answer.verdict {
+                Verdict::Holds => assert!(holds),
+                Verdict::Broken(witness, _) => {
+                    assert!(!holds);
+                    self.broken += 1;
+                    runs(table, witness);
+                }
+                Verdict::Open => panic!("all is known"),
+            }
+        }
+        let of_ends: usize = facts.ends.iter().map(|end| end.situations).sum();
+        assert_eq!(of_ends, ends.len());
+        for end in &facts.ends {
+            runs(table, &end.witness);
+            self.ends += 1;
+        }
+        if let ForEver::Yes(witness, before) = &facts.for_ever {
+            comes_round(table, witness, *before);
+            self.rounds += 1;
+        }
+        for witness in facts.full_hall.iter().chain(&facts.full_tray) {
+            runs(table, witness);
+        }
+    }
+
+    fn compare(&mut self, bytes: &[u8], what: &str) {
+        let table = Table::read(bytes).unwrap();
+        let Some(engine) = by_engine(&table) else {
+            self.passed_over += 1;
+            return;
+        };
+        let program = Program::of_table(&table);
+        let model = Model::of(&table);
+        let questions = questions(&program, &model, &mut Random::new(bytes.len() as u64));
+        let explored = by_steps(&table, &questions);
+        assert!(explored.complete(), "{what}: {bytes:?}");
+        let sets = sets(&explored);
+        assert_eq!(sets, engine_sets(&engine), "{what}: {bytes:?}");
+        assert_eq!(explored.found.situations, sets[0].len() as u64, "{what}");
+        self.replay(&table, &program, &explored, &questions, &sets);
+        self.halls += 1;
+        self.full_hall += usize::from(engine.full_hall);
+        self.full_tray += usize::from(engine.full_tray);
+        match explored.exact {
+            Exact::WithNotes => {
+                self.with_notes += 1;
+                self.notes_mattered += usize::from(without_notes(&table) != sets);
+            }
+            Exact::NoAlternatives => self.without_alternatives += 1,
+            _ => {}
+        }
+    }
+}
+
+#[test]
+fn contended_halls() {
+    let mut met = Met::default();
+    for seed in 0..2_000 {
+        let table = contended_table(&mut Random::new(seed));
+        met.compare(&table, &format!("contended {seed}"));
+    }
+    assert!(met.halls > 500 && met.full_tray > 5, "{met:?}");
+}
+
+#[test]
+fn any_small_halls() {
+    let mut met = Met::default();
+    for seed in 0..2_500 {
+        let mut random = Random::new(seed);
+        let shape = Shape::small(&mut random);
+        let table = accepted_table(&mut random, shape);
+        met.compare(&table, &format!("any {seed}"));
+    }
+    assert!(met.halls > 1_300 && met.full_tray > 10, "{met:?}");
+    assert!(
+        met.broken > 500 && met.ends > 1_000 && met.rounds > 20,
+        "{met:?}"
+    );
+}
+
+#[test]
+fn halls_near_the_limits() {
+    let mut met = Met::default();
+    for seed in 0..600 {
+        let table = near_the_limits(&mut Random::new(seed));
+        met.compare(&table, &format!("near the limits {seed}"));
+    }
+    assert!(met.halls > 300 && met.full_tray > 30, "{met:?}");
+    assert!(
+        met.with_notes > 30 && met.without_alternatives > 10,
+        "{met:?}"
+    );
+}
+
+#[test]
+fn halls_where_notes_matter() {
+    let mut met = Met::default();
+    for seed in 0..300 {
+        let table = tight(&mut Random::new(seed));
+        met.compare(&table, &format!("tight {seed}"));
+    }
+    assert!(met.with_notes > 50 && met.notes_mattered > 10, "{met:?}");
+}
