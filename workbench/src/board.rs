@@ -281,3 +281,98 @@ fn branches_drawn(nodes: &[Node]) -> Vec<String> {
     }
     drawn
 }
+
+#[cfg(test)]
+#[allow(clippy::unwrap_used)]
+mod tests {
+    use super::Board;
+    use crate::lesson::Lesson;
+    use crate::style::Style;
+    use crate::text::source::Source;
+    use crate::text::understand;
+    use ruonfidd::Choice;
+
+    /// The board after an attempt of the first station was split at these nodes.
+    fn board(text: &str, nodes: &[u8]) -> Vec<String> {
+        let understood = understand(&Source::new("", text)).unwrap();
+        let (table, program) = (&understood.table, &understood.program);
+        let mut lesson = Lesson::open(table, program).unwrap();
+        lesson.make(Choice::Act { position: 0 }).unwrap();
+        for node in nodes {
+            let (position, node) = (0, *node);
+            lesson.make(Choice::Inside { position, node }).unwrap();
+        }
+        let style = Style::PLAIN;
+        let board = Board {
+            table,
+            program,
+            style,
+        };
+        board.lines(lesson.now(), 0)
+    }
+
+    const TEXT: &str = "tray a has 1\ntray b\nrule desk is block (\n\
+        (take a, end or else take b, end) or else (put a, end or else put b, retry or else end))\n\
+        start desk";
+
+    #[test]
+    fn the_tree_of_an_attempt() {
+        assert_eq!(
+            board(TEXT, &[0, 1, 4, 6]),
+            [
+                "trays     a 1   b 0",
+                "stations   0  desk  attempt, opened at a 1, b 0",
+                "              node 0  5 ways",
+                "              node 1  |- 2 ways",
+                "              node 2  |  |- >>  take a, end",
+                "              node 3  |  `- >>  take b, end   (will lack b)",
+                "              node 4  `- 3 ways",
+                "              node 5     |- >>  put a, end",
+                "              node 6     `- 2 ways",
+                "              node 7        |- >>  put b, retry",
+                "              node 8        `- >>  end",
+            ]
+        );
+    }
+
+    #[test]
+    fn what_a_fork_can_do() {
+        let lines = board(TEXT, &[0, 1, 2, 3]);
+        let fork = lines.iter().find(|line| line.contains("node 1"));
+        assert_eq!(
+            fork.map(String::as_str),
+            Some("              node 1  |- 2 ways: the first is finished, it can settle")
+        );
+        let text = TEXT.replace("take a, end or", "take b, end or");
+        let lines = board(&text, &[0, 1, 2]);
+        let fork = lines.iter().find(|line| line.contains("node 1"));
+        assert_eq!(
+            fork.map(String::as_str),
+            Some("              node 1  |- 2 ways: the first gave up, it can be dropped")
+        );
+        let leaf = lines.iter().find(|line| line.contains("node 2"));
+        assert_eq!(
+            leaf.map(String::as_str),
+            Some("              node 2  |  |- xx  gave up")
+        );
+    }
+
+    #[test]
+    fn long_ways_are_cut_and_notes_are_not() {
+        let step = "put b, take a, ".repeat(8);
+        let text = format!("tray a has 9\ntray b\nstart block ({step}end)");
+        let cut = board(&text, &[0, 0]);
+        let line = cut.iter().find(|line| line.contains("node 0")).unwrap();
+        assert!(line.len() <= 96 && line.ends_with(" ..."), "{line}");
+        let all = board(&text, &[0; 16]);
+        let line = all.iter().find(|line| line.contains("node 0")).unwrap();
+        assert_eq!(line.matches("take a").count(), 8, "{line}");
+        let text = format!("tray b\nstart block ({}end)", "put b, ".repeat(16));
+        let counted = board(&text, &[0, 0, 0]);
+        let line = counted.iter().find(|line| line.contains("node 0")).unwrap();
+        assert!(
+            line.ends_with("node 0  put b x3  >>  put b x13, end"),
+            "{line}"
+        );
+    }
+}

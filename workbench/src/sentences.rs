@@ -320,3 +320,84 @@ fn opened(happened: &Happened, some: &str, none: &str) -> String {
     };
     format!("{some}: {}.", names.join(", "))
 }
+
+#[cfg(test)]
+#[allow(clippy::unwrap_used)]
+mod tests {
+    use super::Teller;
+    use crate::lesson::{Answer, Lesson};
+    use crate::text::grammar::read_choices;
+    use crate::text::source::Source;
+    use crate::text::understand;
+
+    /// The sentences of these choices.
+    fn told(text: &str, choices: &str) -> Vec<String> {
+        let understood = understand(&Source::new("", text)).unwrap();
+        let (table, program) = (&understood.table, &understood.program);
+        let lines = read_choices(&Source::new("", choices), program).unwrap();
+        let mut lesson = Lesson::open(table, program).unwrap();
+        let mut teller = Teller::new(table, program);
+        let mut sentences = Vec::new();
+        for line in &lines {
+            let choice = lesson.choice(&line.ask).unwrap().unwrap();
+            if let Answer::Moved(happened) = lesson.make(choice).unwrap() {
+                sentences.push(teller.tell(&happened));
+            }
+        }
+        sentences
+    }
+
+    fn handovers(text: &str, choices: &str) -> Vec<bool> {
+        let sentences = told(text, choices);
+        let with_com = |sentence: &String| sentence.contains("A direct handover from");
+        sentences.iter().map(with_com).collect()
+    }
+
+    const RULES: &str = "tray b\nrule scanner is put a\nrule porter is take a then nothing\n\
+                         rule desk is block (take a, end)\nrule both is block (take a, take a, end)\n";
+
+    #[test]
+    fn a_handover_is_a_put_into_an_empty_tray_and_at_once_its_take() {
+        let empty = format!(
+            "tray a\n{RULES}start 2 of scanner beside 2 of porter beside desk beside put b"
+        );
+        let take = "act scanner 1 act porter 1";
+        assert_eq!(handovers(&empty, take), [false, true]);
+        let commit = "act scanner 1 act desk step desk act scanner 2 act porter 1 act desk";
+        assert_eq!(handovers(&empty, commit), [false; 6]);
+        let commit = "act scanner 1 act desk step desk act porter 1 act scanner 2 act desk";
+        assert_eq!(
+            handovers(&empty, commit),
+            [false, false, false, false, false, true]
+        );
+        let between = "act scanner 1 act put b act porter 1";
+        assert_eq!(handovers(&empty, between), [false; 3]);
+        // The token that lay there before may be the one taken.
+        let filled = format!("tray a has 1\n{RULES}start scanner beside porter");
+        assert_eq!(handovers(&filled, "act scanner act porter"), [false; 2]);
+        let two = format!("tray a has 2\n{RULES}start both beside 2 of porter beside 2 of scanner");
+        let commit = "act both step both step both act porter 1 act porter 2 \
+                      act scanner 1 act scanner 2 act both";
+        assert_eq!(handovers(&two, commit), [false; 8]);
+    }
+
+    #[test]
+    fn what_is_new_is_explained_once() {
+        let text = format!("tray a\n{RULES}start 2 of scanner beside 2 of porter");
+        let all = "act scanner 1 act porter 1 act scanner 2 act porter 2";
+        let sentences = told(&text, all);
+        let explained = |sentence: &&String| sentence.contains("the tray was empty");
+        assert_eq!(sentences.iter().filter(explained).count(), 1);
+        let text = "tray a has 3\ntray b\nrule desk is repeatedly take a then put b\nstart desk";
+        let sentences = told(text, "act desk act desk act desk");
+        let explained = |sentence: &&String| sentence.contains("before that is done");
+        assert_eq!(sentences.iter().filter(explained).count(), 1);
+        // Where nothing comes of the take, there is nothing to wait for.
+        let text = "tray a has 3\nrule desk is repeatedly take a then nothing\nstart desk";
+        let sentences = told(text, "act desk");
+        assert_eq!(
+            sentences,
+            ["desk takes one and stays for the next: a 3 -> 2. Nothing comes of it."]
+        );
+    }
+}

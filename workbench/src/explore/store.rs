@@ -32,8 +32,8 @@ const FREE: Slot = [0; 5];
 /// Records that are to be kept, and from which record each was reached.
 ///
 /// One record alone is waited for several times, since its slot and what the
-/// slot leads to stand anywhere in a large memory. Of many at once the memory
-/// is asked together, which is some four times as fast.
+/// slot leads to stand anywhere in a large memory. For many at once the memory
+/// is asked together: an exploration of millions takes two thirds of the time.
 #[derive(Clone, Debug, Default)]
 pub struct Batch {
     bytes: Vec<u8>,
@@ -88,13 +88,17 @@ impl Batch {
 
 const FEWEST_SLOTS: usize = 1 << 10;
 
+/// How much of an end is kept with each record; the rest of it is the same for
+/// very many. Tests keep less, so that they see it change.
+const LOW_BITS: u32 = if cfg!(test) { 16 } else { 32 };
+
 /// Records of bytes, each kept once.
 #[derive(Clone, Debug)]
 pub struct Store {
     bytes: Vec<u8>,
-    /// Where each record ends, without what is above 32 bits.
+    /// Where each record ends: the lower part.
     ends: Vec<u32>,
-    /// The numbers of the records from which on the ends are 2^32 higher.
+    /// The numbers of the records from which on the upper part is one more.
     higher: Vec<Index>,
     parents: Vec<Index>,
     slots: Vec<Slot>,
@@ -223,11 +227,11 @@ impl Store {
             .map(|item| self.slots.get(self.first_slot(item.hash)))
             .map(|slot| index_in(slot.copied().unwrap_or(FREE)))
             .collect();
-        let starts: Vec<usize> = likely
+        let ends: Vec<usize> = likely
             .iter()
             .map(|index| index.map_or(0, |index| self.end(index)))
             .collect();
-        let sum = starts
+        let sum = ends
             .iter()
             .filter_map(|end| self.bytes.get(end.checked_sub(1)?))
             .fold(0, |sum, byte| sum ^ byte);
@@ -258,12 +262,12 @@ impl Store {
             .and_then(|()| self.ends.try_reserve(1))
             .and_then(|()| self.parents.try_reserve(1))
             .map_err(|_| NoRoom)?;
-        let high_before = self.bytes.len() >> 32;
+        let upper = self.bytes.len() >> LOW_BITS;
         self.bytes.extend_from_slice(record);
-        if self.bytes.len() >> 32 != high_before {
+        if self.bytes.len() >> LOW_BITS != upper {
             self.higher.push(index);
         }
-        self.ends.push(low_half(self.bytes.len()));
+        self.ends.push(lower_part(self.bytes.len()));
         self.parents.push(parent);
         self.take_slot(slot, number, hash);
         Ok(index)
@@ -274,7 +278,7 @@ impl Store {
             return 0;
         };
         let higher = self.higher.iter().filter(|from| **from <= index).count();
-        (higher << 32) + place(*low)
+        (higher << LOW_BITS) + place(*low)
     }
 
     /// The record's number, or the free slot for it.
@@ -358,8 +362,8 @@ fn place(index: Index) -> usize {
     usize::try_from(index).unwrap_or(usize::MAX)
 }
 
-fn low_half(length: usize) -> u32 {
-    u32::try_from(length & 0xFFFF_FFFF).unwrap_or(0)
+fn lower_part(length: usize) -> u32 {
+    u32::try_from(length & ((1 << LOW_BITS) - 1)).unwrap_or(0)
 }
 
 /// A byte of the hash from above those that choose the slot.
@@ -420,6 +424,7 @@ mod tests {
         assert_eq!(store.memory_with(2_429), now + 5 * 65_536);
         assert_eq!(store.find(&record(50_000)), None);
         assert_eq!(store.len(), 50_000);
+        assert!(store.higher.len() > 5);
         assert_eq!(store.way_to(7), [0, 1, 4, 7]);
         assert_eq!(store.way_to(0), [0]);
         assert!(store.get(50_000).is_empty());

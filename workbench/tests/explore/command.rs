@@ -2,7 +2,9 @@
 use std::fs;
 use std::path::PathBuf;
 
-use crate::common::{explore, hall, BALLOTS};
+use reference::generator::{accepted_table, damaged_table, nearly_full_table, Random, Shape};
+
+use crate::common::{all_replay, explore, hall, BALLOTS};
 
 fn philosophers(how_many: usize) -> String {
     let mut text = String::new();
@@ -75,45 +77,15 @@ fn situations_of_named_halls() {
 
 #[test]
 fn the_engine_comes_to_the_same() {
-    let (code, out, _) = explore(&leader(), &["--engine", "--json", "--never", "win > 1"]);
+    let (code, out, _) = explore(leader(), &["--engine", "--json", "--never", "win > 1"]);
     assert_eq!(code, 1);
     assert_eq!(number_in(&out, "halls"), 46_753);
     assert_eq!(number_in(&out, "situations"), 892);
     assert_eq!(number_in(&out, "ends"), 8);
     assert!(out.contains("\"compared\": true"), "{out}");
-    let (_, told, _) = explore(&leader(), &["--json"]);
+    let (_, told, _) = explore(leader(), &["--json"]);
     assert_eq!(number_in(&told, "end_sorts"), 4);
     assert_eq!(number_in(&told, "steps"), 2_249);
-}
-
-/// The choices of a report, each behind the line `choices`.
-fn printed_choices(report: &str) -> Vec<String> {
-    let mut all = Vec::new();
-    let mut lines = report.lines().peekable();
-    while let Some(line) = lines.next() {
-        if line.trim() != "choices" {
-            continue;
-        }
-        let indent = line.len() - line.trim_start().len();
-        let mut choices = String::from("choices\n");
-        while let Some(line) = lines.next_if(|line| line.len() - line.trim_start().len() > indent) {
-            choices.push_str(line);
-            choices.push('\n');
-        }
-        all.push(choices);
-    }
-    all
-}
-
-/// Each printed way is taken by `hall run`, put behind the text.
-#[track_caller]
-fn all_replay(text: &str, report: &str) -> usize {
-    let ways = printed_choices(report);
-    for way in &ways {
-        let (code, out, err) = hall(&["run", "-"], &format!("{text}{way}"));
-        assert_eq!((code, err.as_str()), (0, ""), "{way}\n{out}");
-    }
-    ways.len()
 }
 
 #[test]
@@ -157,6 +129,31 @@ fn examples() {
         explored += 1;
     }
     assert!(explored >= 20, "{explored}");
+}
+
+/// Whatever the file holds, it is explored or refused, and nothing else.
+#[test]
+fn any_table() {
+    let mut explored = 0;
+    for seed in 0..300 {
+        let mut random = Random::new(seed);
+        let table = match seed % 3 {
+            0 => damaged_table(&mut random),
+            1 => nearly_full_table(&mut random),
+            _ => {
+                let shape = Shape::any(&mut random);
+                accepted_table(&mut random, shape)
+            }
+        };
+        let options = ["--binary", "--memory", "1", "--never", "stations > 64"];
+        let (code, out, err) = explore(&table, &options);
+        let refused = code == 1 && out.is_empty() && err.contains("refused");
+        let open = code == 1 && err.is_empty() && out.contains("not known; nothing");
+        let holds = code == 0 && err.is_empty() && out.contains("never stations > 64: holds");
+        assert!(refused || open || holds, "{table:?}: {code}\n{out}{err}");
+        explored += usize::from(open || holds);
+    }
+    assert!(explored > 150, "{explored}");
 }
 
 /// A name of a file that is this test's alone.
@@ -252,61 +249,6 @@ fn groups_want_a_fault_and_few_parts() {
 }
 
 #[test]
-fn a_cut_run_never_says_that_something_holds() {
-    let text = "tray a has 200\ntray b\ntray c\ntray d\n\
-        rule one is repeatedly take a then put b\nrule two is repeatedly take b then put c\n\
-        rule three is repeatedly take c then put d\nstart one beside two beside three\n";
-    for options in [["--memory", "1"], ["--seconds", "0"], ["--seconds", "0.01"]] {
-        let mut arguments = options.to_vec();
-        arguments.extend(["--never", "d > 300", "--ends", "d >= 0"]);
-        let (code, out, err) = explore(text, &arguments);
-        assert_eq!((code, err.as_str()), (1, ""), "{out}");
-        assert!(!out.contains("holds"), "{out}");
-        assert!(out.contains("exact: no (cut short by "), "{out}");
-        assert_eq!(
-            out.matches("not known; nothing that was seen breaks it")
-                .count(),
-            2
-        );
-        assert!(out.contains("and there are more"), "{out}");
-        assert!(out.contains("runs that go on for ever: not known"), "{out}");
-        assert!(!out.contains("always follow"), "{out}");
-        arguments.push("--json");
-        let (code, out, _) = explore(text, &arguments);
-        assert_eq!(code, 1);
-        assert!(
-            out.contains("\"complete\": false, \"exact\": false"),
-            "{out}"
-        );
-        assert!(!out.contains("\"holds\""), "{out}");
-        arguments.pop();
-        arguments.push("--engine");
-        let (code, out, _) = explore(text, &arguments);
-        assert_eq!(code, 1);
-        assert!(!out.contains("holds"), "{out}");
-        assert!(out.contains("not compared"), "{out}");
-        arguments.pop();
-        arguments.push("--groups");
-        let (code, out, _) = explore(text, &["--groups", "--seconds", "0", "--never", "d > 300"]);
-        assert_eq!(code, 1);
-        assert!(!out.contains("holds"), "{out}");
-        assert!(out.contains("not all is known"), "{out}");
-    }
-}
-
-/// What is found before the cut is found all the same.
-#[test]
-fn a_cut_run_may_find_a_fault() {
-    let text = "tray a has 200\ntray b\ntray c\ntray d\n\
-        rule one is repeatedly take a then put b\nrule two is repeatedly take b then put c\n\
-        rule three is repeatedly take c then put d\nstart one beside two beside three\n";
-    let (code, out, _) = explore(text, &["--memory", "1", "--never", "d > 0"]);
-    assert_eq!(code, 1);
-    assert!(out.contains("never d > 0: broken after 6 steps"), "{out}");
-    assert!(all_replay(text, &out) > 0);
-}
-
-#[test]
 fn wrong_calls() {
     for (options, words) in [
         (vec!["--never"], "--never wants something behind it"),
@@ -355,7 +297,7 @@ fn a_picture() {
     assert!(dot.starts_with("digraph hall {\n") && dot.ends_with("}\n"));
     assert_eq!(dot.matches(" -> ").count(), 39);
     assert_eq!(dot.matches("peripheries=2").count(), 2);
-    let (code, _, err) = explore(&philosophers(4), &["--dot", name]);
+    let (code, _, err) = explore(philosophers(4), &["--dot", name]);
     assert_eq!(code, 3);
     assert!(err.contains("more than 400 situations"), "{err}");
 }
@@ -408,52 +350,6 @@ fn runs_for_ever_with_commits_alone() {
     assert_eq!(all_replay(text, &out), 1);
 }
 
-/// The desk opens while the giver still stands there, with no room for two puts;
-/// the giver goes, and now there is room for what the desk saw before. Without
-/// notes the desk would only ever see what the giver has put.
-#[test]
-fn a_fault_that_only_notes_show() {
-    let text = "tray a\ntray c\ntray d\nrule giver is put a\n\
-        rule desk is block (take a, end or else put c, put c, end)\n\
-        rule idle is take d then nothing\nstart desk beside giver beside 62 of idle\n";
-    let (code, out, err) = explore(text, &["--never", "c > 1"]);
-    assert_eq!((code, err.as_str()), (1, ""), "{out}");
-    let told = out.replace('\n', " ");
-    assert!(
-        told.contains("explored with notes of what each attempt found"),
-        "{out}"
-    );
-    assert!(
-        told.contains("never c > 1: broken after 5 steps: a 1, c 2"),
-        "{out}"
-    );
-    assert!(told.contains("ways never taken: none"), "{out}");
-    assert_eq!(all_replay(text, &out), 4, "{out}");
-    let (_, out, _) = explore(text, &["--engine", "--never", "c > 1"]);
-    assert!(
-        out.contains("the same situations and the same ends"),
-        "{out}"
-    );
-    assert!(out.contains("never c > 1: broken"), "{out}");
-    assert_eq!(all_replay(text, &out), 1, "{out}");
-    // Three puts have no room even then: the desk opens and never acts.
-    let tighter = text.replace("put c, put c, end", "put c, put c, put c, end");
-    let tighter = tighter.replace("take a, end", "take a, take a, end");
-    let (_, out, _) = explore(&tighter, &[]);
-    assert!(
-        out.contains("stations that never act: desk, idle\n"),
-        "{out}"
-    );
-    // With one station fewer there is room, and no need for notes.
-    let roomy = text.replace("62 of", "61 of");
-    let (code, out, _) = explore(&roomy, &["--never", "c > 1"]);
-    assert_eq!(code, 1);
-    assert!(
-        out.contains("the limit of 64 stations was never met"),
-        "{out}"
-    );
-}
-
 #[test]
 fn limits_at_an_end() {
     let text =
@@ -480,7 +376,7 @@ fn limits_at_an_end() {
 #[test]
 fn json_is_one_object_of_ascii() {
     let (_, out, _) = explore(
-        &leader(),
+        leader(),
         &["--json", "--never", "win > 1", "--ends", "win = 1"],
     );
     assert_eq!(out.matches('\n').count(), 1);

@@ -1,4 +1,5 @@
-//! Explorations that cannot be exact say so, and say of nothing that it holds.
+//! Explorations that cannot be exact say so, and say of nothing that it holds;
+//! and those that are exact by their notes.
 
 use reference::build::Builder;
 use reference::generator::Random;
@@ -12,6 +13,7 @@ use workbench::style::Style;
 use workbench::table::Table;
 use workbench::text::tree::Program;
 
+use crate::common::{all_replay, explore};
 use crate::halls::tight;
 
 /// A question that nothing breaks, asked of a hall with so much memory.
@@ -135,4 +137,105 @@ fn no_room_at_all() {
     let (explored, facts, text) = asked(&table, 0);
     assert_eq!(explored.exact, Exact::No(Doubt::Cut(Cut::Memory)));
     nothing_holds(&explored, &facts, &text);
+}
+
+#[test]
+fn a_cut_run_never_says_that_something_holds() {
+    let text = "tray a has 200\ntray b\ntray c\ntray d\n\
+        rule one is repeatedly take a then put b\nrule two is repeatedly take b then put c\n\
+        rule three is repeatedly take c then put d\nstart one beside two beside three\n";
+    for options in [["--memory", "1"], ["--seconds", "0"], ["--seconds", "0.01"]] {
+        let mut arguments = options.to_vec();
+        arguments.extend(["--never", "d > 300", "--ends", "d >= 0"]);
+        let (code, out, err) = explore(text, &arguments);
+        assert_eq!((code, err.as_str()), (1, ""), "{out}");
+        assert!(!out.contains("holds"), "{out}");
+        assert!(out.contains("exact: no (cut short by "), "{out}");
+        assert_eq!(
+            out.matches("not known; nothing that was seen breaks it")
+                .count(),
+            2
+        );
+        assert!(out.contains("and there are more"), "{out}");
+        assert!(out.contains("runs that go on for ever: not known"), "{out}");
+        assert!(!out.contains("always follow"), "{out}");
+        arguments.push("--json");
+        let (code, out, _) = explore(text, &arguments);
+        assert_eq!(code, 1);
+        assert!(
+            out.contains("\"complete\": false, \"exact\": false"),
+            "{out}"
+        );
+        assert!(!out.contains("\"holds\""), "{out}");
+        arguments.pop();
+        arguments.push("--engine");
+        let (code, out, _) = explore(text, &arguments);
+        assert_eq!(code, 1);
+        assert!(!out.contains("holds"), "{out}");
+        assert!(out.contains("not compared"), "{out}");
+        arguments.pop();
+        arguments.push("--groups");
+        let (code, out, _) = explore(text, &["--groups", "--seconds", "0", "--never", "d > 300"]);
+        assert_eq!(code, 1);
+        assert!(!out.contains("holds"), "{out}");
+        assert!(out.contains("not all is known"), "{out}");
+    }
+}
+
+/// What is found before the cut is found all the same.
+#[test]
+fn a_cut_run_may_find_a_fault() {
+    let text = "tray a has 200\ntray b\ntray c\ntray d\n\
+        rule one is repeatedly take a then put b\nrule two is repeatedly take b then put c\n\
+        rule three is repeatedly take c then put d\nstart one beside two beside three\n";
+    let (code, out, _) = explore(text, &["--memory", "1", "--never", "d > 0"]);
+    assert_eq!(code, 1);
+    assert!(out.contains("never d > 0: broken after 6 steps"), "{out}");
+    assert!(all_replay(text, &out) > 0);
+}
+
+/// The desk opens while the giver still stands there, with no room for two puts;
+/// the giver goes, and now there is room for what the desk saw before. Without
+/// notes the desk would only ever see what the giver has put.
+#[test]
+fn a_fault_that_only_notes_show() {
+    let text = "tray a\ntray c\ntray d\nrule giver is put a\n\
+        rule desk is block (take a, end or else put c, put c, end)\n\
+        rule idle is take d then nothing\nstart desk beside giver beside 62 of idle\n";
+    let (code, out, err) = explore(text, &["--never", "c > 1"]);
+    assert_eq!((code, err.as_str()), (1, ""), "{out}");
+    let told = out.replace('\n', " ");
+    assert!(
+        told.contains("explored with notes of what each attempt found"),
+        "{out}"
+    );
+    assert!(
+        told.contains("never c > 1: broken after 5 steps: a 1, c 2"),
+        "{out}"
+    );
+    assert!(told.contains("ways never taken: none"), "{out}");
+    assert_eq!(all_replay(text, &out), 4, "{out}");
+    let (_, out, _) = explore(text, &["--engine", "--never", "c > 1"]);
+    assert!(
+        out.contains("the same situations and the same ends"),
+        "{out}"
+    );
+    assert!(out.contains("never c > 1: broken"), "{out}");
+    assert_eq!(all_replay(text, &out), 1, "{out}");
+    // Three puts have no room even then: the desk opens and never acts.
+    let tighter = text.replace("put c, put c, end", "put c, put c, put c, end");
+    let tighter = tighter.replace("take a, end", "take a, take a, end");
+    let (_, out, _) = explore(&tighter, &[]);
+    assert!(
+        out.contains("stations that never act: desk, idle\n"),
+        "{out}"
+    );
+    // With one station fewer there is room, and no need for notes.
+    let roomy = text.replace("62 of", "61 of");
+    let (code, out, _) = explore(&roomy, &["--never", "c > 1"]);
+    assert_eq!(code, 1);
+    assert!(
+        out.contains("the limit of 64 stations was never met"),
+        "{out}"
+    );
 }

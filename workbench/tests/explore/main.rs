@@ -9,6 +9,7 @@
 
 mod command;
 mod common;
+mod contradictions;
 mod doubts;
 mod halls;
 mod questions;

@@ -209,23 +209,23 @@ impl Met {
 #[test]
 fn contended_halls() {
     let mut met = Met::default();
-    for seed in 0..2_000 {
+    for seed in 0..1_500 {
         let table = contended_table(&mut Random::new(seed));
         met.compare(&table, &format!("contended {seed}"));
     }
-    assert!(met.halls > 500 && met.full_tray > 5, "{met:?}");
+    assert!(met.halls > 350 && met.full_tray > 5, "{met:?}");
 }
 
 #[test]
 fn any_small_halls() {
     let mut met = Met::default();
-    for seed in 0..2_500 {
+    for seed in 0..2_000 {
         let mut random = Random::new(seed);
         let shape = Shape::small(&mut random);
         let table = accepted_table(&mut random, shape);
         met.compare(&table, &format!("any {seed}"));
     }
-    assert!(met.halls > 1_300 && met.full_tray > 10, "{met:?}");
+    assert!(met.halls > 1_200 && met.full_tray > 10, "{met:?}");
     assert!(
         met.broken > 500 && met.ends > 1_000 && met.rounds > 20,
         "{met:?}"
@@ -235,13 +235,13 @@ fn any_small_halls() {
 #[test]
 fn halls_near_the_limits() {
     let mut met = Met::default();
-    for seed in 0..600 {
+    for seed in 0..450 {
         let table = near_the_limits(&mut Random::new(seed));
         met.compare(&table, &format!("near the limits {seed}"));
     }
-    assert!(met.halls > 300 && met.full_tray > 30, "{met:?}");
+    assert!(met.halls > 200 && met.full_tray > 20, "{met:?}");
     assert!(
-        met.with_notes > 30 && met.without_alternatives > 10,
+        met.with_notes > 20 && met.without_alternatives > 10,
         "{met:?}"
     );
 }

@@ -62,6 +62,19 @@ fn undo() {
     assert_eq!(answer.code, Some(0));
 }
 
+/// What was explained before it was taken back is explained again.
+#[test]
+fn undo_of_what_was_explained() {
+    let folder = scratch("explained");
+    let text = "tray a\nrule giver is put a\nrule taker is take a then nothing\nstart giver beside taker\n";
+    fs::write(folder.join("a.hall"), text).unwrap();
+    let input = b"act giver\nact taker\nu\nact taker\nq\n";
+    let answer = hall_in(&folder, &["play", "a.hall"], input);
+    let parts = parts(&answer);
+    assert!(parts[2].contains("(COM): the tray"), "{}", parts[2]);
+    assert_eq!(parts[2], parts[4]);
+}
+
 /// Names, as a lesson says them; `board` and `why` as written.
 #[test]
 fn words_of_a_lesson() {
