@@ -17,6 +17,7 @@
 //! | [`lesson`] | choices made one by one, and once more as whole runs |
 //! | [`rules`], [`sentences`], [`refusals`] | what a choice did, or why it is refused, in words |
 //! | [`board`], [`why`](mod@why) | the hall as it stands; what an attempt will come to |
+//! | [`explore`] | every way a hall can go: situations, ends, questions, witnesses |
 //! | [`input`], [`bytes_told`], [`json`], [`style`] | files, refusals of bytes, objects, colour |
 //! | [`commands`] | the commands, their streams and exit codes |
 

@@ -10,7 +10,7 @@ use workbench::style::Style;
 
 use crate::common::{called, hall, hall_in, package, raw_hall_in, scratch, Answer};
 
-const COMMANDS: [&str; 5] = ["check", "build", "show", "run", "play"];
+const COMMANDS: [&str; 6] = ["check", "build", "show", "run", "play", "explore"];
 
 const TEXT: &str = "tray a has 1\ntray b\nrule desk is block (take a, put b, end)\nstart desk\n";
 const TABLE: [u8; 14] = [7, 10, 1, 0, 9, 0, 1, 6, 2, 12, 0, 1, 13, 3];
