@@ -379,6 +379,11 @@ mod tests {
         let commit = "act both step both step both act porter 1 act porter 2 \
                       act scanner 1 act scanner 2 act both";
         assert_eq!(handovers(&two, commit), [false; 8]);
+        // A commit that takes another token too is more than a handover.
+        let mixed = "tray a has 1\ntray c has 1\nrule scanner is put a\nrule porter is take a then nothing\n\
+                     rule mixed is block (take a, take c, end)\nstart mixed beside porter beside scanner";
+        let commit = "act mixed step mixed step mixed act porter act scanner act mixed";
+        assert_eq!(handovers(mixed, commit), [false; 6]);
     }
 
     #[test]

@@ -113,6 +113,14 @@ fn what_a_text_builds_is_reduced() {
     }
 }
 
+/// Tokens stand in a table by tray, in whatever order a text names the trays.
+#[test]
+fn tokens_by_tray() {
+    let text = "tray 5 far has 1\ntray 2 near has 2\ntray next\nstart put far beside put next\n";
+    let bytes = [2, 5, 2, 3, 5, 0, 1, 12, 2, 2, 12, 5, 1, 13, 2];
+    assert_eq!(understood("trays out of order", text).table.bytes(), bytes);
+}
+
 /// (e) The exact text rebuilds every byte.
 #[test]
 fn exact_texts_rebuild_every_byte() {
