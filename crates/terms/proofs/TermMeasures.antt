@@ -3,7 +3,7 @@
 -- Assumes nothing.
 use Prim.Native.Nat.{ℕ, _+_, _≤_, _<_, max}
 use native.Mathlib.Omega.{arith}
-use mathlib.Core.Path.{_≡_, refl, sym, ap₂, _∙_}
+use mathlib.Core.Path.{_≡_, refl, sym, subst, ap₂, _∙_}
 use mathlib.Core.Logic.{_⊎_, inl, inr}
 use mathlib.Core.Option.{some}
 use mathlib.Core.List.{List}
@@ -121,11 +121,10 @@ into d kept i ts t x b u e = record {
   entry = λ h. e;
 }
 
--- a subterm at number p, which a field has, as the number b: it can be walked, and the walk goes down. A term at number i
--- counts 2 · i, a part at b counts 2 · b + 1, since it may be walked at the same number.
+-- a subterm at number p, which a field has, as the number b: it can be walked, and the walk goes down
 module _ (d : List ℕ) (kept i : ℕ) (m : Measurable d kept i) (p : ℕ) (u : Term) (z : Subterm (m .terms) i p u)
     (f : ℕ) (o : f ≡ p) (b : ℕ) (q : b ≡ f) where
-  side-falls : (n : ℕ) → i + i ≡ n → b + b + 1 < n
+  side-falls : (n : ℕ) → i ≡ n → b < n
   side-falls n e = let l = z .below in omega arith
 
   side : Measurable d kept b
@@ -167,14 +166,14 @@ module _ (d : List ℕ) (kept i : ℕ) (m : Measurable d kept i) where
     both h = sides-at (m .terms) (m .tree) (m .there) h
 
     module _ (h : Two k) (f : ℕ) (o : f ≡ firstAt d i) (a : ℕ) (q : a ≡ f) where
-      pub left-falls : (n : ℕ) → i + i ≡ n → a + a + 1 < n
+      pub left-falls : (n : ℕ) → i ≡ n → a < n
       left-falls n e = side-falls d kept i m _ _ (both h .first) f o a q n e
 
       pub left-side : Measurable d kept a
       left-side = side d kept i m _ _ (both h .first) f o a q
 
     module _ (h : Two k) (g : ℕ) (u : g ≡ secondAt d i) (b : ℕ) (v : b ≡ g) where
-      pub right-falls : (n : ℕ) → i + i ≡ n → b + b + 1 < n
+      pub right-falls : (n : ℕ) → i ≡ n → b < n
       right-falls n e = side-falls d kept i m _ _ (both h .second) g u b v n e
 
       pub right-side : Measurable d kept b
@@ -209,7 +208,7 @@ module _ (d : List ℕ) (kept i : ℕ) (m : Measurable d kept i) where
     -- ---- one part
 
     module _ (h : kindByte rdK ≤ k) (j : k < kindByte orElseK) (g : ℕ) (u : g ≡ secondAt d i) (b : ℕ) (v : b ≡ g) where
-      pub rest-falls : (n : ℕ) → i + i ≡ n → b + b + 1 < n
+      pub rest-falls : (n : ℕ) → i ≡ n → b < n
       rest-falls n e = side-falls d kept i m _ _ (rest-at (m .terms) (m .tree) (m .there) h j .second) g u b v n e
 
       pub rest-side : Measurable d kept b
@@ -233,3 +232,50 @@ module _ (d : List ℕ) (kept i : ℕ) (m : Measurable d kept i) where
             go : (ts : List Term) (t : Term) → TermAt d kept i ts t → Rest ts i (secondAt d i) t →
                 (o ≡ breadth t) × (n ≡ termLength t)
             go ts t x s = let z = found-rest ts t x s in (f ∙ z .0 ∙ sym (s .same), e ∙ rw (z .1) (sym (s .longer)))
+
+-- ---- a term behind all that are kept: its parts are looked up
+
+module _ (d : List ℕ) (i : ℕ) (m : Measurable d i i) (k : ℕ) (p : k ≡ kindAt d i) where
+  module _ (h : Two k) (f : ℕ) (o : f ≡ firstAt d i) (a : ℕ) (q : a ≡ f) where
+    pub left-inside : a < maxTerms
+    left-inside = left-side d i i m k p h f o a q .there .inside
+
+    left-found : (bl : ℕ) → bl ≡ breadthAt d a → (ll : ℕ) → ll ≡ lengthAt d a → MeasuresOf d i a bl ll
+    left-found bl x ll y = looked-up d i a (left-side d i i m k p h f o a q) (left-falls d i i m k p h f o a q i refl) bl x ll y
+
+    module _ (g : ℕ) (u : g ≡ secondAt d i) (b : ℕ) (v : b ≡ g) where
+      pub right-inside : b < maxTerms
+      right-inside = right-side d i i m k p h g u b v .there .inside
+
+      right-found : (br : ℕ) → br ≡ breadthAt d b → (lr : ℕ) → lr ≡ lengthAt d b → MeasuresOf d i b br lr
+      right-found br x lr y = looked-up d i b (right-side d i i m k p h g u b v) (right-falls d i i m k p h g u b v i refl) br x lr y
+
+      module _ (bl : ℕ) (x : bl ≡ breadthAt d a) (ll : ℕ) (y : ll ≡ lengthAt d a)
+          (br : ℕ) (z : br ≡ breadthAt d b) (lr : ℕ) (w : lr ≡ lengthAt d b) where
+        pub kept-sum-fits : bl + br < 256
+        kept-sum-fits = sum-fits d i i m k p h g u b v f o a q bl ll (left-found bl x ll y) br lr (right-found br z lr w)
+
+        pub kept-sides-measured : (j n : ℕ) → j ≡ bl + br → n ≡ max ll lr → MeasuresOf d i i j n
+        kept-sides-measured = sides-measured d i i m k p h g u b v f o a q bl ll (left-found bl x ll y) br lr (right-found br z lr w)
+
+  module _ (h : kindByte rdK ≤ k) (j : k < kindByte orElseK) (g : ℕ) (u : g ≡ secondAt d i) (b : ℕ) (v : b ≡ g) where
+    pub rest-inside : b < maxTerms
+    rest-inside = rest-side d i i m k p h j g u b v .there .inside
+
+    module _ (br : ℕ) (z : br ≡ breadthAt d b) (lr : ℕ) (w : lr ≡ lengthAt d b) where
+      rest-found : MeasuresOf d i b br lr
+      rest-found = looked-up d i b (rest-side d i i m k p h j g u b v) (rest-falls d i i m k p h j g u b v i refl) br z lr w
+
+      pub kept-longer-fits : 1 + lr < 256
+      kept-longer-fits = longer-fits d i i m k p h j g u b v br lr rest-found
+
+      pub kept-rest-measured : (o n : ℕ) → o ≡ br → n ≡ 1 + lr → MeasuresOf d i i o n
+      kept-rest-measured = rest-measured d i i m k p h j g u b v br lr rest-found
+
+-- ---- all terms before this one are kept
+
+pub kept-up-to : (d : List ℕ) (kept i : ℕ) → Measurable d kept i → kept ≡ i → Measurable d i i
+kept-up-to d kept i m e = subst (λ k. Measurable d k i) e m
+
+pub measured-up-to : (d : List ℕ) (kept i b l : ℕ) → MeasuresOf d i i b l → kept ≡ i → MeasuresOf d kept i b l
+measured-up-to d kept i b l m e = subst (λ k. MeasuresOf d k i b l) (sym e) m

@@ -165,36 +165,57 @@ fn kept_measures(decoded: &[u8; DECODED], i: usize) -> Measures
     }
 }
 
-// The measures of a part of a term: looked up where it is one of the first `kept` terms, whose measures stand in the
-// decoded table, else walked.
-fn part_measures(decoded: &[u8; DECODED], kept: usize, part: usize) -> Measures
-    requires { ⌜ Measurable (now decoded) kept part ⌝ }
-    ensures { λ m. ⌜ MeasuresOf (now (decoded .entry)) kept part (m .breadth) (m .length) ⌝ }
-{
-    if part < kept {
-        return kept_measures(decoded, part);
-    }
-    measures_of(decoded, kept, part)
-}
-
-// The measures of the term at a number, over the unfolded term: a walk down to the parts that are kept. References go to
-// smaller numbers. With none kept, the whole term is walked.
-pub fn measures_of(decoded: &[u8; DECODED], kept: usize, at: usize) -> Measures
+// The walk: the measures of the term at a number, over the unfolded term. References go to smaller numbers. The measures
+// of the first `kept` terms stand in the decoded table and are looked up; with none kept, the whole term is walked.
+fn walked_measures(decoded: &[u8; DECODED], kept: usize, at: usize) -> Measures
     requires { ⌜ Measurable (now decoded) kept at ⌝ }
     ensures { λ m. ⌜ MeasuresOf (now (decoded .entry)) kept at (m .breadth) (m .length) ⌝ }
 {
+    if at < kept {
+        return kept_measures(decoded, at);
+    }
     match kind_of(decoded, at) {
         PAR | OR_ELSE => {
-            let left = part_measures(decoded, kept, wide(first_of(decoded, at)));
-            let right = part_measures(decoded, kept, wide(second_of(decoded, at)));
+            let left = walked_measures(decoded, kept, wide(first_of(decoded, at)));
+            let right = walked_measures(decoded, kept, wide(second_of(decoded, at)));
             of_both(left, right)
         }
-        RD | WT => of_longer(part_measures(decoded, kept, wide(second_of(decoded, at)))),
+        RD | WT => of_longer(walked_measures(decoded, kept, wide(second_of(decoded, at)))),
         _ => Measures {
             breadth: 1,
             length: 0,
         },
     }
+}
+
+// The walk's one turn where all parts are kept, written out: the compiler makes calls of the walk's own.
+fn new_measures(decoded: &[u8; DECODED], at: usize) -> Measures
+    requires { ⌜ Measurable (now decoded) at at ⌝ }
+    ensures { λ m. ⌜ MeasuresOf (now (decoded .entry)) at at (m .breadth) (m .length) ⌝ }
+{
+    match kind_of(decoded, at) {
+        PAR | OR_ELSE => {
+            let left = kept_measures(decoded, wide(first_of(decoded, at)));
+            let right = kept_measures(decoded, wide(second_of(decoded, at)));
+            of_both(left, right)
+        }
+        RD | WT => of_longer(kept_measures(decoded, wide(second_of(decoded, at)))),
+        _ => Measures {
+            breadth: 1,
+            length: 0,
+        },
+    }
+}
+
+// The measures of the term at a number, the first `kept` terms' being kept.
+pub fn measures_of(decoded: &[u8; DECODED], kept: usize, at: usize) -> Measures
+    requires { ⌜ Measurable (now decoded) kept at ⌝ }
+    ensures { λ m. ⌜ MeasuresOf (now (decoded .entry)) kept at (m .breadth) (m .length) ⌝ }
+{
+    if kept == at {
+        return new_measures(decoded, at);
+    }
+    walked_measures(decoded, kept, at)
 }
 
 // 7: a process's width, or an expression's branches or length, is over its limit.
