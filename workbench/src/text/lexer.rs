@@ -159,6 +159,16 @@ mod tests {
     }
 
     #[test]
+    fn an_arrow_is_no_part_of_a_name() {
+        let source = Source::new("", "desk->a-b- ->");
+        let pieces: Vec<&str> = tokens(&source)
+            .iter()
+            .map(|token| source.piece(token.span))
+            .collect();
+        assert_eq!(pieces, ["desk", "->", "a-b-", "->", ""]);
+    }
+
+    #[test]
     fn the_end_is_behind_the_last_piece() {
         let all = tokens(&Source::new("", "put a  # more\n\n"));
         assert_eq!(all.last().map(|token| token.span.start), Some(5));
