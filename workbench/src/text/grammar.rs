@@ -5,7 +5,7 @@ use super::lexer::{Kind, Token};
 use super::problems::{Level, Problem};
 use super::reader::{Read, Reader};
 use super::source::{Source, Span};
-use super::tree::{Class, Definition, Program, Tray};
+use super::tree::{Class, Definition, PartKind, Program, Tray};
 use super::words;
 use crate::table::TRAYS;
 
@@ -209,13 +209,15 @@ impl Reader<'_> {
         };
         self.defining = None;
         self.depth = 0;
+        // A part of its own, so that no name can lead back to itself.
+        let kept = body.unwrap_or_else(|_| self.program.add(PartKind::Nothing, span));
         if let Some(problem) = twice {
             self.report(problem);
         } else {
             self.add_definition(Definition {
                 class,
                 name,
-                body: body.unwrap_or(0),
+                body: kept,
                 span,
             });
         }

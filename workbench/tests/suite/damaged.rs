@@ -186,6 +186,19 @@ fn damaged_choices() {
     assert!(right > 500 && wrong > 3_000, "{right} and {wrong}");
 }
 
+/// A rule whose body is wrong is a name all the same, which leads nowhere.
+#[test]
+fn a_broken_rule_leads_nowhere() {
+    let source = Source::new(
+        "some",
+        "tray a\nrule one is )\nrule two is one then put a\nstart two\n",
+    );
+    let Err(Misunderstood::Problems(problems)) = understand(&source) else {
+        panic!("accepted");
+    };
+    assert_eq!(problems.len(), 2);
+}
+
 /// Text that never was one.
 #[test]
 fn letters_by_chance() {
