@@ -210,9 +210,9 @@ impl Reader<'_> {
                 .help("to go on after a block, put a token in it and, beside it, take that token:")
                 .help("block (..., put ready, end) beside (take ready then ...)"),
             PartKind::Put(_) => Problem::error(span, "nothing follows a put by itself")
-                .label("it needs a helper tray")
-                .help("for one put after the other, lay the first with a block that puts a helper token too:")
-                .help("block (put first, put ready, end) beside (take ready then put second)"),
+                .label("nobody knows when it is done")
+                .help("for one put after the other, let the second take the token that the first puts:")
+                .help("put first beside (take first then put second)"),
             _ => Problem::error(span, "'then' follows a take")
                 .label("as 'take batch then ...'"),
         }

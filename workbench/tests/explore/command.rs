@@ -302,6 +302,57 @@ fn a_picture() {
     assert!(err.contains("more than 400 situations"), "{err}");
 }
 
+/// A block that never acts takes none of its ways.
+#[test]
+fn ways_of_a_block_that_never_acts() {
+    let text = "tray a\ntray b\nrule desk is block (take a, put b, end or else take b, end)\n\
+        rule guest is take a then desk\n";
+    for start in ["desk", "guest"] {
+        let (_, out, _) = explore(format!("{text}start {start}\n"), &[]);
+        let ways = "ways never taken: way 1 of desk (take a, put b); way 2 of desk (take b)\n";
+        assert!(out.contains(ways), "{out}");
+    }
+}
+
+/// The examples called `pattern-..` do what their words say, and what the error
+/// messages advise does too.
+#[test]
+fn patterns_do_what_they_say() {
+    let folder = PathBuf::from(env!("CARGO_MANIFEST_DIR")).join("examples");
+    let pattern = |name: &str| fs::read_to_string(folder.join(name)).unwrap();
+    // Nobody is left who could still put the first.
+    let order = pattern("pattern-one-after-the-other.hall");
+    let (code, out, _) = explore(&order, &["--never", "signed = 1 and stations > 0"]);
+    assert_eq!(code, 0, "{out}");
+    let (code, out, _) = explore(&order, &["--ends", "signed = 1"]);
+    assert_eq!(code, 0, "{out}");
+    let trays = "tray first tray second tray ready start ";
+    let asked = ["--never", "second = 1 and stations > 0"];
+    let (_, _, err) = hall(
+        &["check", "-"],
+        format!("{trays} put first then put second\n"),
+    );
+    let advice = err.lines().last().unwrap().trim_start_matches([' ', '=']);
+    let (code, out, _) = explore(format!("{trays}{advice}\n"), &asked);
+    assert_eq!(code, 0, "{advice}\n{out}");
+    // Puts of one block are not ordered.
+    for unordered in [
+        "block (put first, put ready, end) beside (take ready then put second)",
+        "put first beside block (take first, put first, put second, end)",
+    ] {
+        let (code, out, _) = explore(format!("{trays}{unordered}\n"), &asked);
+        assert_eq!(code, 1, "{unordered}\n{out}");
+    }
+    // The second batch stays in its tray until somebody finishes.
+    let busy = pattern("pattern-busy-until-done.hall");
+    let (code, out, _) = explore(&busy, &["--never", "working > 1", "--ends", "done = 2"]);
+    assert_eq!(code, 0, "{out}");
+    let alone = busy.replace("start begin beside finish", "start begin");
+    let alone = alone.split("choices\n").next().unwrap();
+    let (code, out, _) = explore(alone, &["--never", "batch = 0", "--ends", "batch = 1"]);
+    assert_eq!(code, 0, "{out}");
+}
+
 #[test]
 fn what_the_report_says() {
     let text = "tray a\ntray b has 1\ntray c\n\
@@ -317,7 +368,8 @@ fn what_the_report_says() {
         "trays: a always 0, b 0 to 1, c always 0\n",
         "stations that never act: lonely, stuck\n",
         "stations that never come to stand there: lonely (at 'put c') / put c (from quick) / put c (from",
-        "ways never taken: way 2 of quick (take b, put c)\n",
+        "ways never taken: way 1 of stuck (take a, take a, put c); way 2 of stuck (take c); way 2 of\n",
+        "                  quick (take b, put c)\n",
         "runs that go on for ever: yes, even without a commit; the last 2 choices can be made",
         "limits of the engine met: none\n",
     ] {

@@ -61,7 +61,7 @@ fn every_command_has_a_page_that_fits_a_screen() {
         );
         for text in [&overview.out, &page.out] {
             assert!(text.lines().count() <= 24, "{text}");
-            assert!(text.lines().all(|line| line.len() <= 100), "{text}");
+            assert!(text.lines().all(|line| line.len() <= 80), "{text}");
         }
     }
 }
