@@ -216,6 +216,19 @@ fn the_smallest_group() {
     assert_eq!(out.matches("\"verdict\": \"holds\"").count(), 7);
 }
 
+/// What is missing makes an end too early, which is said where ends are asked
+/// about.
+#[test]
+fn ends_of_groups() {
+    let early = "\n\nMind that a hall from which somebody is missing often ends too early";
+    let (code, out, _) = explore(BALLOTS, &["--groups", "--ends", "counted = 1"]);
+    assert_eq!(code, 1, "{out}");
+    assert!(out.contains("shows the fault has 1 part."), "{out}");
+    assert!(out.contains(early), "{out}");
+    let (_, out, _) = explore(BALLOTS, &["--groups", "--never", "counted > 1"]);
+    assert!(!out.contains("Mind"), "{out}");
+}
+
 /// Of `n of` each number is a group; the start line printed opens that group.
 #[test]
 fn groups_of_copies() {
@@ -282,7 +295,7 @@ fn wrong_calls() {
     let (code, out, _) = hall(&["explore", "--help"], "");
     assert_eq!(code, 0);
     assert!(
-        out.lines().count() <= 30 && out.lines().all(|line| line.len() <= 100),
+        out.lines().count() <= 24 && out.lines().all(|line| line.len() <= 80),
         "{out}"
     );
 }
