@@ -315,7 +315,7 @@ impl Playing<'_, '_, '_> {
             )?,
             // One plays on: the choices are not lost.
             Err(Failure::File(words) | Failure::Usage(words)) => {
-                writeln!(self.streams.out, "      {words}")?
+                writeln!(self.streams.out, "      {words}")?;
             }
             Err(failure) => return Err(failure),
         }

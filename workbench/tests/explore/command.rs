@@ -380,11 +380,22 @@ fn what_the_report_says() {
         "No end: whatever happens, something can always follow.",
         "trays: a always 0, b 0 to 1, c always 0\n",
         "stations that never act: lonely, stuck\n",
-        "stations that never come to stand there: lonely (at 'put c') / put c (from quick) / put c (from",
+        "stations that never stand in the hall: lonely (at 'put c') / put c (from quick) / put c (from",
         "ways never taken: way 1 of stuck (take a, take a, put c); way 2 of stuck (take c); way 2 of\n",
         "                  quick (take b, put c)\n",
         "runs that go on for ever: yes, even without a commit; the last 2 choices can be made",
         "limits of the engine met: none\n",
+    ] {
+        assert!(out.contains(words), "{words}\n{out}");
+    }
+    let (_, out, _) = explore(
+        "tray a\nrule two is block (take a, end or else retry)\nrule one is block (retry)\n\
+         start two beside one\n",
+        &[],
+    );
+    for words in [
+        "     two tries for ever: in way 1 a is short by 1; way 2 gives up by itself\n",
+        "     one tries for ever: its way gives up by itself\n",
     ] {
         assert!(out.contains(words), "{words}\n{out}");
     }
