@@ -120,5 +120,6 @@ and a limit is met. Ways are choices for 'hall run', made on the engine before.
   --memory MB      the same; 2000 where nothing is said
   --json           one object, for programs
   --binary         FILE is a table, whatever it looks like
-Exit: 1 where something asked is broken, or was not found out.
+Exit: 1 where something asked is broken or was not found out, or --engine had to
+stop before it could compare.
 ";

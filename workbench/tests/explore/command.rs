@@ -360,6 +360,9 @@ fn patterns_do_what_they_say() {
     let busy = pattern("pattern-busy-until-done.hall");
     let (code, out, _) = explore(&busy, &["--never", "working > 1", "--ends", "done = 2"]);
     assert_eq!(code, 0, "{out}");
+    // The free token may come down before the result.
+    let (code, out, _) = explore(&busy, &["--never", "batch = 0 and done = 0"]);
+    assert_eq!(code, 1, "{out}");
     let alone = busy.replace("start begin beside finish", "start begin");
     let alone = alone.split("choices\n").next().unwrap();
     let (code, out, _) = explore(alone, &["--never", "batch = 0", "--ends", "batch = 1"]);
