@@ -22,6 +22,9 @@ pub(super) fn build(args: &Args, streams: &mut Streams<'_>) -> Outcome {
             "build: bytes do not belong on a terminal: add -o FILE".to_owned(),
         ));
     }
+    if let Some(file) = &args.output {
+        not_over(name, file)?;
+    }
     let mut loaded = match load::load(name, args.has("--binary"), streams) {
         Ok(loaded) => loaded,
         Err(unloaded) => return refused(name, unloaded, false, streams),
@@ -112,6 +115,20 @@ fn left_out(
     let problem = Problem::note(line.span, "a refused choice ends a list of choices")
         .label(format!("{left} behind it left out"));
     load::tell(source, &[problem], streams)
+}
+
+/// Nothing is written over the file that is read, by whatever path it is named.
+///
+/// # Errors
+///
+/// Where both are the same.
+pub(super) fn not_over(read: &str, file: &str) -> Result<(), Failure> {
+    match (fs::canonicalize(read), fs::canonicalize(file)) {
+        (Ok(first), Ok(second)) if read != "-" && first == second => Err(Failure::Usage(format!(
+            "{file} is the file that is read, and is not written over: name another"
+        ))),
+        _ => Ok(()),
+    }
 }
 
 /// Writes a new file beside the wanted one and renames it: whoever looks finds

@@ -2,9 +2,9 @@
 
 /// The commands.
 pub const OVERVIEW: &str = "\
-hall, the workbench of the hall engine: rules as text, runs that explain themselves
+hall, the workbench of the hall engine: rules as text, runs in sentences
 
-  hall check FILE [HALL]       is it accepted, and how much of each limit is used
+  hall check FILE [HALL]       is it accepted, and how near is each limit
   hall build FILE -o TABLE     the bytes of a text's table
   hall show FILE               the text of a table
   hall run FILE [CHOICES]      a lesson, choice by choice, in sentences
@@ -13,8 +13,9 @@ hall, the workbench of the hall engine: rules as text, runs that explain themsel
   hall help COMMAND            more about one of them
 
 FILE is a text or a table of bytes; - is standard input.
-Exit: 0 accepted, or as expected; 1 refused, or an expectation missed; 2 called wrongly;
-3 a file cannot be read or written; 70 the program contradicts itself.
+Exit: 0 accepted, or as expected; 1 refused, or an expectation missed;
+2 called wrongly; 3 a file cannot be read or written; 70 the program contradicts
+itself.
 ";
 
 /// The page of a command.
@@ -34,11 +35,11 @@ pub fn page(command: &str) -> Option<&'static str> {
 const CHECK: &str = "\
 usage: hall check FILE [HALL] [--json] [--binary]
 
-Says whether the engine accepts a text or a table, and how much of each limit it uses.
-Errors have a line and a column of the text, or a byte of the table.
+Says whether the engine accepts a text or a table, and how much of each limit it
+uses. Errors have a line and a column of the text, or a byte of the table.
 
-  HALL       a stored hall: is it one of this table's? Then FILE is a table of bytes,
-             since a rebuilt table may number its terms differently.
+  HALL       a stored hall: is it one of this table's? Then FILE is a table of
+             bytes, since a rebuilt table may number its terms differently.
   --json     one object on a line, for programs
   --binary   FILE is a table, whatever it looks like
 ";
@@ -46,34 +47,35 @@ Errors have a line and a column of the text, or a byte of the table.
 const BUILD: &str = "\
 usage: hall build FILE [-o TABLE] [--choices] [--binary]
 
-Makes the table of a text and asks the engine about it. The table is read back and compared
-with the text before it is handed out.
+Makes the table of a text and asks the engine about it. The table is read back
+and compared with the text before it is handed out.
 
-  -o TABLE    writes the bytes to this file; else they go to standard output, which must not
-              be a terminal
-  --choices   the lesson's choices stand behind the table, as the program that prints a run
-              wants them
+  -o TABLE    writes the bytes to this file; else they go to standard output,
+              which must not be a terminal
+  --choices   the lesson's choices stand behind the table, as the program that
+              prints a run wants them
   --binary    FILE is a table, whatever it looks like
 ";
 
 const SHOW: &str = "\
 usage: hall show FILE [--exact] [--binary]
 
-Prints the text of a table, or of a text's table. What it prints builds the same table again,
-without the terms that nothing uses and with equal terms made one.
+Prints the text of a table, or of a text's table. What it prints builds the same
+table again, without the terms that nothing uses and with equal terms made one.
 
-  --exact    one line a record: it builds the very same bytes, which a signed table needs, and
-             stored halls, since these hold term numbers
+  --exact    one line a record: it builds the very same bytes, which a signed
+             table needs, and stored halls, since these hold term numbers
   --binary   FILE is a table, whatever it looks like
 ";
 
 const RUN: &str = "\
 usage: hall run FILE [CHOICES] [--board] [--quiet] [--json] [--binary]
 
-Makes the choices of a lesson one by one and says what each did. 'board' in the lesson draws
-the hall, 'why clerk' says what an attempt will come to, '=> commits' states an answer that is
-checked. After an expected refusal the lesson goes on as a new call. In the end one run over
-each call's choices must lead to the same hall.
+Makes the choices of a lesson one by one and says what each did. 'board' in the
+lesson draws the hall, 'why clerk' says what an attempt will come to,
+'=> commits' states an answer that is checked. After an expected refusal the
+lesson goes on as a new call. In the end one run over each call's choices must
+lead to the same hall.
 
   CHOICES    a text of choices, or their bytes, instead of those in FILE
   --board    the hall after every choice
@@ -85,9 +87,9 @@ each call's choices must lead to the same hall.
 const PLAY: &str = "\
 usage: hall play FILE [CHOICES] [--binary]
 
-Shows the hall and the choices that the engine accepts, and makes the one that you name by its
-number, or as a lesson says it: act clerk, step clerk node 1. Enter takes the suggested one.
-CHOICES are made first.
+Shows the hall and the choices that the engine accepts, and makes the one that
+you name by its number, or as a lesson says it: act clerk, step clerk node 1.
+Enter takes the suggested one. CHOICES are made first.
 
   u          takes the last choice back
   b          the hall once more (board)
@@ -97,23 +99,27 @@ CHOICES are made first.
 ";
 
 const EXPLORE: &str = "\
-usage: hall explore FILE [--never Q] [--ends Q] [--groups] [--engine] [--all] [--save NAME]
-                    [--dot FILE] [--seconds N] [--memory MB] [--json] [--binary]
+usage: hall explore FILE [--never Q] [--ends Q] [--groups] [--engine] ..
 
-Tries every way the hall can go, a block acting in one step, and says: how many situations there
-are, where they end and who is left there, what each tray has at least and at most, who never
-acts, whether a run can go on for ever, and whether a limit of the engine was met. Each way it
-prints is choices text for 'hall run', and was made on the engine before it was printed.
+Tries every way the hall can go, a block acting in one step. Says where it ends
+and who is left, what trays have, who never acts, whether a run goes on for ever
+and a limit is met. Ways are choices for 'hall run', made on the engine before.
 
-  --never 'done > 2'           must be so in no situation: holds, or broken with a way to it
-  --ends 'win + lose = 3'      must be so at every end; = != < <= > >= + - and or not ( ), trays,
-                               numbers, and 'stations' for how many stand there
-  --groups                     asks the same of every group of the parts behind 'start', and names
-                               the smallest that shows the fault
-  --engine                     by the engine's own steps, every position and node: for small halls
-  --all                        every sort of end; else the nearest 12, with --json 1000
-  --save NAME                  each way as a file: NAME-end-1.choices, NAME-never-1.choices, ..
-  --dot FILE                   a picture of a small hall, for Graphviz
-  --seconds N, --memory MB     stop there (memory: 2000); then nothing is said to hold
-Exit: 1 where something asked is broken, or was not found out.
+  --never 'done > 2'       must be so in no situation
+  --ends 'win + lose = 3'  must be so at every end
+                           Quotes keep < and > from the shell. There are = != <
+                           <= > >= + - and or not ( ), trays, numbers, and
+                           'stations' for how many stand there.
+  --groups         asks it of every group of the parts behind 'start', and names
+                   the smallest that shows the fault
+  --engine         by the engine's own steps, and compares: for small halls
+  --all            every sort of end; else the nearest 12, with --json 1000
+  --save NAME      each way as a file: NAME-end-1.choices, NAME-never-1.choices
+  --dot PICTURE    a picture of a small hall, for Graphviz
+  --seconds N      stops there; then nothing is said to hold
+  --memory MB      the same; 2000 where nothing is said
+  --json           one object, for programs
+  --binary         FILE is a table, whatever it looks like
+Exit: 1 where something asked is broken or was not found out, or --engine had to
+stop before it could compare.
 ";

@@ -4,7 +4,7 @@ use std::fmt::Write as _;
 
 use ruonfidd::Choice;
 
-use super::build::write_whole;
+use super::build::{not_over, write_whole};
 use super::check::refused;
 use super::load;
 use super::run::problems::{lost_problem, missed, unexpected};
@@ -39,6 +39,8 @@ struct Playing<'a, 's, 't> {
     past: Vec<(Lesson<'a>, Teller<'a>, usize)>,
     /// What was chosen and answered, in words.
     said: Vec<String>,
+    /// The file that is played.
+    file: &'t str,
     streams: &'t mut Streams<'s>,
 }
 
@@ -76,6 +78,7 @@ pub(super) fn play(args: &Args, streams: &mut Streams<'_>) -> Outcome {
         teller: Teller::new(&loaded.table, &loaded.program),
         past: Vec::new(),
         said: Vec::new(),
+        file: name,
         streams,
     };
     for line in first.iter().flat_map(|script| &script.lines) {
@@ -303,14 +306,17 @@ impl Playing<'_, '_, '_> {
         for line in &self.said {
             let _ = writeln!(text, "  {line}");
         }
-        match write_whole(file, text.as_bytes()) {
+        let over = not_over(self.file, file);
+        match over.and_then(|()| write_whole(file, text.as_bytes())) {
             Ok(()) => writeln!(
                 self.streams.out,
                 "      {} written to {file}: hall run FILE {file} makes them again",
                 self.said.len()
             )?,
             // One plays on: the choices are not lost.
-            Err(Failure::File(words)) => writeln!(self.streams.out, "      {words}")?,
+            Err(Failure::File(words) | Failure::Usage(words)) => {
+                writeln!(self.streams.out, "      {words}")?;
+            }
             Err(failure) => return Err(failure),
         }
         Ok(Next::Menu)

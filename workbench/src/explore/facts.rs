@@ -251,7 +251,7 @@ impl Collector<'_> {
         model.kinds().iter().zip(marks)
     }
 
-    /// Of blocks that act.
+    /// Of all blocks, those that never act too.
     fn never_taken(&self, labels: &Labels) -> Vec<(String, usize, String)> {
         let mut never = Vec::new();
         for (code, (kind, (_, taken))) in (0_u8..).zip(self.kinds_with_marks()) {
@@ -259,7 +259,7 @@ impl Collector<'_> {
                 continue;
             };
             for (bit, way) in ways.iter().enumerate() {
-                if taken > 0 && taken >> bit & 1 == 0 {
+                if taken >> bit & 1 == 0 {
                     let words = action_words(self.program, &way.actions);
                     never.push((labels.told(code), way.number, words));
                 }

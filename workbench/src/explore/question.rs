@@ -263,6 +263,11 @@ impl Reader<'_> {
             Some(">") => Comparison::More,
             Some(">=") => Comparison::AtLeast,
             Some("==") => return Err(self.mistake("write '=' for '=='".to_owned())),
+            None => {
+                let words = "a comparison, one of = != < <= > >=, is wanted here, and there is \
+                    nothing more; put the question in quotes, since < and > are the shell's";
+                return Err(self.mistake(words.to_owned()));
+            }
             _ => return Err(self.unexpected("a comparison, one of = != < <= > >=")),
         };
         self.at += 1;

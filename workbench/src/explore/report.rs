@@ -191,7 +191,7 @@ impl Report<'_> {
         ));
         if !facts.never_open.is_empty() {
             lines.extend(wrapped(
-                &format!("stations that never come to stand there{so_far}: "),
+                &format!("stations that never stand in the hall{so_far}: "),
                 &list(&facts.never_open, ", "),
             ));
         }

@@ -133,15 +133,11 @@ fn block(table: &Table, program: &Program, now: &Moment, term: u8) -> (State, St
         .zip(&ways)
         .map(|(number, way)| {
             let short = shortages(&way.needs(), &now.counts);
-            let why = if short.is_empty() {
-                "gives up by itself".to_owned()
-            } else {
-                shortage_words(program, &short)
-            };
-            if several {
-                format!("in way {number} {why}")
-            } else {
-                why
+            match (short.is_empty(), several) {
+                (true, true) => format!("way {number} gives up by itself"),
+                (true, false) => "its way gives up by itself".to_owned(),
+                (false, true) => format!("in way {number} {}", shortage_words(program, &short)),
+                (false, false) => shortage_words(program, &short),
             }
         })
         .collect();

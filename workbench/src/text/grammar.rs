@@ -5,7 +5,7 @@ use super::lexer::{Kind, Token};
 use super::problems::{Level, Problem};
 use super::reader::{Read, Reader};
 use super::source::{Source, Span};
-use super::tree::{Class, Definition, PartKind, Program, Tray};
+use super::tree::{Class, Definition, PartId, PartKind, Program, Tray};
 use super::words;
 use crate::table::TRAYS;
 
@@ -193,13 +193,16 @@ impl Reader<'_> {
         self.fail(problem)
     }
 
-    /// `rule NAME is P`, `plan NAME is M`. A name whose body is wrong is kept:
-    /// its uses are no further errors.
+    /// `rule NAME is P`, `plan NAME is M`. A name whose body is wrong, or missing,
+    /// is kept: its uses are no further errors.
     fn definition_item(&mut self, class: Class) -> Read<()> {
         let (name, span) = self.new_name(class.word())?;
         let twice = self.already(&name, span);
         if !self.accept("is") {
             let problem = self.no_is(class, &name);
+            if twice.is_none() {
+                self.define(class, name, span, None);
+            }
             return self.fail(problem);
         }
         self.defining = Some(name.clone());
@@ -209,19 +212,30 @@ impl Reader<'_> {
         };
         self.defining = None;
         self.depth = 0;
-        // A part of its own, so that no name can lead back to itself.
-        let kept = body.unwrap_or_else(|_| self.program.add(PartKind::Nothing, span));
         if let Some(problem) = twice {
             self.report(problem);
         } else {
-            self.add_definition(Definition {
-                class,
-                name,
-                body: kept,
-                span,
-            });
+            self.define(class, name, span, body.ok());
         }
         body.map(|_| ())
+    }
+
+    /// A rule or plan; one without a body gets a part of its own that does
+    /// nothing, so that names can be followed to their end.
+    fn define(&mut self, class: Class, name: String, span: Span, body: Option<PartId>) {
+        let body = body.unwrap_or_else(|| {
+            let kind = match class {
+                Class::Rule => PartKind::Nothing,
+                Class::Plan => PartKind::End,
+            };
+            self.program.add(kind, span)
+        });
+        self.add_definition(Definition {
+            class,
+            name,
+            body,
+            span,
+        });
     }
 
     fn no_is(&self, class: Class, name: &str) -> Problem {

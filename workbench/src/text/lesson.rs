@@ -175,8 +175,9 @@ impl Reader<'_> {
 
     /// What stands behind `=>`.
     fn expected(&mut self, ask: &Ask) -> Read<Option<Expected>> {
-        if self.peek().kind == Kind::Sign && self.text() == "->" {
-            let problem = Problem::error(self.peek().span, "'->' is not used here")
+        if self.peek().kind == Kind::Sign && matches!(self.text(), "->" | "=" | ":" | ":=") {
+            let sign = self.text();
+            let problem = Problem::error(self.peek().span, format!("'{sign}' is not used here"))
                 .label("write '=>' for what a choice answers");
             return self.fail(problem);
         }

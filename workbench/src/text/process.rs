@@ -126,6 +126,10 @@ impl Reader<'_> {
             Kind::Sign | Kind::HalfNumber | Kind::ForeignWord
         ) {
             self.bad_piece()
+        } else if self.begins_station() {
+            let next = self.text();
+            Problem::error(self.peek().span, "a station's take is followed by 'then'")
+                .label(format!("write 'then' before '{next}'"))
         } else {
             Problem::error(
                 self.last().behind(),
@@ -134,6 +138,17 @@ impl Reader<'_> {
             .label("add 'then nothing'")
         };
         self.fail(problem)
+    }
+
+    /// Whether a station begins here.
+    fn begins_station(&self) -> bool {
+        match (self.peek().kind, self.text()) {
+            (Kind::Open, _) | (Kind::Word, "take" | "put" | "block" | "repeatedly" | "nothing") => {
+                true
+            }
+            (Kind::Word, word) => self.definition(word).is_some() && !self.at_item(),
+            _ => false,
+        }
     }
 
     fn closed(&mut self) -> Read<PartId> {
@@ -162,7 +177,7 @@ impl Reader<'_> {
                 self.close_bracket(opened)?;
                 Ok(self.program.add(PartKind::Block(ways), token.span))
             }
-            (Kind::Word, word) if !super::words::reserved(word) => self.named(Class::Rule),
+            (Kind::Word, word) if self.may_be_named(word) => self.named(Class::Rule),
             _ => self.fail(self.no_station()),
         }
     }
@@ -210,9 +225,9 @@ impl Reader<'_> {
                 .help("to go on after a block, put a token in it and, beside it, take that token:")
                 .help("block (..., put ready, end) beside (take ready then ...)"),
             PartKind::Put(_) => Problem::error(span, "nothing follows a put by itself")
-                .label("it needs a helper tray")
-                .help("for one put after the other, lay the first with a block that puts a helper token too:")
-                .help("block (put first, put ready, end) beside (take ready then put second)"),
+                .label("nobody knows when it is done")
+                .help("for one put after the other, let the second take the token that the first puts:")
+                .help("put first beside (take first then put second)"),
             _ => Problem::error(span, "'then' follows a take")
                 .label("as 'take batch then ...'"),
         }

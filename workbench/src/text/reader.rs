@@ -231,7 +231,8 @@ impl<'a> Reader<'a> {
         }
     }
 
-    /// A new name for a `tray`, `rule` or `plan`.
+    /// A new name for a `tray`, `rule` or `plan`. A word of the language can't be
+    /// one, but is kept: its uses are no further errors.
     ///
     /// # Errors
     ///
@@ -243,7 +244,10 @@ impl<'a> Reader<'a> {
             Kind::Word if words::reserved(text) && !self.forgotten_name() => {
                 let message =
                     format!("'{text}' is a word of the language and cannot name a {what}");
-                Problem::error(token.span, message).label(format!("for example '{text}-1'"))
+                let problem = Problem::error(token.span, message);
+                self.report(problem.label(format!("for example '{text}-1'")));
+                self.advance();
+                return Ok((text.to_owned(), token.span));
             }
             Kind::Word if !words::reserved(text) && text.len() <= LONGEST_NAME => {
                 self.advance();
@@ -261,9 +265,20 @@ impl<'a> Reader<'a> {
     }
 
     /// Whether the word that stands where a name belongs begins something else:
-    /// then the name was left out.
+    /// then the name was left out. The first word of an item does, unless it
+    /// stands on the same line and what follows a name follows it.
     fn forgotten_name(&self) -> bool {
-        self.at_item() || self.is("is") || self.is("has")
+        if !self.at_item() || self.on_new_line() {
+            return self.at_item() || self.is("is") || self.is("has");
+        }
+        let behind = self.ahead(1);
+        let word = self.source.piece(behind.span);
+        let between = Span::new(self.peek().span.end, behind.span.start);
+        let named = behind.kind == Kind::End
+            || self.source.piece(between).contains('\n')
+            || matches!(word, "is" | "has")
+            || words::begins_item(word);
+        !named
     }
 
     /// What is wrong with a piece that no text has anywhere.

@@ -63,6 +63,13 @@ impl Reader<'_> {
         }
     }
 
+    /// Whether a word may be the name of a rule or plan. One of the language is
+    /// where it was written as a name, which is told there.
+    #[must_use]
+    pub fn may_be_named(&self, word: &str) -> bool {
+        !words::reserved(word) || self.definition(word).is_some()
+    }
+
     fn class_of(&self, index: usize) -> Class {
         self.program
             .definitions

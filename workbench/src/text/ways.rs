@@ -5,7 +5,6 @@ use super::problems::Problem;
 use super::reader::{Read, Reader};
 use super::source::Span;
 use super::tree::{Class, PartId, PartKind};
-use super::words;
 
 /// A step of a way before it is known what follows.
 struct Step {
@@ -75,10 +74,23 @@ impl Reader<'_> {
             Kind::Sign | Kind::HalfNumber | Kind::ForeignWord
         ) {
             self.bad_piece()
+        } else if self.goes_on() {
+            let next = self.text();
+            Problem::error(here, "the steps of a block are parted by ','")
+                .label(format!("write ',' before '{next}'"))
         } else {
             no_finish(self.last().behind(), "add ', end' (or ', retry')")
         };
         self.fail(problem)
+    }
+
+    /// Whether the way goes on here, as if a comma stood before it.
+    fn goes_on(&self) -> bool {
+        match (self.peek().kind, self.text()) {
+            (Kind::Open, _) | (Kind::Word, "take" | "put" | "end" | "retry") => true,
+            (Kind::Word, word) => self.definition(word).is_some() && !self.at_item(),
+            _ => false,
+        }
     }
 
     /// What a way finishes with.
@@ -99,7 +111,7 @@ impl Reader<'_> {
                 self.advance();
                 self.program.add(PartKind::Retry, token.span)
             }
-            (Kind::Word, word) if !words::reserved(word) => self.named(Class::Plan)?,
+            (Kind::Word, word) if self.may_be_named(word) => self.named(Class::Plan)?,
             _ => return self.fail(self.no_way()),
         };
         if self.peek().kind == Kind::Comma {

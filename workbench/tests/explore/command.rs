@@ -216,6 +216,19 @@ fn the_smallest_group() {
     assert_eq!(out.matches("\"verdict\": \"holds\"").count(), 7);
 }
 
+/// What is missing makes an end too early, which is said where ends are asked
+/// about.
+#[test]
+fn ends_of_groups() {
+    let early = "\n\nMind that a hall from which somebody is missing often ends too early";
+    let (code, out, _) = explore(BALLOTS, &["--groups", "--ends", "counted = 1"]);
+    assert_eq!(code, 1, "{out}");
+    assert!(out.contains("shows the fault has 1 part."), "{out}");
+    assert!(out.contains(early), "{out}");
+    let (_, out, _) = explore(BALLOTS, &["--groups", "--never", "counted > 1"]);
+    assert!(!out.contains("Mind"), "{out}");
+}
+
 /// Of `n of` each number is a group; the start line printed opens that group.
 #[test]
 fn groups_of_copies() {
@@ -282,7 +295,7 @@ fn wrong_calls() {
     let (code, out, _) = hall(&["explore", "--help"], "");
     assert_eq!(code, 0);
     assert!(
-        out.lines().count() <= 30 && out.lines().all(|line| line.len() <= 100),
+        out.lines().count() <= 24 && out.lines().all(|line| line.len() <= 80),
         "{out}"
     );
 }
@@ -302,6 +315,60 @@ fn a_picture() {
     assert!(err.contains("more than 400 situations"), "{err}");
 }
 
+/// A block that never acts takes none of its ways.
+#[test]
+fn ways_of_a_block_that_never_acts() {
+    let text = "tray a\ntray b\nrule desk is block (take a, put b, end or else take b, end)\n\
+        rule guest is take a then desk\n";
+    for start in ["desk", "guest"] {
+        let (_, out, _) = explore(format!("{text}start {start}\n"), &[]);
+        let ways = "ways never taken: way 1 of desk (take a, put b); way 2 of desk (take b)\n";
+        assert!(out.contains(ways), "{out}");
+    }
+}
+
+/// The examples called `pattern-..` do what their words say, and what the error
+/// messages advise does too.
+#[test]
+fn patterns_do_what_they_say() {
+    let folder = PathBuf::from(env!("CARGO_MANIFEST_DIR")).join("examples");
+    let pattern = |name: &str| fs::read_to_string(folder.join(name)).unwrap();
+    // Nobody is left who could still put the first.
+    let order = pattern("pattern-one-after-the-other.hall");
+    let (code, out, _) = explore(&order, &["--never", "signed = 1 and stations > 0"]);
+    assert_eq!(code, 0, "{out}");
+    let (code, out, _) = explore(&order, &["--ends", "signed = 1"]);
+    assert_eq!(code, 0, "{out}");
+    let trays = "tray first tray second tray ready start ";
+    let asked = ["--never", "second = 1 and stations > 0"];
+    let (_, _, err) = hall(
+        &["check", "-"],
+        format!("{trays} put first then put second\n"),
+    );
+    let advice = err.lines().last().unwrap().trim_start_matches([' ', '=']);
+    let (code, out, _) = explore(format!("{trays}{advice}\n"), &asked);
+    assert_eq!(code, 0, "{advice}\n{out}");
+    // Puts of one block are not ordered.
+    for unordered in [
+        "block (put first, put ready, end) beside (take ready then put second)",
+        "put first beside block (take first, put first, put second, end)",
+    ] {
+        let (code, out, _) = explore(format!("{trays}{unordered}\n"), &asked);
+        assert_eq!(code, 1, "{unordered}\n{out}");
+    }
+    // The second batch stays in its tray until somebody finishes.
+    let busy = pattern("pattern-busy-until-done.hall");
+    let (code, out, _) = explore(&busy, &["--never", "working > 1", "--ends", "done = 2"]);
+    assert_eq!(code, 0, "{out}");
+    // The free token may come down before the result.
+    let (code, out, _) = explore(&busy, &["--never", "batch = 0 and done = 0"]);
+    assert_eq!(code, 1, "{out}");
+    let alone = busy.replace("start begin beside finish", "start begin");
+    let alone = alone.split("choices\n").next().unwrap();
+    let (code, out, _) = explore(alone, &["--never", "batch = 0", "--ends", "batch = 1"]);
+    assert_eq!(code, 0, "{out}");
+}
+
 #[test]
 fn what_the_report_says() {
     let text = "tray a\ntray b has 1\ntray c\n\
@@ -316,10 +383,22 @@ fn what_the_report_says() {
         "No end: whatever happens, something can always follow.",
         "trays: a always 0, b 0 to 1, c always 0\n",
         "stations that never act: lonely, stuck\n",
-        "stations that never come to stand there: lonely (at 'put c') / put c (from quick) / put c (from",
-        "ways never taken: way 2 of quick (take b, put c)\n",
+        "stations that never stand in the hall: lonely (at 'put c') / put c (from quick) / put c (from",
+        "ways never taken: way 1 of stuck (take a, take a, put c); way 2 of stuck (take c); way 2 of\n",
+        "                  quick (take b, put c)\n",
         "runs that go on for ever: yes, even without a commit; the last 2 choices can be made",
         "limits of the engine met: none\n",
+    ] {
+        assert!(out.contains(words), "{words}\n{out}");
+    }
+    let (_, out, _) = explore(
+        "tray a\nrule two is block (take a, end or else retry)\nrule one is block (retry)\n\
+         start two beside one\n",
+        &[],
+    );
+    for words in [
+        "     two tries for ever: in way 1 a is short by 1; way 2 gives up by itself\n",
+        "     one tries for ever: its way gives up by itself\n",
     ] {
         assert!(out.contains(words), "{words}\n{out}");
     }

@@ -173,6 +173,14 @@ fn a_cut_run_never_says_that_something_holds() {
         assert_eq!(code, 1);
         assert!(!out.contains("holds"), "{out}");
         assert!(out.contains("not compared"), "{out}");
+        assert!(
+            out.contains("limits of the engine met, as far as seen: "),
+            "{out}"
+        );
+        // Asked nothing it has compared nothing either.
+        let (code, out, _) = explore(text, &["--engine", options[0], options[1]]);
+        assert_eq!(code, 1, "{out}");
+        assert!(out.contains("not compared"), "{out}");
         arguments.pop();
         arguments.push("--groups");
         let (code, out, _) = explore(text, &["--groups", "--seconds", "0", "--never", "d > 300"]);

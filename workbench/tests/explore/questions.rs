@@ -24,7 +24,8 @@ fn mistakes_in_questions() {
         (
             "counted",
             8,
-            "a comparison, one of = != < <= > >= is wanted here, and there is nothing more",
+            "a comparison, one of = != < <= > >=, is wanted here, and there is nothing more; put the \
+             question in quotes, since < and > are the shell's",
         ),
         ("counted == 1", 9, "write '=' for '=='"),
         (

@@ -61,7 +61,7 @@ fn every_command_has_a_page_that_fits_a_screen() {
         );
         for text in [&overview.out, &page.out] {
             assert!(text.lines().count() <= 24, "{text}");
-            assert!(text.lines().all(|line| line.len() <= 100), "{text}");
+            assert!(text.lines().all(|line| line.len() <= 80), "{text}");
         }
     }
 }
@@ -169,6 +169,37 @@ fn a_text_and_its_table() {
     assert_eq!(built.stdout, TABLE);
     let built = raw_hall_in(&folder, &["build", "--", "-"], &TABLE);
     assert_eq!(built.stdout, TABLE);
+}
+
+/// By whatever path the file is named, nothing is written over it.
+#[test]
+fn the_file_that_is_read_stays() {
+    let folder = folder("stays");
+    let text = fs::read_to_string(folder.join("a.hall")).unwrap();
+    fs::write(folder.join("way-end-1.choices"), &text).unwrap();
+    let here = folder.join("a.hall").display().to_string();
+    let said = |file: &str| {
+        format!("hall: {file} is the file that is read, and is not written over: name another\n")
+    };
+    let files = fs::read_dir(&folder).unwrap().count();
+    for file in ["a.hall", "./a.hall", "../stays/a.hall", &here] {
+        let answer = hall_in(&folder, &["build", "a.hall", "-o", file], b"");
+        is(&answer, 2, "", &said(file));
+        let answer = hall_in(&folder, &["explore", "a.hall", "--dot", file], b"");
+        is(&answer, 2, "", &said(file));
+        let input = format!("act desk\nsave {file}\nq\n");
+        let answer = hall_in(&folder, &["play", "a.hall"], input.as_bytes());
+        assert_eq!((answer.code, answer.err.as_str()), (Some(0), ""));
+        let words = format!("      {file} is the file that is read, and is not written over");
+        assert!(answer.out.contains(&words), "{}", answer.out);
+        assert_eq!(fs::read_to_string(folder.join("a.hall")).unwrap(), text);
+    }
+    let file = "way-end-1.choices";
+    let arguments = ["explore", file, "--save", "way", "--dot", "picture"];
+    let answer = hall_in(&folder, &arguments, b"");
+    assert_eq!((answer.code, answer.err), (Some(2), said(file)));
+    assert_eq!(fs::read_to_string(folder.join(file)).unwrap(), text);
+    assert_eq!(fs::read_dir(&folder).unwrap().count(), files);
 }
 
 #[test]
@@ -290,7 +321,7 @@ fn choices_behind_a_table() {
     assert_eq!(bytes[..14], TABLE);
     assert_eq!(bytes[14..], [1, 0, 2, 0, 0, 2, 0, 0, 1, 0, 1, 0]);
     let run = |file: &str| hall_in(&folder, &["run", "--quiet", file], b"");
-    let last = "5 choices done: 1 commit, 0 failed at commit, 0 gave up. The hall is still.\n";
+    let last = "5 choices done: 1 commit, 0 attempts failed at commit, 0 attempts gave up. The hall is still.\n";
     is(&run("b.hall"), 0, last, "");
     is(&run("b.table"), 0, last, "");
     // check takes all of it as the table, and says what it is.

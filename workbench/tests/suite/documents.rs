@@ -56,12 +56,25 @@ fn what_the_document_shows_is_what_is_printed() {
     assert!(texts >= 8 && runs >= 4, "{texts} texts, {runs} runs");
 }
 
+/// The words of a command as a shell parts them: those in quotes stay together.
+fn arguments(words: &str) -> Vec<&str> {
+    let mut arguments = Vec::new();
+    for (index, piece) in words.split('\'').enumerate() {
+        if index % 2 == 1 {
+            arguments.push(piece);
+        } else {
+            arguments.extend(piece.split_whitespace());
+        }
+    }
+    arguments
+}
+
 /// Runs one command and compares. `...` stands for any lines, `# exit 1` for
 /// the exit code where that is not 0.
 fn shown(folder: &Path, lines: &[String]) {
     let (command, expected) = lines.split_first().expect("a command");
     let words = command.strip_prefix("$ hall ").expect("a call of hall");
-    let arguments: Vec<&str> = words.split(' ').collect();
+    let arguments = arguments(words);
     let answer = hall_in(folder, &arguments, b"");
     let (code, expected) = match expected.split_last() {
         Some((last, before)) if last.starts_with("# exit ") => (last[7..].parse().unwrap(), before),

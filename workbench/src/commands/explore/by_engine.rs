@@ -52,11 +52,9 @@ pub(super) fn by_engine(job: &Job<'_>, args: &Args, streams: &mut Streams<'_>) -
         let text = text(job, &found, compared, &answers, streams.style);
         streams.out.write_all(text.as_bytes())?;
     }
-    Ok(exit(
-        answers
-            .iter()
-            .all(|answer| matches!(answer.verdict, Verdict::Holds)),
-    ))
+    let mut verdicts = answers.iter().map(|answer| &answer.verdict);
+    let all_hold = verdicts.all(|verdict| matches!(verdict, Verdict::Holds));
+    Ok(exit(compared && all_hold))
 }
 
 /// The engine's steps and the rules have to lead to the same situations and to
@@ -181,10 +179,16 @@ fn text(
         .filter(|(met, _)| *met)
         .map(|(_, number)| number)
         .collect();
-    lines.push(match met.as_slice() {
-        [] => "limits of the engine met: none".to_owned(),
-        numbers => format!("limits of the engine met: {}", numbers.join(", ")),
-    });
+    let so_far = if found.cut.is_none() {
+        ""
+    } else {
+        ", as far as seen"
+    };
+    let met = match met.as_slice() {
+        [] => "none".to_owned(),
+        numbers => numbers.join(", "),
+    };
+    lines.push(format!("limits of the engine met{so_far}: {met}"));
     for answer in answers {
         lines.extend(answer_lines(answer, style));
     }

@@ -3,7 +3,7 @@
 use super::progress::Progress;
 use super::{exit, wrong, Job};
 use crate::commands::{Args, Failure, Outcome, Streams};
-use crate::explore::facts::{Answer, Verdict};
+use crate::explore::facts::{Answer, Asked, Verdict};
 use crate::explore::groups::{groups, Group, Ungrouped, MOST_GROUPS};
 use crate::explore::objects;
 use crate::explore::report::{choice_lines, counted, when};
@@ -89,6 +89,15 @@ fn text(name: &str, groups: &[Group], style: Style) -> String {
         if told {
             lines.extend(group_lines(group, style));
         }
+    }
+    let mut answers = groups.iter().flat_map(|group| &group.answers);
+    if answers.any(|answer| answer.asked == Asked::Ends) {
+        lines.push(String::new());
+        lines.extend(wrapped(
+            "",
+            "Mind that a hall from which somebody is missing often ends too early: what is broken \
+             at an end of a small group may be no fault of the whole.",
+        ));
     }
     lines.push(String::new());
     match smallest(groups) {

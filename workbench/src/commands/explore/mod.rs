@@ -6,7 +6,7 @@ mod progress;
 
 use std::time::{Duration, Instant};
 
-use super::build::write_whole;
+use super::build::{not_over, write_whole};
 use super::check::refused;
 use super::load::{self, Loaded};
 use super::{Args, Exit, Failure, Outcome, Streams};
@@ -49,6 +49,9 @@ struct Job<'a> {
 pub(super) fn explore(args: &Args, streams: &mut Streams<'_>) -> Outcome {
     let name = args.file(0).unwrap_or("-");
     let json = args.has("--json");
+    for file in args.values("--dot") {
+        not_over(name, file)?;
+    }
     let loaded = match load::load(name, args.has("--binary"), streams) {
         Ok(loaded) => loaded,
         Err(unloaded) => return refused(name, unloaded, json, streams),
@@ -106,11 +109,16 @@ fn by_steps(job: &Job<'_>, args: &Args, streams: &mut Streams<'_>) -> Outcome {
         };
         streams.out.write_all(report.text().as_bytes())?;
     }
+    let prefixes = args.values("--save");
+    let saved: Vec<Saved<'_>> = prefixes.flat_map(|prefix| saved(prefix, &facts)).collect();
+    for way in &saved {
+        not_over(args.file(0).unwrap_or("-"), &way.file)?;
+    }
     for file in args.values("--dot") {
         draw(file, job, &explored)?;
     }
-    for prefix in args.values("--save") {
-        save_all(prefix, job.name, &facts)?;
+    for way in &saved {
+        way.write(job.name)?;
     }
     Ok(exit(facts.all_hold()))
 }
@@ -186,17 +194,25 @@ fn draw(file: &str, job: &Job<'_>, explored: &Explored) -> Result<(), Failure> {
     write_whole(file, picture.as_bytes())
 }
 
+/// A way that gets a file of its own.
+struct Saved<'a> {
+    file: String,
+    what: String,
+    witness: &'a Witness,
+}
+
 /// Each way as a file of its own, whole.
-fn save_all(prefix: &str, name: &str, facts: &Facts) -> Result<(), Failure> {
+fn saved<'a>(prefix: &str, facts: &'a Facts) -> Vec<Saved<'a>> {
+    let mut ways: Vec<(String, &Witness)> = Vec::new();
     for (number, end) in (1..).zip(&facts.ends) {
-        save(prefix, &format!("end-{number}"), name, &end.witness)?;
+        ways.push((format!("end-{number}"), &end.witness));
     }
     for (what, for_ever) in [
         ("for-ever", &facts.for_ever),
         ("no-commit", &facts.for_ever_no_commit),
     ] {
         if let ForEver::Yes(witness, _) = for_ever {
-            save(prefix, what, name, witness)?;
+            ways.push((what.to_owned(), witness));
         }
     }
     for (what, witness) in [
@@ -204,25 +220,31 @@ fn save_all(prefix: &str, name: &str, facts: &Facts) -> Result<(), Failure> {
         ("refused-20", &facts.full_tray),
     ] {
         if let Some(witness) = witness {
-            save(prefix, what, name, witness)?;
+            ways.push((what.to_owned(), witness));
         }
     }
     for (number, answer) in (1..).zip(&facts.answers) {
         if let Verdict::Broken(witness, _) = &answer.verdict {
-            let what = format!("{}-{number}", answer.asked.word());
-            save(prefix, &what, name, witness)?;
+            ways.push((format!("{}-{number}", answer.asked.word()), witness));
         }
     }
-    Ok(())
+    let named = ways.into_iter().map(|(what, witness)| Saved {
+        file: format!("{prefix}-{what}.choices"),
+        what,
+        witness,
+    });
+    named.collect()
 }
 
-fn save(prefix: &str, what: &str, name: &str, witness: &Witness) -> Result<(), Failure> {
-    let words: Vec<&str> = witness.words().collect();
-    let mut text = format!("# {what}: hall run {name} with these choices\nchoices\n");
-    for line in choice_lines(&words, 2) {
-        text.push_str(&line);
-        text.push('\n');
+impl Saved<'_> {
+    fn write(&self, name: &str) -> Result<(), Failure> {
+        let words: Vec<&str> = self.witness.words().collect();
+        let what = &self.what;
+        let mut text = format!("# {what}: hall run {name} with these choices\nchoices\n");
+        for line in choice_lines(&words, 2) {
+            text.push_str(&line);
+            text.push('\n');
+        }
+        write_whole(&self.file, text.as_bytes())
     }
-    let file = format!("{prefix}-{what}.choices");
-    write_whole(&file, text.as_bytes())
 }

@@ -336,8 +336,8 @@ impl Run<'_, '_, '_> {
             "{} done{refused}: {}, {} failed at commit, {} gave up. The hall is {}still.",
             counted(&self.lesson.done(), "choice"),
             counted(&tally.commits, "commit"),
-            tally.failed,
-            tally.retries,
+            counted(&tally.failed, "attempt"),
+            counted(&tally.retries, "attempt"),
             if still { "" } else { "not " }
         )?;
         Ok(())
