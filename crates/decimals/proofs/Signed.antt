@@ -111,15 +111,16 @@ module _ (s : List ℕ) (at : ℕ) (z : ℤ) (f : SFits w16 z) (room : at + leng
     pub sign-fits : at < length s
     sign-fits = let l = ap length negative in omega arith
 
-    module _ (s₁ : List ℕ) (i n : ℕ) (w : Wrote s at (45 ∷ []) s₁ i) (e : n ≡ natAbs (toZ w16 (ofZ w16 z))) where
-      pub magnitude-fits : i + length (decimal n) ≤ length s₁
-      magnitude-fits =
+    module _ (s₁ : List ℕ) (i n : ℕ) (e : n ≡ natAbs (toZ w16 (ofZ w16 z))) where
+      -- one byte stands before them, whichever it is
+      pub magnitude-fits : (b : ℕ) → Wrote s at (b ∷ []) s₁ i → i + length (decimal n) ≤ length s₁
+      magnitude-fits b w =
           let l = ap length negative in
-          let m = wrote-length s s₁ at i (45 ∷ []) (omega arith) w in
-          let b = w .end in rw (e, toZ-ofZ w16 z f) (omega arith)
+          let m = wrote-length s s₁ at i (b ∷ []) (omega arith) w in
+          let i = w .end in rw (e, toZ-ofZ w16 z f) (omega arith)
 
-      pub negative-written : (s₂ : List ℕ) (r : ℕ) → Wrote s₁ i (decimal n) s₂ r → Wrote s at (signed z) s₂ r
-      negative-written s₂ r x = rw negative (wrote-more s s₁ s₂ at i r (45 ∷ []) (decimal (natAbs z)) (omega arith) w (rw (e, toZ-ofZ w16 z f) at x))
+      pub negative-written : Wrote s at (45 ∷ []) s₁ i → (s₂ : List ℕ) (r : ℕ) → Wrote s₁ i (decimal n) s₂ r → Wrote s at (signed z) s₂ r
+      negative-written w s₂ r x = rw negative (wrote-more s s₁ s₂ at i r (45 ∷ []) (decimal (natAbs z)) (omega arith) w (rw (e, toZ-ofZ w16 z f) at x))
 
   -- it is not: its digits
   module _ (over : ltZ (toZ w16 (ofZ w16 z)) (pos 0) ≡ false) (n : ℕ) (e : n ≡ natAbs (toZ w16 (ofZ w16 z))) where

@@ -73,14 +73,16 @@ module _ (s : List ℕ) (at f l : ℕ) (room : at + length (netWord f l) ≤ len
   unfolding netWord
   netWord-space-fits = omega arith
 
-  module _ (s₁ : List ℕ) (i : ℕ) (a : Wrote s at (32 ∷ []) s₁ i) where
-    pub netWord-net-fits : i + length (signed (net f l)) ≤ length s₁
+  module _ (s₁ : List ℕ) (i : ℕ) where
+    -- one byte stands before it, whichever it is
+    pub netWord-net-fits : (b : ℕ) → Wrote s at (b ∷ []) s₁ i → i + length (signed (net f l)) ≤ length s₁
     unfolding netWord
-    netWord-net-fits = second-fits s at (32 ∷ []) (signed (net f l)) s₁ i room a
+    netWord-net-fits b a = second-fits s at (b ∷ []) (signed (net f l)) s₁ i room a
 
-    pub netWord-written : (s₂ : List ℕ) (r : ℕ) → Wrote s₁ i (signed (net f l)) s₂ r → Wrote s at (netWord f l) s₂ r
+    pub netWord-written : Wrote s at (32 ∷ []) s₁ i → (s₂ : List ℕ) (r : ℕ) → Wrote s₁ i (signed (net f l)) s₂ r →
+        Wrote s at (netWord f l) s₂ r
     unfolding netWord
-    netWord-written s₂ r b = both-written s at (32 ∷ []) (signed (net f l)) s₁ i room a s₂ r b
+    netWord-written a s₂ r b = both-written s at (32 ∷ []) (signed (net f l)) s₁ i room a s₂ r b
 
 module _ (s : List ℕ) (at n f : ℕ) (room : at + length (channelHead n f) ≤ length s) where
   pub head-letter-fits : at < length s

@@ -7,15 +7,15 @@ use mathlib.Core.List.{List, [], _∷_}
 use lib.ListN.{getD}
 use Rattle.semantics.specs.Definitions.Moves.{Entry, act, inside}
 use Rattle.semantics.specs.Definitions.Run.{Counters}
-use Rattle.semantics.specs.Definitions.Calls.{Verdict, rejected, verdictNumber, verdictPlace, Opening, openVerdict, Buffers, RunCall, StepCall, SuggestAnswer, suggested, still, notSuggested, SuggestAllowed}
+use Rattle.semantics.specs.Definitions.Calls.{Verdict, verdictNumber, verdictPlace, Opening, openVerdict, Buffers, RunCall, StepCall, SuggestAnswer, suggested, still, notSuggested, SuggestAllowed}
 
 -- these two numbers as they are
-abbrev pub verdict : (number place : ℕ) → Verdict
-verdict n p = rejected n p
+pub record VerdictSet (n at : ℕ) (returned p : ℕ) : Type 0 where
+  pub number : returned ≡ n
+  pub place : p ≡ at
 
-pub record VerdictAnswered (v : Verdict) (returned set : ℕ) : Type 0 where
-  pub number : returned ≡ verdictNumber v
-  pub place : set ≡ verdictPlace v
+abbrev pub VerdictAnswered : Verdict → (returned p : ℕ) → Type 0
+VerdictAnswered v returned p = VerdictSet (verdictNumber v) (verdictPlace v) returned p
 
 -- an opening: its verdict, and every byte of the lent hall afterwards
 pub record OpeningAnswered (o : Opening) (returned set : ℕ) (hall : List ℕ) : Type 0 where

@@ -26,11 +26,11 @@ ghost use Rattle.decimals.specs.Wrote.{Wrote};
 ghost use Rattle.counters.specs.Counted.{countersOf};
 ghost use Rattle.schedule.specs.Entries.{entryOf};
 ghost use Rattle.report.specs.Limits.{linesMost};
-ghost use Rattle.ruonfidd.specs.Answered.{verdict, VerdictAnswered, OpeningAnswered, tallyWords, countersIn, buffersIn, RunSet, StepSet, RunAnswered, StepAnswered, choiceWords, SuggestionSet, SuggestionAnswered};
+ghost use Rattle.ruonfidd.specs.Answered.{VerdictSet, VerdictAnswered, OpeningAnswered, tallyWords, countersIn, buffersIn, RunSet, StepSet, RunAnswered, StepAnswered, choiceWords, SuggestionSet, SuggestionAnswered};
 
 // A number to return, with its place set.
 fn answer(place: &mut usize, number: u8, at: usize) -> u8
-    ensures { λ r. ⌜ VerdictAnswered (verdict number at) r (now (place .exit)) ⌝ }
+    ensures { λ r. ⌜ VerdictSet number at r (now (place .exit)) ⌝ }
 {
     *place = at;
     number
