@@ -2,7 +2,8 @@
 //!
 //! A line is a name, a colon, and bytes in decimal; `3x1,0` stands for
 //! `1 0 1 0 1 0`. Where `/` cuts the bytes in three they are a table, a stored
-//! hall and choices. A line without a colon is a heading.
+//! hall and choices; a fourth part is the tally that the calls begin with, four
+//! bytes a counter, the highest first. A line without a colon is a heading.
 
 use crate::calls::{self, Answer, StepAnswer};
 use crate::print::printed_run;
@@ -37,6 +38,8 @@ pub enum Line {
         hall: Vec<u8>,
         /// The choices'.
         choices: Vec<u8>,
+        /// The first tally.
+        first: Tally,
     },
 }
 
@@ -59,18 +62,35 @@ fn line(text: &str) -> Line {
     let parts: Vec<Vec<u8>> = rest.split('/').map(bytes).collect();
     let all: usize = parts.iter().map(Vec::len).sum();
     assert!(all <= MOST_BYTES, "{name}: {all} bytes");
-    match &parts[..] {
-        [input] => Line::Input {
-            name,
-            input: input.clone(),
-        },
-        [table, hall, choices] => Line::Stored {
-            name,
-            table: table.clone(),
-            hall: hall.clone(),
-            choices: choices.clone(),
-        },
+    let first = match &parts[..] {
+        [input] => {
+            let input = input.clone();
+            return Line::Input { name, input };
+        }
+        [_, _, _] => Tally::FRESH,
+        [_, _, _, first] => tally(first),
         _ => panic!("{name}: {} parts", parts.len()),
+    };
+    Line::Stored {
+        name,
+        table: parts[0].clone(),
+        hall: parts[1].clone(),
+        choices: parts[2].clone(),
+        first,
+    }
+}
+
+/// The tally of twelve bytes.
+fn tally(bytes: &[u8]) -> Tally {
+    let counter = |at: usize| {
+        let four = bytes[at..at + 4].try_into().expect("four bytes");
+        u32::from_be_bytes(four)
+    };
+    assert_eq!(bytes.len(), 12);
+    Tally {
+        commits: counter(0),
+        failed: counter(4),
+        retries: counter(8),
     }
 }
 
@@ -101,20 +121,21 @@ pub fn printed(line: &Line) -> String {
             table,
             hall,
             choices,
-        } => format!("{name}\n{}", printed_calls(table, hall, choices)),
+            first,
+        } => format!("{name}\n{}", printed_calls(table, hall, choices, *first)),
     }
 }
 
 /// The answers of the calls on a stored hall, each on the hall as it was stored.
-fn printed_calls(table: &[u8], hall: &[u8], choices: &[u8]) -> String {
+fn printed_calls(table: &[u8], hall: &[u8], choices: &[u8], first: Tally) -> String {
     let check = calls::check_hall(table, hall);
     let opening = match calls::open(table, &mut hall.to_vec()) {
         Ok(_) => Answer::ACCEPTED,
         Err(Refusal { number, place }) => Answer { number, place },
     };
-    let (step, rule) = first_step(table, hall, choices);
+    let (step, rule) = first_step(table, hall, choices, first);
     let mut after = hall.to_vec();
-    let mut tally = Tally::FRESH;
+    let mut tally = first;
     let run = calls::run(table, &mut after, &mut tally, choices);
     let mut lines = vec![
         format!("H {} {}", check.number, check.place),
@@ -138,14 +159,14 @@ fn printed_calls(table: &[u8], hall: &[u8], choices: &[u8]) -> String {
 
 /// The answer to the first choice alone, and its rule, 0 for none. A missing
 /// byte counts as 0.
-fn first_step(table: &[u8], hall: &[u8], choices: &[u8]) -> (Answer, u8) {
+fn first_step(table: &[u8], hall: &[u8], choices: &[u8], first: Tally) -> (Answer, u8) {
     let byte = |at: usize| choices.get(at).copied().unwrap_or(0);
     let choice = match byte(0) {
         1 => vec![1, byte(1)],
         2 => vec![2, byte(1), byte(2)],
         kind => vec![kind],
     };
-    let mut tally = Tally::FRESH;
+    let mut tally = first;
     match calls::step(table, &mut hall.to_vec(), &mut tally, &choice) {
         StepAnswer::Moved(rule) => {
             let place = choice.len();

@@ -8,7 +8,7 @@
 //     B byte ..                 the hall then, up to its last byte that is not 0
 //     S 1 or S 0                whether a choice is suggested then; S 0 number place where table or hall is refused
 //
-// A missing byte of the first choice counts as 0.
+// A missing byte of the first choice counts as 0, and so does one of the tally that step and run begin with.
 use crate::BYTES;
 use buffer::byte_at;
 use buffer::wide;
@@ -20,6 +20,7 @@ use engine::RunAnswer;
 use engine::StepAnswer;
 use engine::SuggestAnswer;
 use libc::STDOUT_FILENO;
+ghost use Prim.Native.Nat.{_≤_, _<_};
 
 fn print_field(n: usize) {
     io::write_all(STDOUT_FILENO, b" ");
@@ -78,11 +79,11 @@ fn print_opening(table: &[u8], hall: &mut [u8]) {
     }
 }
 
-fn print_step(table: &[u8], hall: &mut [u8], choices: &[u8]) {
+fn print_step(table: &[u8], hall: &mut [u8], choices: &[u8], first: Counters) {
     let kind = byte_at(choices, 0);
     let position = byte_at(choices, 1);
     let node = byte_at(choices, 2);
-    match engine::step(table, hall, kind, position, node, Counters::fresh()) {
+    match engine::step(table, hall, kind, position, node, first) {
         StepAnswer::Moved {
             rule,
             place,
@@ -123,8 +124,8 @@ fn print_suggestion(table: &[u8], hall: &[u8]) {
     }
 }
 
-fn print_run(table: &[u8], hall: &mut [u8], choices: &[u8]) {
-    match engine::run(table, hall, choices, Counters::fresh()) {
+fn print_run(table: &[u8], hall: &mut [u8], choices: &[u8], first: Counters) {
+    match engine::run(table, hall, choices, first) {
         RunAnswer::Completed {
             place,
             done,
@@ -155,7 +156,7 @@ const STEP: u8 = 1;
 const RUN: u8 = 2;
 
 // One of them, on a copy of the hall.
-fn print_call(call: u8, table: &[u8], hall: &[u8], choices: &[u8]) {
+fn print_call(call: u8, table: &[u8], hall: &[u8], choices: &[u8], first: Counters) {
     let mut copy = [0u8; BYTES];
     let n = hall.len();
     if BYTES < n {
@@ -164,15 +165,36 @@ fn print_call(call: u8, table: &[u8], hall: &[u8], choices: &[u8]) {
     write_at(&mut copy, 0, hall);
     match call {
         OPENING => print_opening(table, &mut copy[..n]),
-        STEP => print_step(table, &mut copy[..n], choices),
-        _ => print_run(table, &mut copy[..n], choices),
+        STEP => print_step(table, &mut copy[..n], choices, first),
+        _ => print_run(table, &mut copy[..n], choices, first),
     }
 }
 
+// Two bytes as a number.
+fn word(high: u8, low: u8) -> u32
+    ensures { λ r. ⌜ r < 65536 ⌝ }
+{
+    high as u32 * 256 + low as u32
+}
+
+// The counter whose four bytes begin at an offset.
+fn counter_at(tally: &[u8], at: usize) -> u32
+    requires { ⌜ at ≤ 8 ⌝ }
+{
+    let high = word(byte_at(tally, at), byte_at(tally, at + 1));
+    let low = word(byte_at(tally, at + 2), byte_at(tally, at + 3));
+    high * 65536 + low
+}
+
 // All answers.
-pub fn print_calls(table: &[u8], hall: &[u8], choices: &[u8]) {
+pub fn print_calls(table: &[u8], hall: &[u8], choices: &[u8], tally: &[u8]) {
+    let first = Counters {
+        commits: counter_at(tally, 0),
+        failed: counter_at(tally, 4),
+        retries: counter_at(tally, 8),
+    };
     print_check(table, hall);
-    print_call(OPENING, table, hall, choices);
-    print_call(STEP, table, hall, choices);
-    print_call(RUN, table, hall, choices);
+    print_call(OPENING, table, hall, choices, first);
+    print_call(STEP, table, hall, choices, first);
+    print_call(RUN, table, hall, choices, first);
 }

@@ -5,7 +5,8 @@
 //
 // A line of the list is a name, a colon, and bytes in decimal. `3x1,0` stands for `1 0 1 0 1 0`. The program prints the
 // name and below it the printed run of the bytes. Where `/` cuts the bytes in three they are a table, a stored hall and
-// choices, and the answers of the calls on a stored hall are printed (calls.rt). A line without a colon is a heading.
+// choices, and the answers of the calls on a stored hall are printed (calls.rt); a fourth part is the tally that these
+// begin with, four bytes a counter, the highest first. A line without a colon is a heading.
 mod calls;
 
 use buffer::byte_at;
@@ -29,8 +30,11 @@ const INPUT: u8 = 1;
 // of a stored hall,
 const HALL: u8 = 2;
 
-// of choices.
+// of choices,
 const CHOICES: u8 = 3;
+
+// and of a tally.
+const TALLY: u8 = 4;
 
 // A line as far as it is read.
 struct Line {
@@ -41,9 +45,10 @@ struct Line {
     // Where the bytes of the word being read begin, and how often it stands for them.
     from: usize,
     times: usize,
-    // Where hall and choices begin, and how many bytes there are.
+    // Where hall, choices and tally begin, and how many bytes there are.
     hall: usize,
     choices: usize,
+    tally: usize,
     length: usize,
 }
 
@@ -56,6 +61,7 @@ fn fresh() -> Line {
         times: 1,
         hall: 0,
         choices: 0,
+        tally: 0,
         length: 0,
     }
 }
@@ -146,8 +152,22 @@ fn next_part(line: Line, bytes: &mut [u8; BYTES]) -> Line {
         next.part = HALL;
         return next;
     }
-    next.choices = next.length;
-    next.part = CHOICES;
+    if line.part == HALL {
+        next.choices = next.length;
+        next.part = CHOICES;
+        return next;
+    }
+    next.tally = next.length;
+    next.part = TALLY;
+    next
+}
+
+// The line is over: where it has no tally, none of its bytes are one.
+fn whole(line: Line, bytes: &mut [u8; BYTES]) -> Line {
+    let mut next = end_word(line, bytes);
+    if line.part == CHOICES {
+        next.tally = next.length;
+    }
     next
 }
 
@@ -168,6 +188,7 @@ fn print_report(input: &[u8]) {
 fn print_answers(line: Line, bytes: &[u8]) {
     let hall = line.hall;
     let choices = line.choices;
+    let tally = line.tally;
     let length = line.length;
     if bytes.len() < length {
         return;
@@ -176,15 +197,21 @@ fn print_answers(line: Line, bytes: &[u8]) {
         print_report(&bytes[..length]);
         return;
     }
-    if hall <= choices {
-        if choices <= length {
-            calls::print_calls(
-                &bytes[..hall],
-                &bytes[hall..choices],
-                &bytes[choices..length],
-            );
-        }
+    if choices < hall {
+        return;
     }
+    if tally < choices {
+        return;
+    }
+    if length < tally {
+        return;
+    }
+    calls::print_calls(
+        &bytes[..hall],
+        &bytes[hall..choices],
+        &bytes[choices..tally],
+        &bytes[tally..length],
+    );
 }
 
 // One character of a name.
@@ -211,8 +238,7 @@ fn take(line: Line, c: u8, bytes: &mut [u8; BYTES]) -> Line {
         b' ' => end_word(line, bytes),
         b'/' => next_part(line, bytes),
         b'\n' => {
-            let whole = end_word(line, bytes);
-            print_answers(whole, bytes);
+            print_answers(whole(line, bytes), bytes);
             fresh()
         }
         _ => line,

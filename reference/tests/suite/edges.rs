@@ -5,6 +5,7 @@ use std::fs;
 use std::path::Path;
 
 use reference::edges::{lines, printed, Line};
+use reference::run::Tally;
 
 fn file(name: &str) -> String {
     let folder = Path::new(env!("CARGO_MANIFEST_DIR")).join("../crates/edges");
@@ -18,15 +19,16 @@ fn numbers(text: &str, letter: &str) -> Option<Vec<usize>> {
     Some(line.split_whitespace().map(number).collect())
 }
 
-/// The numbers that follow these words in a name, at most two of them.
+/// The numbers that follow these words in a name, `at` between them or not.
 fn said(name: &str, words: &str) -> Option<Vec<usize>> {
     let rest = name.rsplit_once(words)?.1;
     let words = rest.split_whitespace().filter(|word| *word != "at");
-    Some(words.map_while(|word| word.parse().ok()).collect())
+    let number = |word: &str| word.trim_end_matches(',').parse().ok();
+    Some(words.map_while(number).collect())
 }
 
 /// What an edge claims by its name and what it gives: the refusal with its
-/// place, and the rule of the first choice.
+/// place, the rule of the first choice, and the tally of the run.
 struct Edge {
     name: String,
     stored: bool,
@@ -64,7 +66,11 @@ fn as_said(edge: &Edge) -> bool {
         Some(rule) => numbers(&edge.text, "M ").is_some_and(|step| step[2..] == rule),
         None => true,
     };
-    refused && by_rule
+    let tally = match said(&edge.name, "tally ") {
+        Some(tally) => numbers(&edge.text, "C ") == Some(tally),
+        None => true,
+    };
+    refused && by_rule && tally
 }
 
 #[test]
@@ -117,12 +123,17 @@ fn a_wrong_name_is_noticed() {
     assert!(wrong("by rule 3", "M 0 2 2\nR 0 2 1\n", true));
     assert!(wrong("by rule 3", "R 0 2 1\n", false));
     assert!(!wrong("by rule 3", "M 0 2 3\nR 0 2 1\n", true));
+    assert!(wrong("tally 1 0 2", "R 0 2 1\nC 1 0 3\n", true));
+    assert!(wrong("tally 1 0 2", "R 0 2 1\n", true));
+    assert!(!wrong("tally 1 0 2", "R 0 2 1\nC 1 0 2\n", true));
 }
 
 /// Both forms of a word.
 #[test]
 fn bytes_of_a_line() {
-    let all = lines("a heading\nname: 1 3x2 2x0,255 13\nstored: 1 13 0/2x0/\n");
+    let all = lines(
+        "a heading\nname: 1 3x2 2x0,255 13\nstored: 1 13 0/2x0/\nstored: 1/2/3/3x0 7 1 7x0\n",
+    );
     assert_eq!(all[0], Line::Heading("a heading".to_string()));
     let input = vec![1, 2, 2, 2, 0, 255, 0, 255, 13];
     let name = "name".to_string();
@@ -132,6 +143,19 @@ fn bytes_of_a_line() {
         table: vec![1, 13, 0],
         hall: vec![0, 0],
         choices: vec![],
+        first: Tally::FRESH,
     };
     assert_eq!(all[2], stored);
+    let stored = Line::Stored {
+        name: "stored".to_string(),
+        table: vec![1],
+        hall: vec![2],
+        choices: vec![3],
+        first: Tally {
+            commits: 7,
+            failed: 1 << 24,
+            retries: 0,
+        },
+    };
+    assert_eq!(all[3], stored);
 }

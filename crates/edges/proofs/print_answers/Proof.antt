@@ -18,6 +18,15 @@ print-report-requires c κs = search needs
 returns-2 : tie.Need-returns-2
 returns-2 c = search needs
 
+returns-3 : tie.Need-returns-3
+returns-3 c = search needs
+
+returns-4 : tie.Need-returns-4
+returns-4 c = search needs
+
+returns-5 : tie.Need-returns-5
+returns-5 c = search needs
+
 slice-aggregate-print-calls : tie.Need-slice-aggregate-print-calls
 slice-aggregate-print-calls c = first-part _ _ (omega arith)
 
@@ -33,17 +42,17 @@ part-print-calls-start-2 c = search needs
 part-print-calls-end-2 : tie.Need-part-print-calls-end-2
 part-print-calls-end-2 c = search needs
 
+part-print-calls-start-3 : tie.Need-part-print-calls-start-3
+part-print-calls-start-3 c = search needs
+
+part-print-calls-end-3 : tie.Need-part-print-calls-end-3
+part-print-calls-end-3 c = search needs
+
 print-calls-requires : tie.Need-print-calls-requires
 print-calls-requires c κs = search needs
 
-returns-3 : tie.Need-returns-3
-returns-3 c = search needs
-
-returns-4 : tie.Need-returns-4
-returns-4 c = search needs
-
-returns-5 : tie.Need-returns-5
-returns-5 c = search needs
+returns-6 : tie.Need-returns-6
+returns-6 c = search needs
 
 pub print-answers-spec : {M : Type 1} → statement M
 print-answers-spec =
@@ -53,12 +62,15 @@ print-answers-spec =
     slice-aggregate-print-report
     print-report-requires
     returns-2
+    returns-3
+    returns-4
+    returns-5
     slice-aggregate-print-calls
     part-print-calls-start
     part-print-calls-end
     part-print-calls-start-2
     part-print-calls-end-2
+    part-print-calls-start-3
+    part-print-calls-end-3
     print-calls-requires
-    returns-3
-    returns-4
-    returns-5)
+    returns-6)
