@@ -8,23 +8,23 @@ use Rattle.calculus.specs.Reduction.{Rule}
 use Rattle.semantics.specs.Definitions.Moves.{ruleNumber}
 use Rattle.semantics.specs.Definitions.Run.{saturatingSuc, countedAt, counted}
 use Rattle.counters.specs.declared.Counters as code
-use Rattle.counters.specs.Counted.{countersOf, raisedBy, countedBy}
+use Rattle.counters.specs.Counted.{countersOf, countedBy}
 
 -- ---- one counter
 
 module _ (counts rule counter : ℕ) where
   -- another rule, the top, one more
-  pub raised-not : (rule ≡ counts → ⊥) → counter ≡ raisedBy counts rule counter
-  unfolding raisedBy
+  pub raised-not : (rule ≡ counts → ⊥) → counter ≡ countedAt counts rule counter
+  unfolding countedAt
   raised-not h = rw (ne-eqb rule counts h)
 
-  pub raised-stays : rule ≡ counts → counter ≡ 4294967295 → 4294967295 ≡ raisedBy counts rule counter
-  unfolding raisedBy saturatingSuc
+  pub raised-stays : rule ≡ counts → counter ≡ 4294967295 → 4294967295 ≡ countedAt counts rule counter
+  unfolding countedAt saturatingSuc
   raised-stays h e = rw (eq-eqb rule counts h) (omega arith)
 
   pub raised-one : rule ≡ counts → (counter ≡ 4294967295 → ⊥) → counter ≤ 4294967295 →
-      counter + 1 ≡ raisedBy counts rule counter
-  unfolding raisedBy saturatingSuc
+      counter + 1 ≡ countedAt counts rule counter
+  unfolding countedAt saturatingSuc
   raised-one h e l = rw (eq-eqb rule counts h) (omega arith)
 
 -- ---- the three
@@ -32,7 +32,7 @@ module _ (counts rule counter : ℕ) where
 -- after a move by a rule of this number the tally is what the definitions make of it
 pub counted-by : (t : code.Counters) (rule : ℕ) (done : Rule) → ruleNumber done ≡ rule →
     countersOf (countedBy t rule) ≡ counted done (countersOf t)
-unfolding counted countedAt raisedBy countedBy
+unfolding counted countedAt countedBy
 counted-by t rule done e = ap (λ number. countersOf (countedBy t number)) (sym e)
 
 -- no two values of the code are one tally

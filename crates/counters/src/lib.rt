@@ -6,7 +6,8 @@ ghost use mathlib.Core.Path.{_≡_};
 ghost use Rattle.calculus.specs.Reduction.{Rule};
 ghost use Rattle.semantics.specs.Definitions.Moves.{ruleNumber};
 ghost use Rattle.semantics.specs.Definitions.Run.{freshCounters, counted};
-ghost use Rattle.counters.specs.Counted.{countersOf, raisedBy, countedBy};
+ghost use Rattle.counters.specs.Counted.{countersOf, countedBy};
+ghost use Rattle.semantics.specs.Definitions.Run.{countedAt};
 
 // A counter that has come here stays.
 pub const COUNTER_TOP: u32 = 4294967295;
@@ -19,7 +20,7 @@ pub struct Counters {
 
 // A counter after a move by a rule: one more where it is the rule that this counter counts.
 fn raised(counts: u8, rule: u8, counter: u32) -> u32
-    ensures { λ r. ⌜ r ≡ raisedBy counts rule counter ⌝ }
+    ensures { λ r. ⌜ r ≡ countedAt counts rule counter ⌝ }
 {
     if rule != counts {
         return counter;

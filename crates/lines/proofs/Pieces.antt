@@ -6,10 +6,10 @@ use mathlib.Core.Path.{_≡_, refl, sym, ap, _∙_}
 use mathlib.Core.List.{List, [], _∷_, _++_, append-assoc, append-nil, flatten}
 use lib.ListN.{length, length-append}
 use Rattle.semantics.specs.Definitions.Run.{net}
-use Rattle.semantics.specs.Definitions.Report.{decimal, signed, line}
+use Rattle.semantics.specs.Definitions.Report.{decimal, signed, line, channelLine}
 use Rattle.decimals.specs.Wrote.{Wrote}
 use Rattle.decimals.proofs.Digits.{wrote-more, wrote-length}
-use Rattle.lines.specs.Lines.{wordsOf, numberLine, netWord, channelHead, channelLine}
+use Rattle.lines.specs.Lines.{wordsOf, numberLine, netWord, channelHead}
 
 -- the first pieces of a text are written from an offset on, and there is room for all of it
 pub record Begun (s₀ : List ℕ) (at : ℕ) (v rest : List ℕ) (s : List ℕ) (end : ℕ) : Type 0 where

@@ -10,7 +10,7 @@ use Rattle.semantics.specs.Definitions.Report.{decimal, signed, line}
 use Rattle.buffer.proofs.Written.{written-none}
 use Rattle.decimals.specs.Wrote.{Wrote}
 use Rattle.decimals.proofs.Digits.{wrote-more, wrote-length}
-use Rattle.lines.specs.Lines.{wordsOf, numberLine, channelLine}
+use Rattle.lines.specs.Lines.{wordsOf, numberLine}
 
 -- ---- words
 

@@ -7,7 +7,8 @@ use decimals::write_net;
 ghost use Prim.Native.Nat.{_+_, _≤_};
 ghost use lib.ListN.{length};
 ghost use Rattle.decimals.specs.Wrote.{Wrote};
-ghost use Rattle.lines.specs.Lines.{wordsOf, numberLine, netWord, channelHead, channelLine};
+ghost use Rattle.lines.specs.Lines.{wordsOf, numberLine, netWord, channelHead};
+ghost use Rattle.semantics.specs.Definitions.Report.{channelLine};
 
 // ASCII codes: what stands before a word, and what ends a line.
 const SPACE: u8 = 32;

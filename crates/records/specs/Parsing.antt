@@ -29,7 +29,7 @@ pub record WholeRecord (s : List ℕ) (at : ℕ) (x : Record) : Type 0 where
 pub record ShortRecord (s : List ℕ) (at : ℕ) : Type 0 where
   pub inside : at < length s
   pub known : IsKind (getD s at 0)
-  pub past : length s < at + 1 + length (bodyOf (getD s at 0))
+  pub cut : length s < at + 1 + length (bodyOf (getD s at 0))
 
 abbrev pub ParsedAs : List ℕ → ℕ → Parsed → Type 0
 ParsedAs s at End = length s ≤ at

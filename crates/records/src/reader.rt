@@ -33,7 +33,7 @@ impl<'a> Reader<'a> {
     }
 
     // What stands at the reader's offset. A whole record has the offset behind it, for `seek`.
-    pub fn draw(self) -> Parsed
+    pub fn parse_next(self) -> Parsed
         ensures { λ r. ⌜ ParsedAs (now (self .entry .table)) (self .entry .at) r ⌝ }
     {
         record_at(self.table, self.at)
@@ -45,5 +45,5 @@ impl<'a> Reader<'a> {
 pub fn parse(table: &[u8], at: usize) -> Parsed
     ensures { λ r. ⌜ ParsedAs (now (table .entry)) at r ⌝ }
 {
-    Reader::new(table).seek(at).draw()
+    Reader::new(table).seek(at).parse_next()
 }

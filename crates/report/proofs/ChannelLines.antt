@@ -12,9 +12,8 @@ use lib.Dec.{eqb}
 use borrow.Author.Tests.{eq-eqb, eqb-true}
 use mir.Syntax.{w8}
 use mir.Val.{Fits}
-use Rattle.semantics.specs.Definitions.Report.{channelLines}
+use Rattle.semantics.specs.Definitions.Report.{channelLine, channelLines}
 use Rattle.decimals.specs.Wrote.{Wrote}
-use Rattle.lines.specs.Lines.{channelLine}
 use Rattle.report.specs.Limits.{channelMost, channelsMost}
 use Rattle.report.specs.Printed.{Printed, channelText}
 use Rattle.report.proofs.Texts.{printed-none, printed-length, printed-room, printed-more}

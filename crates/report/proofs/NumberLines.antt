@@ -9,8 +9,8 @@ use lib.ListN.{length, length-append}
 use lib.IntN.{pos, negsuc}
 use lib.Dec.{ltb}
 use Rattle.semantics.specs.Definitions.Run.{net}
-use Rattle.semantics.specs.Definitions.Report.{decimal, signed, line}
-use Rattle.lines.specs.Lines.{wordsOf, numberLine, channelLine}
+use Rattle.semantics.specs.Definitions.Report.{decimal, signed, line, channelLine}
+use Rattle.lines.specs.Lines.{wordsOf, numberLine}
 use Rattle.decimals.proofs.Digits.{decimal-short}
 
 module _ (letter a b c : ℕ) where

@@ -11,10 +11,9 @@ use lib.ListN.{length, take, getElem?}
 use lib.Dec.{eqb}
 use Rattle.semantics.specs.Definitions.Terms.{Term}
 use Rattle.semantics.specs.Definitions.Configuration.{Component, Configuration}
-use Rattle.semantics.specs.Definitions.Report.{componentLine}
+use Rattle.semantics.specs.Definitions.Report.{channelLine, componentLine}
 use Rattle.semantics.specs.Checks.PrintedRun.{TablePart}
 use Rattle.decimals.specs.Wrote.{Wrote}
-use Rattle.lines.specs.Lines.{channelLine}
 use Rattle.index.specs.Holds.{Holds}
 use Rattle.report.specs.Limits.{componentMost, componentsMost}
 

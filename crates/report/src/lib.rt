@@ -2,7 +2,7 @@
 // the bytes of its text.
 mod channels;
 mod components;
-mod outcomes;
+mod numbers;
 mod printing;
 mod tables;
 

@@ -7,7 +7,7 @@ use Rattle.semantics.specs.Definitions.Table.{readTable}
 use Rattle.semantics.specs.Definitions.Logs.{addToken}
 use Rattle.semantics.specs.Claims.Denotation.{parallel, Bounded, WithinLimits}
 use Rattle.semantics.specs.Definitions.Report.{printedRun}
-use Rattle.semantics.specs.Checks.EdgeExamples.{repliesOn, trials, tableOutcome, widths, branchings, lengths, bodies}
+use Rattle.semantics.specs.Checks.EdgeExamples.{repliesOn, trials, tableSeen, widths, branchings, lengths, bodies}
 use Rattle.semantics.specs.Checks.EdgeExamples.{termsAndTrays, references, classes, tokensAndStarts, printedRuns}
 use Rattle.semantics.specs.Checks.EdgeExamples.{storedTable, formIn, stationForms, cutForms, leafForms, treeForms}
 use Rattle.semantics.specs.Checks.EdgeExamples.{HallsChecked, LeftAlone, SeveralCalls, HandoverLimits, RulesNumbered}
@@ -18,7 +18,7 @@ unfolding HandoverLimits WithinLimits Bounded parallel addToken
 handover = ((((omega arith, tt), omega arith), (omega arith, tt)), λ h. let z : 256 ≤ 255 = h .1 .0 in omega arith)
 
 pub edge-examples : EdgeExamples
-unfolding repliesOn trials tableOutcome widths branchings lengths bodies termsAndTrays references classes tokensAndStarts
+unfolding repliesOn trials tableSeen widths branchings lengths bodies termsAndTrays references classes tokensAndStarts
     printedRuns storedTable formIn stationForms cutForms leafForms treeForms HallsChecked LeftAlone SeveralCalls
     RulesNumbered readTable printedRun
 edge-examples = record {

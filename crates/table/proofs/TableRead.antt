@@ -7,7 +7,7 @@ use mathlib.Core.Path.{_≡_, refl, ap, _∙_}
 use mathlib.Core.List.{List, []}
 use lib.ListN.{length, drop, replicate, length-replicate}
 use lib.Seq.{drop-drop}
-use Rattle.semantics.specs.Definitions.Table.{Reading, TableAnswer, accepted, refusedAt, RecordOutcome, stop, more, readRecord, thenRead, readFrom, emptyReading, readTable}
+use Rattle.semantics.specs.Definitions.Table.{Reading, TableAnswer, accepted, refusedAt, RecordAnswer, stop, more, readRecord, thenRead, readFrom, emptyReading, readTable}
 use Rattle.semantics.specs.Definitions.Calls.{ok, tableVerdict, checkTable}
 use Rattle.terms.proofs.Stores.{none-decoded}
 use Rattle.table.specs.declared.Read.{Read}
@@ -57,7 +57,7 @@ module _ (s : List ℕ) (at n : ℕ) (d : List ℕ) (w : ReadSoFar s at n d)
     advanced : {C : Type 0} → ((y : Reading) (v : ℕ) → readRecord so-far at (drop at s) ≡ more y v → Advanced s at next m y v d′ → C) → C
     advanced {C} k = go (readRecord so-far at (drop at s)) refl (rw e at agrees)
       where
-        go : (t : RecordOutcome) → readRecord so-far at (drop at s) ≡ t → AgreesWith s at (More next m) t d′ → C
+        go : (t : RecordAnswer) → readRecord so-far at (drop at s) ≡ t → AgreesWith s at (More next m) t d′ → C
         go (stop a) p h = absurd h
         go (more y v) p h = k y v p h
 
@@ -89,7 +89,7 @@ module _ (s : List ℕ) (at n : ℕ) (d : List ℕ) (w : ReadSoFar s at n d)
   unfolding thenRead
   answered a e = go (readRecord so-far at (drop at s)) refl (rw e at agrees) (step-of (w .fuel) (w .enough) (readTable s) (w .says))
     where
-      go : (t : RecordOutcome) → readRecord so-far at (drop at s) ≡ t → AgreesWith s at (Answer a) t d′ →
+      go : (t : RecordAnswer) → readRecord so-far at (drop at s) ≡ t → AgreesWith s at (Answer a) t d′ →
           (g : ℕ) × (w .fuel ≡ suc g) × (readTable s ≡ thenRead (readRecord so-far at (drop at s)) (λ y v. readFrom g y (at + v) (drop v (drop at s)))) →
           Answers a (readTable s) d′
       go (stop b) p h q = let r : readTable s ≡ b = rw p at (q .2) in rw r h

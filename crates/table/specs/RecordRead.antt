@@ -9,7 +9,7 @@ use lib.ListN.{length, drop, set}
 use lib.Dec.{ltb}
 use Rattle.semantics.specs.Definitions.Layout.{maxTerms}
 use Rattle.semantics.specs.Definitions.Terms.{Term}
-use Rattle.semantics.specs.Definitions.Table.{tokensRecord, badTokens, Reading, RecordOutcome, stop, more, readRecord}
+use Rattle.semantics.specs.Definitions.Table.{tokensRecord, badTokens, Reading, RecordAnswer, stop, more, readRecord}
 use Rattle.records.specs.declared.Record.{Record}
 use Rattle.terms.specs.Decoded.{decodedBytes, tokensIn, withRecord, withMeasures, Decoded}
 use Rattle.terms.specs.TermMeasures.{Measurable, MeasuresOf, LimitTested}
@@ -27,7 +27,7 @@ pub record Advanced (s : List ℕ) (at next n : ℕ) (y : Reading) (w : ℕ) (d 
   pub counted : length (y .terms) ≡ n
   pub tokens : y .tokens ≡ tokensIn d
 
-abbrev pub AgreesWith : (s : List ℕ) (at : ℕ) → AfterRecord → RecordOutcome → List ℕ → Type 0
+abbrev pub AgreesWith : (s : List ℕ) (at : ℕ) → AfterRecord → RecordAnswer → List ℕ → Type 0
 AgreesWith s at (More next n) (stop a) d = ⊥
 AgreesWith s at (More next n) (more y w) d = Advanced s at next n y w d
 AgreesWith s at (Answer a) (stop b) d = Answers a b d

@@ -13,7 +13,7 @@ use lib.Dec.{ltb}
 use borrow.Author.Tests.{lt-ltb, le-ltb}
 use Rattle.semantics.specs.Definitions.Basics.{firstOf}
 use Rattle.semantics.specs.Definitions.Terms.{Term}
-use Rattle.semantics.specs.Definitions.Table.{Kind, nilK, putK, takeK, repeatK, parK, atomK, endK, retryK, rdK, wtK, orElseK, tokensK, startK, kindOf, Field, fields, Reading, refusedAt, Content, recordContent, programIn, expressionIn, anyField, channelOutOfRange, forwardReference, classMismatch, tests, RecordOutcome, stop, recordPassed, recordTested, recordOfKind, readRecord}
+use Rattle.semantics.specs.Definitions.Table.{Kind, nilK, putK, takeK, repeatK, parK, atomK, endK, retryK, rdK, wtK, orElseK, tokensK, startK, kindOf, Field, fields, Reading, refusedAt, Content, recordContent, programIn, expressionIn, anyField, channelOutOfRange, forwardReference, classMismatch, tests, RecordAnswer, stop, recordPassed, recordTested, recordOfKind, readRecord}
 use Rattle.records.specs.declared.Record.{Record}
 use Rattle.records.specs.Shapes.{lastKind, bodyOf}
 use Rattle.records.specs.Parsing.{ShortRecord, WholeRecord}
@@ -53,7 +53,7 @@ any-two fails (f ∷ e ∷ d ∷ fs) bs h g = absurd (omega arith)
 -- ---- the first test that fails decides the turn
 
 -- the turn after a refusal's number, 0 for none
-unfoldable pub afterTests : ℕ → Reading → ℕ → Content → (w next : ℕ) → List ℕ → RecordOutcome
+unfoldable pub afterTests : ℕ → Reading → ℕ → Content → (w next : ℕ) → List ℕ → RecordAnswer
 unfolding recordPassed
 afterTests zero x at c w next rest = recordPassed x c w next rest
 afterTests (suc m) x at c w next rest = stop (refusedAt (suc m) at)
@@ -122,7 +122,7 @@ module _ (x : Reading) (s : List ℕ) (at : ℕ) where
       let l = length-drop (suc at) s in
       let b = ap length (body-of-kind (getD s at 0) (K .kind) (K .named)) in
       byte-turn (h .inside)
-      ∙ rw (K .named, lt-ltb (length (drop (suc at) s)) (length (fields (K .kind))) (omega (arith, h .past, h .inside))) refl
+      ∙ rw (K .named, lt-ltb (length (drop (suc at) s)) (length (fields (K .kind))) (omega (arith, h .cut, h .inside))) refl
 
   module _ (y : Record) (w : WholeRecord s at y) (K : Kind) (named : kindOf (y .kind) ≡ some K) where
     abbrev body : ℕ

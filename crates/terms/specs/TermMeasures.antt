@@ -11,26 +11,26 @@ use Rattle.semantics.specs.Checks.AcceptedTables.{SubtermsIn, GoodTable}
 use Rattle.semantics.specs.Definitions.Table.{termRecord, overLimit}
 use Rattle.terms.specs.Decoded.{maxTerms, RecordOf, RecordAt, MeasuresAt, breadth, termLength}
 
--- number i of d is the record of term t, over terms ts whose records d holds, the first `kept` of them with their
+-- number i of d is the record of term t, over terms ts whose records d holds, the first `measured` of them with their
 -- measures. t is one of ts, or one that is to follow them
-pub record TermAt (d : List ℕ) (kept i : ℕ) (ts : List Term) (t : Term) : Type 0 where
+pub record TermAt (d : List ℕ) (measured i : ℕ) (ts : List Term) (t : Term) : Type 0 where
   pub good : GoodTable ts
   pub records : (j : ℕ) (u : Term) → getElem? ts j ≡ some u → RecordAt d j u
-  pub measures : (j : ℕ) (u : Term) → getElem? ts j ≡ some u → j < kept → MeasuresAt d j u
+  pub measures : (j : ℕ) (u : Term) → getElem? ts j ≡ some u → j < measured → MeasuresAt d j u
   pub inside : i < maxTerms
   pub own : RecordAt d i t
   pub subterms : SubtermsIn ts t
-  pub entry : i < kept → getElem? ts i ≡ some t
+  pub entry : i < measured → getElem? ts i ≡ some t
 
 -- what the walk asks: there is such a term
-pub record Measurable (d : List ℕ) (kept i : ℕ) : Type 0 where
+pub record Measurable (d : List ℕ) (measured i : ℕ) : Type 0 where
   pub terms : List Term
   pub tree : Term
-  pub there : TermAt d kept i terms tree
+  pub there : TermAt d measured i terms tree
 
 -- what it answers: the measures of any such term
-pub record MeasuresOf (d : List ℕ) (kept i b l : ℕ) : Type 0 where
-  pub found : (ts : List Term) (t : Term) → TermAt d kept i ts t → (b ≡ breadth t) × (l ≡ termLength t)
+pub record MeasuresOf (d : List ℕ) (measured i b l : ℕ) : Type 0 where
+  pub found : (ts : List Term) (t : Term) → TermAt d measured i ts t → (b ≡ breadth t) × (l ≡ termLength t)
 
 -- r tells whether a term of kind k, with these measures, is past a limit
 pub record LimitTested (k b l : ℕ) (r : Bool) : Type 0 where

@@ -153,8 +153,8 @@ fn of_longer(rest: Measures) -> Measures
     }
 }
 
-// The measures that are kept of the term at a number.
-fn kept_measures(decoded: &[u8; DECODED], i: usize) -> Measures
+// The measures that are measured of the term at a number.
+fn stored_measures(decoded: &[u8; DECODED], i: usize) -> Measures
     requires { ⌜ i < maxTerms ⌝ }
     ensures { λ m. ⌜ m .breadth ≡ breadthAt (now (decoded .entry)) i ⌝ }
     ensures { λ m. ⌜ m .length ≡ lengthAt (now (decoded .entry)) i ⌝ }
@@ -166,21 +166,21 @@ fn kept_measures(decoded: &[u8; DECODED], i: usize) -> Measures
 }
 
 // The walk: the measures of the term at a number, over the unfolded term. References go to smaller numbers. The measures
-// of the first `kept` terms stand in the decoded table and are looked up; with none kept, the whole term is walked.
-fn walked_measures(decoded: &[u8; DECODED], kept: usize, at: usize) -> Measures
-    requires { ⌜ Measurable (now decoded) kept at ⌝ }
-    ensures { λ m. ⌜ MeasuresOf (now (decoded .entry)) kept at (m .breadth) (m .length) ⌝ }
+// of the first `measured` terms stand in the decoded table and are looked up; with none measured, the whole term is walked.
+fn recursive_measures(decoded: &[u8; DECODED], measured: usize, at: usize) -> Measures
+    requires { ⌜ Measurable (now decoded) measured at ⌝ }
+    ensures { λ m. ⌜ MeasuresOf (now (decoded .entry)) measured at (m .breadth) (m .length) ⌝ }
 {
-    if at < kept {
-        return kept_measures(decoded, at);
+    if at < measured {
+        return stored_measures(decoded, at);
     }
     match kind_of(decoded, at) {
         PAR | OR_ELSE => {
-            let left = walked_measures(decoded, kept, wide(first_of(decoded, at)));
-            let right = walked_measures(decoded, kept, wide(second_of(decoded, at)));
+            let left = recursive_measures(decoded, measured, wide(first_of(decoded, at)));
+            let right = recursive_measures(decoded, measured, wide(second_of(decoded, at)));
             of_both(left, right)
         }
-        RD | WT => of_longer(walked_measures(decoded, kept, wide(second_of(decoded, at)))),
+        RD | WT => of_longer(recursive_measures(decoded, measured, wide(second_of(decoded, at)))),
         _ => Measures {
             breadth: 1,
             length: 0,
@@ -188,18 +188,18 @@ fn walked_measures(decoded: &[u8; DECODED], kept: usize, at: usize) -> Measures
     }
 }
 
-// The walk's one turn where all parts are kept, written out: the compiler makes calls of the walk's own.
+// The walk's one turn where all parts are measured, written out: the compiler makes calls of the walk's own.
 fn new_measures(decoded: &[u8; DECODED], at: usize) -> Measures
     requires { ⌜ Measurable (now decoded) at at ⌝ }
     ensures { λ m. ⌜ MeasuresOf (now (decoded .entry)) at at (m .breadth) (m .length) ⌝ }
 {
     match kind_of(decoded, at) {
         PAR | OR_ELSE => {
-            let left = kept_measures(decoded, wide(first_of(decoded, at)));
-            let right = kept_measures(decoded, wide(second_of(decoded, at)));
+            let left = stored_measures(decoded, wide(first_of(decoded, at)));
+            let right = stored_measures(decoded, wide(second_of(decoded, at)));
             of_both(left, right)
         }
-        RD | WT => of_longer(kept_measures(decoded, wide(second_of(decoded, at)))),
+        RD | WT => of_longer(stored_measures(decoded, wide(second_of(decoded, at)))),
         _ => Measures {
             breadth: 1,
             length: 0,
@@ -207,15 +207,15 @@ fn new_measures(decoded: &[u8; DECODED], at: usize) -> Measures
     }
 }
 
-// The measures of the term at a number, the first `kept` terms' being kept.
-pub fn measures_of(decoded: &[u8; DECODED], kept: usize, at: usize) -> Measures
-    requires { ⌜ Measurable (now decoded) kept at ⌝ }
-    ensures { λ m. ⌜ MeasuresOf (now (decoded .entry)) kept at (m .breadth) (m .length) ⌝ }
+// The measures of the term at a number, the first `measured` terms' being measured.
+pub fn measures_of(decoded: &[u8; DECODED], measured: usize, at: usize) -> Measures
+    requires { ⌜ Measurable (now decoded) measured at ⌝ }
+    ensures { λ m. ⌜ MeasuresOf (now (decoded .entry)) measured at (m .breadth) (m .length) ⌝ }
 {
-    if kept == at {
+    if measured == at {
         return new_measures(decoded, at);
     }
-    walked_measures(decoded, kept, at)
+    recursive_measures(decoded, measured, at)
 }
 
 // 7: a process's width, or an expression's branches or length, is over its limit.

@@ -106,7 +106,7 @@ net-small a (suc b) h k = go (ltb a (suc b))
 -- ---- the counters
 
 -- a counter is raised by the rule of its number alone, up to its top
-raised : (n : ℕ) (r : Rule) (k : ℕ) → k ≤ counterTop → countedAt n r k ≡ min counterTop (k + same (ruleNumber r) n)
+raised : (n : ℕ) (r : Rule) (k : ℕ) → k ≤ counterTop → countedAt n (ruleNumber r) k ≡ min counterTop (k + same (ruleNumber r) n)
 unfolding countedAt same
 raised n r k h = go (eqb (ruleNumber r) n)
   where

@@ -14,7 +14,7 @@ use borrow.Author.Tests.{leb-false, not-false}
 use Rattle.calculus.specs.Syntax.{State}
 use Rattle.semantics.specs.Definitions.Basics.{firstOf, All}
 use Rattle.semantics.specs.Definitions.Terms.{endT, retryT, rdT, wtT, orElseT, Program, nilT, putT, takeT, repeatT, parT, atomT, Term, process, expression, number, width, branches, pathLength}
-use Rattle.semantics.specs.Definitions.Table.{Kind, nilK, putK, takeK, repeatK, parK, atomK, endK, retryK, rdK, wtK, orElseK, tokensK, startK, kindOf, Reading, Table, TableAnswer, accepted, refusedAt, isProgram, isExpression, asProgram, asExpression, Content, termRecord, tokensRecord, startRecord, recordContent, fields, anyField, tooManyTerms, channelOutOfRange, classMismatch, overLimit, Test, tests, RecordOutcome, stop, more, tableEnd, recordPassed, recordTested, recordOfKind, readRecord, thenRead, readFrom, emptyReading, readTable}
+use Rattle.semantics.specs.Definitions.Table.{Kind, nilK, putK, takeK, repeatK, parK, atomK, endK, retryK, rdK, wtK, orElseK, tokensK, startK, kindOf, Reading, Table, TableAnswer, accepted, refusedAt, isProgram, isExpression, asProgram, asExpression, Content, termRecord, tokensRecord, startRecord, recordContent, fields, anyField, tooManyTerms, channelOutOfRange, classMismatch, overLimit, Test, tests, RecordAnswer, stop, more, tableEnd, recordPassed, recordTested, recordOfKind, readRecord, thenRead, readFrom, emptyReading, readTable}
 use Rattle.semantics.specs.Checks.AcceptedTables.{programNumber, termNumber, ProgramIn, ExpressionIn, SubtermsIn, ChannelBelow, MeasuresWithinLimits, GoodTable}
 use Rattle.semantics.specs.Checks.StoredForm.{AcceptedIsGood, StartIsTerm, TokensAreCounts}
 use Rattle.theorems.proofs.Reading.{or-false}
@@ -210,7 +210,7 @@ AnswerGood : (ℕ → Type 0) → TableAnswer → Type 0
 AnswerGood B (accepted t) = TableGood B t
 AnswerGood B (refusedAt n p) = Unit {0}
 
-TurnGood : (ℕ → Type 0) → RecordOutcome → Type 0
+TurnGood : (ℕ → Type 0) → RecordAnswer → Type 0
 TurnGood B (stop x) = AnswerGood B x
 TurnGood B (more r w) = ReadingGood B r
 
@@ -244,7 +244,7 @@ module _ (B : ℕ → Type 0) where
       go none = tt
       go (some K) = tested-good r at K bs _ refl g (b .1)
 
-  after-good : (x : RecordOutcome) (next : Reading → ℕ → TableAnswer) → TurnGood B x → ((s : Reading) (w : ℕ) → ReadingGood B s → AnswerGood B (next s w)) →
+  after-good : (x : RecordAnswer) (next : Reading → ℕ → TableAnswer) → TurnGood B x → ((s : Reading) (w : ℕ) → ReadingGood B s → AnswerGood B (next s w)) →
       AnswerGood B (thenRead x next)
   unfolding thenRead TurnGood
   after-good (stop a) next g k = g

@@ -14,7 +14,7 @@ use borrow.Author.Tests.{eqb-true, eqb-false, eq-eqb, ne-eqb, ltb-false, lt-ltb,
 use Rattle.semantics.specs.Definitions.Basics.{firstOf}
 use Rattle.semantics.specs.Definitions.Terms.{Program}
 use Rattle.semantics.specs.Definitions.Table.{Kind, kindOf, fields, Reading, Table, TableAnswer, accepted, refusedAt, Content}
-use Rattle.semantics.specs.Definitions.Table.{termRecord, tokensRecord, startRecord, recordContent, Test, tests, RecordOutcome, stop, more, tableEnd}
+use Rattle.semantics.specs.Definitions.Table.{termRecord, tokensRecord, startRecord, recordContent, Test, tests, RecordAnswer, stop, more, tableEnd}
 use Rattle.semantics.specs.Definitions.Table.{recordPassed, recordTested, recordOfKind, readRecord, thenRead, readFrom, emptyReading, readTable}
 use Rattle.semantics.specs.Definitions.Configuration.{opening}
 use Rattle.semantics.specs.Definitions.Stored.{WellFormed, hallBytes, bytesOf, configurationOf}
@@ -114,7 +114,7 @@ module _ (cs : List ℕ) where
   AnswerEnds bs (accepted t) = TableEnds (bs ++ cs) (length bs)
   AnswerEnds bs (refusedAt n p) = Unit {0}
 
-  TurnEnds : List ℕ → RecordOutcome → Type 0
+  TurnEnds : List ℕ → RecordAnswer → Type 0
   TurnEnds bs (stop a) = AnswerEnds bs a
   TurnEnds bs (more r w) = TableEnds (drop w bs ++ cs) (length (drop w bs)) → TableEnds (bs ++ cs) (length bs)
 
@@ -175,7 +175,7 @@ module _ (cs : List ℕ) where
       lifted w (accepted t) g x = g x
       lifted w (refusedAt n p) g x = tt
 
-      go : (x : RecordOutcome) → TurnEnds bs x →
+      go : (x : RecordAnswer) → TurnEnds bs x →
           ((s : Reading) (w : ℕ) → AnswerEnds (drop w bs) (readFrom f s (at + w) (drop w bs))) →
           AnswerEnds bs (thenRead x (λ s w. readFrom f s (at + w) (drop w bs)))
       go (stop a) e later = e

@@ -18,7 +18,7 @@ use borrow.Author.Tests.{leb-true, leb-false, lt-leb, eqb-true, eqb-false}
 use Rattle.calculus.specs.State.{count}
 use Rattle.semantics.specs.Definitions.Basics.{firstOf}
 use Rattle.semantics.specs.Definitions.Terms.{Program, Term, process, expression, width, branches, pathLength}
-use Rattle.semantics.specs.Definitions.Table.{Kind, kindOf, Field, channelF, programF, expressionF, amountF, fields, Reading, Table, TableAnswer, accepted, refusedAt, isProgram, isExpression, Content, termRecord, tokensRecord, startRecord, recordContent, anyField, tooManyTerms, channelOutOfRange, forwardReference, classMismatch, overLimit, badTokens, Test, tests, RecordOutcome, stop, more, tableEnd, recordPassed, recordTested, recordOfKind, readRecord, thenRead, readFrom, emptyReading, readTable}
+use Rattle.semantics.specs.Definitions.Table.{Kind, kindOf, Field, channelF, programF, expressionF, amountF, fields, Reading, Table, TableAnswer, accepted, refusedAt, isProgram, isExpression, Content, termRecord, tokensRecord, startRecord, recordContent, anyField, tooManyTerms, channelOutOfRange, forwardReference, classMismatch, overLimit, badTokens, Test, tests, RecordAnswer, stop, more, tableEnd, recordPassed, recordTested, recordOfKind, readRecord, thenRead, readFrom, emptyReading, readTable}
 use Rattle.semantics.specs.Checks.Conditions.{Body, BodyByte, RecordAsStated, start13, ReadAsStated, TableCondition, kind-unknown, body-short, terms-many, channel-over, forward-reference, class-expression, class-process, width-over, paths-over, tokens-none, tokens-again, byte-follows, start-missing, NoCondition, Reached, at-first, after-term, after-tokens, TableRefused, TableAccepted, TableNumbers}
 use Rattle.theorems.proofs.Lists.{none-found, found-below, none-past}
 use Rattle.semantics.specs.Checks.AcceptedTables.{kindByte}
@@ -438,7 +438,7 @@ After r (tokensRecord a n) s = s ≡ record { terms = r .terms; tokens = set (r 
 After r (startRecord P) s = ⊥
 
 -- the record at a place of the table met a condition, closes the table, or is passed
-abbrev TurnReason : Reading → ℕ → List ℕ → RecordOutcome → Type 0
+abbrev TurnReason : Reading → ℕ → List ℕ → RecordAnswer → Type 0
 TurnReason r p bs (stop (refusedAt n q)) =
     (o : ℕ) × TableCondition r n o bs × ((m i : ℕ) → m < n → TableCondition r m i bs → ⊥) × (q ≡ p + o)
 TurnReason r p bs (stop (accepted t)) =
@@ -521,7 +521,7 @@ turn-refuses r p bs n o c before = go (readRecord r p bs) (turn-reason r p bs)
               elim (decLt n m) [ yes g ↦ absurd (first n o g c) | no g ↦ omega arith ]
         ]
 
-    go : (t : RecordOutcome) → TurnReason r p bs t → t ≡ stop (refusedAt n (p + o))
+    go : (t : RecordAnswer) → TurnReason r p bs t → t ≡ stop (refusedAt n (p + o))
     go (stop (refusedAt m q)) (i, d, first, e) =
         let u =
         same-number m i d first in let x = condition-offset r m i bs d in let y = condition-offset r n o bs c in cc
@@ -610,7 +610,7 @@ module _ (bs : List ℕ) where
   unfolding readFrom thenRead
   answered zero r p reached l = go (readRecord r p (drop p bs)) (turn-reason r p (drop p bs))
     where
-      go : (t : RecordOutcome) → TurnReason r p (drop p bs) t →
+      go : (t : RecordAnswer) → TurnReason r p (drop p bs) t →
           AnswerReason (thenRead t (λ s w. readFrom 0 s (p + w) (drop w (drop p bs))))
       go (stop a) h = stop-reason p r reached a h
       go (more s w) h = absurd (let z = printed-within r (drop p bs) w (h .1) (h .0) (h .2) in omega arith)
@@ -618,7 +618,7 @@ module _ (bs : List ℕ) where
       go (readRecord r p (drop p bs)) (turn-reason r p (drop p bs))
       (λ s w h. answered f s (p + w) (reached-next p r reached s w h))
     where
-      go : (t : RecordOutcome) → TurnReason r p (drop p bs) t →
+      go : (t : RecordAnswer) → TurnReason r p (drop p bs) t →
           ((s : Reading) (w : ℕ) → TurnReason r p (drop p bs) (more s w) → length (drop (p + w) bs) ≤ f →
           AnswerReason (readFrom (suc f) s (p + w) (drop (p + w) bs))) →
           AnswerReason (thenRead t (λ s w. readFrom (suc f) s (p + w) (drop w (drop p bs))))

@@ -47,7 +47,7 @@ ConverseStepsAreMoves =
 unfoldable pub ReadableBlocksCommit : Type 0
 ReadableBlocksCommit =
     (s : PlainState) (p n : ℕ) (M : Expression) → getElem? (s .stations) p ≡ some (block n M) →
-    (earlier later : List Log) (δ : Log) → paths M ≡ earlier ++ (δ ∷ later) →
+    (earlier rest : List Log) (δ : Log) → paths M ≡ earlier ++ (δ ∷ rest) →
     All (λ π. ¬ Included (RD π) (s .counts)) earlier → Included (RD δ) (s .counts) →
     length (replaceAt p (map output (WT δ)) (s .stations)) ≤ 64 →
     ConverseStep s p (replacing s p (without (s .counts) (RD δ)) (map output (WT δ)))

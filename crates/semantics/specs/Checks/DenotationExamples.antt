@@ -16,11 +16,11 @@ abbrev program : Program
 program = parT 11 (putT 5 3) (parT 10 (takeT 8 4 (repeatT 7 5 (nilT 6))) (atomT 9 expression))
 
 -- the same in the calculus
-abbrev printed : Expr
-printed = orElse (prefix (rd 1) end) (prefix (wt 2) retry)
+abbrev inCalculus : Expr
+inCalculus = orElse (prefix (rd 1) end) (prefix (wt 2) retry)
 
 pub record DenotationExamples : Type 0 where
-  pub term : proc program ≡ par (out 3) (par (inp 4 (rep 5 nil)) (atom printed))
+  pub term : proc program ≡ par (out 3) (par (inp 4 (rep 5 nil)) (atom inCalculus))
   -- its attempt after the fork, the left side's read logged, begun with one token in tray 1
   pub attempt :
       componentProcess (
@@ -28,4 +28,4 @@ pub record DenotationExamples : Type 0 where
       )
       ≡ ongoing
       (orElse′ (running end (0 ∷ 1 ∷ []) (rd 1 ∷ [])) (running (prefix (wt 2) retry) (0 ∷ 1 ∷ []) []))
-      printed
+      inCalculus

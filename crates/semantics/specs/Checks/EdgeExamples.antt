@@ -86,17 +86,17 @@ trials =
 -- ---- tables
 
 -- what checking a table gives, and what the program prints for it alone
-pub record TableOutcome : Type 0 where
+pub record TableSeen : Type 0 where
   pub checked : Verdict
   pub text : List ℕ
 
 pub record TableRow : Type 0 where
   pub table : List ℕ
-  pub expected : TableOutcome
+  pub expected : TableSeen
 
-unfoldable pub tableOutcome : List ℕ → TableOutcome
+unfoldable pub tableSeen : List ℕ → TableSeen
 unfolding checkTable printedRun
-tableOutcome table = record { checked = checkTable table; text = printedRun table }
+tableSeen table = record { checked = checkTable table; text = printedRun table }
 
 -- accepted, with these lines behind the first two
 unfoldable pub fits : (table lines : List ℕ) → TableRow
@@ -292,23 +292,23 @@ unfolding numbers
 storedTable = numbers "7 8 10 0 0 9 1 2 11 0 1 6 3 1 3 2 6 4 2 6 2 3 5 9 9 13 5"
 
 -- what checking the form of a hall gives, and the choices accepted on it
-pub record FormOutcome : Type 0 where
+pub record FormRead : Type 0 where
   pub checked : Verdict
   pub accepts : List ℕ
 
 pub record FormRow : Type 0 where
   pub bytes : List ℕ
-  pub expected : FormOutcome
+  pub expected : FormRead
 
-unfoldable pub formOutcome : Admission → FormOutcome
+unfoldable pub formRead : Admission → FormRead
 unfolding admissionVerdict acceptedOn
-formOutcome a = record { checked = admissionVerdict a; accepts = acceptedOn a }
+formRead a = record { checked = admissionVerdict a; accepts = acceptedOn a }
 
 -- the size is tested apart, so that bytes of any length will do
-unfoldable pub formIn : TableAnswer → List ℕ → FormOutcome
-unfolding formOutcome formTested configurationOf
-formIn (refusedAt n p) bs = formOutcome (notAdmitted n p)
-formIn (accepted t) bs = formOutcome (formTested t (configurationOf (t .terms) bs))
+unfoldable pub formIn : TableAnswer → List ℕ → FormRead
+unfolding formRead formTested configurationOf
+formIn (refusedAt n p) bs = formRead (notAdmitted n p)
+formIn (accepted t) bs = formRead (formTested t (configurationOf (t .terms) bs))
 
 -- behind empty trays these bytes, well formed and not
 unfoldable pub sound : (bytes : List ℕ) (accepts : String) → FormRow
@@ -432,32 +432,33 @@ LeftAlone =
 
 -- number, place and done of each call, the choices done over all of them, hall and tally behind them, and the one-step
 -- run
-pub record CallsOutcome : Type 0 where
+pub record CallsSeen : Type 0 where
   pub replies : List (List ℕ)
   pub done : List ℕ
   pub counters : Counters
   pub hall : List ℕ
   pub oneStep : Option OneStep
 
-unfoldable pub callsOutcome : (table : List ℕ) → Counters → List Call → CallsOutcome
+unfoldable pub callsSeen : (table : List ℕ) → Counters → List Call → CallsSeen
 unfolding noise openHall answers afterCalls entriesDone scheduleBytes oneStepRun readTable
-callsOutcome table c cs =
+callsSeen table c cs =
     let l : Buffers = record { hall = (openHall table noise) .hall; counters = c } in
     let done = entriesDone table l cs in
+    let after = afterCalls table l cs in
     record {
       replies = map (λ a. a .number ∷ a .place ∷ a .done ∷ []) (answers table l cs);
       done = scheduleBytes done;
-      counters = (afterCalls table l cs) .counters;
-      hall = (afterCalls table l cs) .hall;
+      counters = after .counters;
+      hall = after .hall;
       oneStep = oneStepRun (readTable table) none c done;
     }
 
 -- rehearsal 1 in three calls, the first ended by 16, the last by 13: each gets hall and tally as the last one left
 -- them, and a refused choice and what follows it in its call never reach the one-step run
 unfoldable pub SeveralCalls : Type 0
-unfolding numbers tally trays hallOf callsOutcome
+unfolding numbers tally trays hallOf callsSeen
 SeveralCalls =
-    callsOutcome (numbers "7 10 1 0 9 0 1 6 2 12 0 1 13 3") (tally 3 4 5)
+    callsSeen (numbers "7 10 1 0 9 0 1 6 2 12 0 1 13 3") (tally 3 4 5)
     (map runChoices (numbers "1 0 2 0 0 2 0 5 1 0" ∷ numbers "2 0 0 1 0 1 0" ∷ numbers "1" ∷ []))
     ≡ record {
       replies = numbers "16 5 2" ∷ numbers "0 7 3" ∷ numbers "13 0 0" ∷ [];
@@ -498,7 +499,7 @@ abbrev pub ChoiceHolds : Trial → Type 0
 ChoiceHolds r = repliesOn (readTable (r .table)) (r .done) (r .tried) ≡ r .expected
 
 abbrev pub TableHolds : TableRow → Type 0
-TableHolds r = tableOutcome (r .table) ≡ r .expected
+TableHolds r = tableSeen (r .table) ≡ r .expected
 
 abbrev pub RunHolds : PrintedRow → Type 0
 RunHolds r = printedRun (r .input) ≡ r .text

@@ -26,7 +26,7 @@ use Rattle.semantics.specs.Definitions.Configuration.{Idle, taking, repe
 use Rattle.semantics.specs.Definitions.Moves.{Entry, act, inside, Answer, moved, refused, answerTo}
 use Rattle.semantics.specs.Definitions.Run.{Counters, schedule, entries, entryBytes, steps}
 use Rattle.semantics.specs.Definitions.AtomicRun.{atomicStart, atomicRun}
-use Rattle.semantics.specs.Definitions.Calls.{Verdict, ok, rejected, checkTable, checkHall, Admission, admitted, notAdmitted, admission}
+use Rattle.semantics.specs.Definitions.Calls.{Verdict, ok, rejected, checkTable, Admission, admitted, notAdmitted, admission, admissionVerdict}
 use Rattle.semantics.specs.Definitions.Calls.{OpenAnswer, opened, notOpened, openHall, Buffers, runCall}
 use Rattle.semantics.specs.Definitions.Report.{printedRun}
 
@@ -128,22 +128,24 @@ oneStepRun (accepted t) (some hall) c es = none
 
 -- a run as a call on a lent hall and tally, and all that is looked at beside it
 unfoldable pub ranOut : Example → Buffers → OpenAnswer → Observed
-unfolding rulesDone acceptedOn oneStepRun readTable checkTable checkHall admission runCall entries schedule printedRun
+unfolding rulesDone acceptedOn oneStepRun readTable checkTable admissionVerdict admission runCall entries schedule printedRun
 ranOut e l o =
     let r = runCall (e .table) l (e .choices) in
     let done = take (r .done) (entries (schedule (e .choices))) in
+    let before = admission (e .table) (l .hall) in
+    let behind = admission (e .table) (r .buffers .hall) in
     record {
       checked = checkTable (e .table);
       opens = o;
-      before = checkHall (e .table) (l .hall);
-      rules = rulesDone (admission (e .table) (l .hall)) done;
+      before = admissionVerdict before;
+      rules = rulesDone before done;
       number = r .number;
       place = r .place;
       done = r .done;
       counters = r .buffers .counters;
       hall = r .buffers .hall;
-      behind = checkHall (e .table) (r .buffers .hall);
-      accepts = acceptedOn (admission (e .table) (r .buffers .hall));
+      behind = admissionVerdict behind;
+      accepts = acceptedOn behind;
       oneStep = oneStepRun (readTable (e .table)) (e .stored) (e .first) done;
       text = printedRun (e .table ++ e .choices);
     }

@@ -11,7 +11,7 @@ use lib.ListN.{replicate}
 use Rattle.semantics.specs.Definitions.Run.{Counters}
 use Rattle.semantics.specs.Definitions.Calls.{openHall, Buffers, StepCall, stepCall, runChoices, stepChoice}
 use Rattle.semantics.specs.Checks.Examples.{noise, numbers, trays, hallOf, attempt, leafOf, tally}
-use Rattle.semantics.specs.Checks.EdgeExamples.{callsOutcome}
+use Rattle.semantics.specs.Checks.EdgeExamples.{callsSeen}
 use Rattle.semantics.specs.Checks.SuggestionExamples.{blockTable}
 
 -- steps in turn, each a kind, a position and a node
@@ -70,9 +70,9 @@ Rejected =
 
 -- rehearsal 1 by runs and steps: a run ended by 16 and a step of an unknown kind are among them
 unfoldable pub Mixed : Type 0
-unfolding blockTable numbers tally trays hallOf callsOutcome
+unfolding blockTable numbers tally trays hallOf callsSeen
 Mixed =
-    callsOutcome blockTable (tally 3 4 5)
+    callsSeen blockTable (tally 3 4 5)
     (stepChoice 1 0 9 ∷ runChoices (numbers "2 0 0 2 0 5 1 0") ∷ stepChoice 2 0 0 ∷ stepChoice 3 0 0 ∷
     runChoices (numbers "1 0 1 0") ∷ [])
     ≡ record {

@@ -48,9 +48,9 @@ numberedRun a (e ∷ es) = numberedRun (numberedStep a e) es
 -- without the numbers
 unfoldable pub unnumbered : Atomic Note → Atomic State
 unnumbered a =
-    let plain : WithNote Note → WithNote State =
+    let withoutNumber : WithNote Note → WithNote State =
     λ x. record { station = x .station; note = Option·map (λ m. m .counts) (x .note) } in
-    record { counts = a .counts; stations = map plain (a .stations); counters = a .counters }
+    record { counts = a .counts; stations = map withoutNumber (a .stations); counters = a .counters }
 
 -- it is the one-step run
 unfoldable pub NumberedIsAtomic : Type 0

@@ -50,14 +50,17 @@ unfoldable pub countersLine : Counters → List ℕ
 unfolding line decimal
 countersLine c = line 67 (decimal (c .commits) ∷ decimal (c .failed) ∷ decimal (c .retries) ∷ [])
 
--- `T tray first net last`, from tray i on, but not for a tray that was and is empty
-unfoldable pub channelLines : ℕ → (first last : State) → List ℕ
+-- `T tray first net last`
+unfoldable pub channelLine : (channel first last : ℕ) → List ℕ
 unfolding line decimal signed net
+channelLine i f l = line 84 (decimal i ∷ decimal f ∷ signed (net f l) ∷ decimal l ∷ [])
+
+-- one for each tray from tray i on, but not for a tray that was and is empty
+unfoldable pub channelLines : ℕ → (first last : State) → List ℕ
+unfolding channelLine
 channelLines i [] ls = []
 channelLines i (f ∷ fs) [] = []
-channelLines i (f ∷ fs) (l ∷ ls) =
-    cond (eqb f 0 && eqb l 0) [] (line 84 (decimal i ∷ decimal f ∷ signed (net f l) ∷ decimal l ∷ []))
-    ++ channelLines (suc i) fs ls
+channelLines i (f ∷ fs) (l ∷ ls) = cond (eqb f 0 && eqb l 0) [] (channelLine i f l) ++ channelLines (suc i) fs ls
 
 -- `P tray`, `W term` or `A term nodes`
 unfoldable pub componentLine : Component → List ℕ

@@ -65,16 +65,16 @@ unfoldable pub saturatingSuc : ℕ → ℕ
 saturatingSuc n = min counterTop (suc n)
 
 -- the counter of a rule's number rises when a rule of that number is done
-unfoldable pub countedAt : (number : ℕ) → Rule → ℕ → ℕ
-unfolding saturatingSuc ruleNumber
-countedAt n r k = cond (eqb (ruleNumber r) n) (saturatingSuc k) k
+unfoldable pub countedAt : (number rule counter : ℕ) → ℕ
+unfolding saturatingSuc
+countedAt n r k = cond (eqb r n) (saturatingSuc k) k
 
 unfoldable pub counted : Rule → Counters → Counters
-unfolding countedAt
+unfolding countedAt ruleNumber
 counted r t = record {
-  commits = countedAt 7 r (t .commits);
-  failed = countedAt 6 r (t .failed);
-  retries = countedAt 5 r (t .retries);
+  commits = countedAt 7 (ruleNumber r) (t .commits);
+  failed = countedAt 6 (ruleNumber r) (t .failed);
+  retries = countedAt 5 (ruleNumber r) (t .retries);
 }
 
 -- ---- the net

@@ -191,9 +191,9 @@ tests r K bs =
 -- ---- record by record
 
 -- what a turn gives: the answer, or the reading after a record of so many bytes
-pub data RecordOutcome : Type 0 where
-  stop : TableAnswer → RecordOutcome
-  more : Reading → ℕ → RecordOutcome
+pub data RecordAnswer : Type 0 where
+  stop : TableAnswer → RecordAnswer
+  more : Reading → ℕ → RecordAnswer
 
 -- refusal 9, at the byte behind the start record where there is one
 unfoldable pub tableEnd : Reading → Program → ℕ → List ℕ → TableAnswer
@@ -201,31 +201,31 @@ tableEnd r P at [] = accepted (record { terms = r .terms; tokens = r .tokens; st
 tableEnd r P at (b ∷ bs) = refusedAt 9 at
 
 -- a record of w bytes that passed its tests; `next` is the place behind it and `bs` what follows there
-unfoldable pub recordPassed : Reading → Content → (w next : ℕ) → List ℕ → RecordOutcome
+unfoldable pub recordPassed : Reading → Content → (w next : ℕ) → List ℕ → RecordAnswer
 unfolding tableEnd
 recordPassed r (termRecord t) w next bs = more (record { terms = r .terms ++ (t ∷ []); tokens = r .tokens }) w
 recordPassed r (tokensRecord a n) w next bs = more (record { terms = r .terms; tokens = set (r .tokens) a n }) w
 recordPassed r (startRecord P) w next bs = stop (tableEnd r P next bs)
 
-unfoldable pub recordTested : Reading → ℕ → Kind → List ℕ → Option Test → RecordOutcome
+unfoldable pub recordTested : Reading → ℕ → Kind → List ℕ → Option Test → RecordAnswer
 unfolding recordPassed recordContent fields
 recordTested r at K bs (some t) = stop (refusedAt (t .code) at)
 recordTested r at K bs none =
     let size = length (fields K) in
     recordPassed r (recordContent (r .terms) bs K) (suc size) (at + suc size) (drop size bs)
 
-unfoldable pub recordOfKind : Reading → ℕ → List ℕ → Option Kind → RecordOutcome
+unfoldable pub recordOfKind : Reading → ℕ → List ℕ → Option Kind → RecordAnswer
 unfolding recordTested tests firstOf
 recordOfKind r at bs none = stop (refusedAt 1 at)
 recordOfKind r at bs (some K) = recordTested r at K bs (firstOf (λ t. t .holds) (tests r K bs))
 
 -- the record at a place; where the table ends there without a start record, refusal 9 at that place
-unfoldable pub readRecord : Reading → ℕ → List ℕ → RecordOutcome
+unfoldable pub readRecord : Reading → ℕ → List ℕ → RecordAnswer
 unfolding recordOfKind kindOf
 readRecord r at [] = stop (refusedAt 9 at)
 readRecord r at (k ∷ bs) = recordOfKind r at bs (kindOf k)
 
-unfoldable pub thenRead : RecordOutcome → (Reading → ℕ → TableAnswer) → TableAnswer
+unfoldable pub thenRead : RecordAnswer → (Reading → ℕ → TableAnswer) → TableAnswer
 thenRead (stop answer) next = answer
 thenRead (more r w) next = next r w
 

@@ -10,11 +10,11 @@ new-measures-requires c κs = search kept-up-to
 returns : tie.Need-returns
 returns c = search measured-up-to
 
-walked-measures-requires : tie.Need-walked-measures-requires
-walked-measures-requires c κs = search needs
+recursive-measures-requires : tie.Need-recursive-measures-requires
+recursive-measures-requires c κs = search needs
 
 returns-2 : tie.Need-returns-2
 returns-2 c = search needs
 
 pub measures-of-spec : {M : Type 1} → statement M
-measures-of-spec = tie.close (tie.spec new-measures-requires returns walked-measures-requires returns-2)
+measures-of-spec = tie.close (tie.spec new-measures-requires returns recursive-measures-requires returns-2)

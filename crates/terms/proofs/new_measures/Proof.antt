@@ -14,8 +14,8 @@ first-of-requires c κs = search needs
 wide-requires : tie.Need-wide-requires
 wide-requires c κs = search needs
 
-kept-measures-requires : tie.Need-kept-measures-requires
-kept-measures-requires c κs = search left-inside
+stored-measures-requires : tie.Need-stored-measures-requires
+stored-measures-requires c κs = search left-inside
 
 second-of-requires : tie.Need-second-of-requires
 second-of-requires c κs = search needs
@@ -23,8 +23,8 @@ second-of-requires c κs = search needs
 wide-requires-2 : tie.Need-wide-requires-2
 wide-requires-2 c κs = search needs
 
-kept-measures-requires-2 : tie.Need-kept-measures-requires-2
-kept-measures-requires-2 c κs = search right-inside
+stored-measures-requires-2 : tie.Need-stored-measures-requires-2
+stored-measures-requires-2 c κs = search right-inside
 
 of-both-requires : tie.Need-of-both-requires
 of-both-requires c κs = search kept-sum-fits
@@ -35,8 +35,8 @@ second-of-requires-2 c κs = search needs
 wide-requires-3 : tie.Need-wide-requires-3
 wide-requires-3 c κs = search needs
 
-kept-measures-requires-3 : tie.Need-kept-measures-requires-3
-kept-measures-requires-3 c κs = search rest-inside
+stored-measures-requires-3 : tie.Need-stored-measures-requires-3
+stored-measures-requires-3 c κs = search rest-inside
 
 of-longer-requires : tie.Need-of-longer-requires
 of-longer-requires c κs = search kept-longer-fits
@@ -60,14 +60,14 @@ new-measures-spec =
     kind-of-requires
     first-of-requires
     wide-requires
-    kept-measures-requires
+    stored-measures-requires
     second-of-requires
     wide-requires-2
-    kept-measures-requires-2
+    stored-measures-requires-2
     of-both-requires
     second-of-requires-2
     wide-requires-3
-    kept-measures-requires-3
+    stored-measures-requires-3
     of-longer-requires
     returns
     returns-2

@@ -1,5 +1,5 @@
 -- `reader::parse` meets its contract: a walk of its MIR, by hand. The reader that `new` returns is held in a local and
--- passed to `seek`, and the one that `seek` returns to `draw`. All that the proof knows of the three is that each meets
+-- passed to `seek`, and the one that `seek` returns to `parse_next`. All that the proof knows of the three is that each meets
 -- its contract.
 -- A machine value that a call returns is stored and passed on as it is. In a local of a body MIR erases the lifetime of
 -- the struct's type, so the value is shown to have the type at `erased`: what the struct owns does not say the lifetime's
@@ -57,10 +57,10 @@ use Rattle.records.proofs.reader.Reader.seek as seek
 use Rattle.records.proofs.reader.Reader.seek.Symbol as seek-def
 use Rattle.records.proofs.reader.Reader.seek.Symbol.{name as #seek}
 use Rattle.records.proofs.reader.Reader.seek.Met as seek-thm
-use Rattle.records.proofs.reader.Reader.draw as draw
-use Rattle.records.proofs.reader.Reader.draw.Symbol as draw-def
-use Rattle.records.proofs.reader.Reader.draw.Symbol.{name as #draw}
-use Rattle.records.proofs.reader.Reader.draw.Met as draw-thm
+use Rattle.records.proofs.reader.Reader.parse_next as draw
+use Rattle.records.proofs.reader.Reader.parse_next.Symbol as draw-def
+use Rattle.records.proofs.reader.Reader.parse_next.Symbol.{name as #draw}
+use Rattle.records.proofs.reader.Reader.parse_next.Met as draw-thm
 use Rattle.records.proofs.reader.parse.Key.{name as #parse}
 use Rattle.records.proofs.reader.parse as parse
 use Rattle.records.proofs.reader.parse.Statement as stated
@@ -139,7 +139,7 @@ module _ {M : Type 1} (𝓤 : URA M) (H : Heap 𝓤) (A : Atoms 𝓤) (W : Given
   seek-said : (r r′ : Reader) → ent 𝓤 (ensured 𝓤 H A seek.ended (seek.clauses 𝓤 H A mem run) (κ, tt) (r, (n, tt)) tt r′) (fact 𝓤 (Sought r n r′))
   seek-said r r′ = exE 𝓤 _ (λ ws. snd∗ 𝓤 (sem 𝓤 H A (lasts seek.ended (κ, tt) (r, (n, tt)) ws)) (fact 𝓤 (Sought r n r′)))
 
-  -- the call of `draw`, likewise
+  -- the call of `parse_next`, likewise
   abbrev to-draw : Reader → Val → Draw 𝓤 H A mem run .Ghost
   to-draw r u = (((κ, tt), (q, tt), tt, (r, tt), (u ∷ [], tt)), tt)
 
@@ -207,4 +207,4 @@ parse-spec 𝓤 H 𝓜 𝓖 𝓡 =
     (parse-meets 𝓤 H (𝓖 .A) (givenOf 𝓤 H 𝓜 𝓖) (𝓜 .mem) (𝓡 .run) (tablesOf 𝓤 H 𝓜 (tables 𝓤 H 𝓜 𝓡 code.env))
     (cited 𝓤 H (New 𝓤 H (𝓖 .A) (𝓜 .mem) (𝓡 .run)) 𝓜 𝓡 code.env #new new-def.routine code.calls-records·reader·Reader·new (new-thm.met 𝓤 H 𝓜 𝓖 𝓡))
     (cited 𝓤 H (Seek 𝓤 H (𝓖 .A) (𝓜 .mem) (𝓡 .run)) 𝓜 𝓡 code.env #seek seek-def.routine code.calls-records·reader·Reader·seek (seek-thm.met 𝓤 H 𝓜 𝓖 𝓡))
-    (cited 𝓤 H (Draw 𝓤 H (𝓖 .A) (𝓜 .mem) (𝓡 .run)) 𝓜 𝓡 code.env #draw draw-def.routine code.calls-records·reader·Reader·draw (draw-thm.met 𝓤 H 𝓜 𝓖 𝓡)))
+    (cited 𝓤 H (Draw 𝓤 H (𝓖 .A) (𝓜 .mem) (𝓡 .run)) 𝓜 𝓡 code.env #draw draw-def.routine code.calls-records·reader·Reader·parse-next (draw-thm.met 𝓤 H 𝓜 𝓖 𝓡)))

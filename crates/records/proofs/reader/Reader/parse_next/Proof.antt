@@ -1,4 +1,4 @@
--- `Reader::draw` meets its contract: a walk of its MIR, by hand. The reader is taken apart, and `record_at` is called on
+-- `Reader::parse_next` meets its contract: a walk of its MIR, by hand. The reader is taken apart, and `record_at` is called on
 -- the slice and the number. All that the proof knows of `record_at` is that it meets its contract.
 -- A reader is Copy, so what it owns is had twice: one copy is kept whole for the exit, and of the other what the table
 -- owns goes to the callee, beside the lifetime's token, which comes back.
@@ -56,10 +56,10 @@ use Rattle.records.proofs.record_at as record-at
 use Rattle.records.proofs.record_at.Symbol as record-at-def
 use Rattle.records.proofs.record_at.Symbol.{name as #record-at}
 use Rattle.records.proofs.record_at.Met as record-at-thm
-use Rattle.records.proofs.reader.Reader.draw.Key.{name as #draw}
-use Rattle.records.proofs.reader.Reader.draw as draw
-use Rattle.records.proofs.reader.Reader.draw.Statement as stated
-use Rattle.records.proofs.reader.Reader.draw.Code as code
+use Rattle.records.proofs.reader.Reader.parse_next.Key.{name as #draw}
+use Rattle.records.proofs.reader.Reader.parse_next as draw
+use Rattle.records.proofs.reader.Reader.parse_next.Statement as stated
+use Rattle.records.proofs.reader.Reader.parse_next.Code as code
 
 -- the struct's type, over the signature's lifetimes
 abbrev B : Lfts 1 → RattleType
@@ -160,9 +160,9 @@ draw-meets : {M : Type 1} (𝓤 : URA M) (H : Heap 𝓤) (A : Atoms 𝓤) (W : G
 draw-meets 𝓤 H A W mem run 𝓣 known = walk-meets 𝓤 H A draw.ended stayed W (goes-none 𝓤 H A W 1 B yes (λ κs x f. refl), tt) (draw.clauses 𝓤 H A mem run) (WpFn 𝓤 H (𝓣 .C) (𝓣 .Λ) code.function) (WpFn-mono 𝓤 H (W .laws) 𝓣 code.function)
     (draw-walks 𝓤 H A W mem run (𝓣 .C) (𝓣 .Λ) (fmOf 𝓤 H (W .laws) 𝓣) known)
 
-pub draw-spec : {M : Type 1} → stated.statement M
+pub parse-next-spec : {M : Type 1} → stated.statement M
 unfolding code.routine tablesOf
-draw-spec 𝓤 H 𝓜 𝓖 𝓡 =
+parse-next-spec 𝓤 H 𝓜 𝓖 𝓡 =
     entered 𝓤 H (tripleOf 𝓤 H (𝓖 .A) draw.signature (draw.spec 𝓤 H (𝓖 .A) (𝓜 .mem) (𝓡 .run)))
     (tables 𝓤 H 𝓜 𝓡 code.env .C) (tables 𝓤 H 𝓜 𝓡 code.env .Λ) #draw code.function (code.unfolded 𝓤 H 𝓜 𝓡)
     (draw-meets 𝓤 H (𝓖 .A) (givenOf 𝓤 H 𝓜 𝓖) (𝓜 .mem) (𝓡 .run) (tablesOf 𝓤 H 𝓜 (tables 𝓤 H 𝓜 𝓡 code.env))

@@ -11,25 +11,25 @@ ghost use Rattle.semantics.specs.Definitions.Report.{runLine, countersLine};
 ghost use Rattle.counters.specs.Counted.{countersOf};
 ghost use Rattle.report.specs.Limits.{runMost, countersMost};
 ghost use Rattle.report.specs.Printed.{Printed};
-ghost use Rattle.report.specs.Runs.{OutcomeIs, CounterIs};
+ghost use Rattle.report.specs.Runs.{NumbersAre, CounterIs};
 
 // Number 0 stands for a run that was completed.
-pub struct Outcome {
+pub struct RunNumbers {
     pub number: u8,
     pub place: usize,
     pub done: usize,
     pub counters: Counters,
 }
 
-pub fn outcome_of(answer: RunAnswer) -> Outcome
-    ensures { λ r. ⌜ OutcomeIs answer r ⌝ }
+pub fn numbers_of(answer: RunAnswer) -> RunNumbers
+    ensures { λ r. ⌜ NumbersAre answer r ⌝ }
 {
     match answer {
         RunAnswer::Completed {
             place,
             done,
             counters,
-        } => Outcome {
+        } => RunNumbers {
             number: 0,
             place,
             done,
@@ -40,7 +40,7 @@ pub fn outcome_of(answer: RunAnswer) -> Outcome
             place,
             done,
             counters,
-        } => Outcome {
+        } => RunNumbers {
             number,
             place,
             done,
