@@ -40,8 +40,8 @@
  *   19  over 64 stations would stand afterwards
  *   20  a put on a tray that holds 255
  *
- * Refused by 1 to 11, hall and tally are as they were.  A refused choice, 12 to 20, leaves what the
- * choices before it made.
+ * Refused by 1 to 11, hall and tally are as they were.  Where a choice is refused, 12 to 20, those
+ * before it stay done.
  *
  * WHAT A CALLER OWES
  *
@@ -132,9 +132,9 @@ uint8_t ruonfidd_suggest(const uint8_t *table, size_t table_length, const uint8_
 #define RUONFIDD_REPORT_BYTES 1024
 
 /* Prints a run: the input is a table, which ends with its first start record, and choices behind it;
- * an input without a start record is all table.  The hall is opened, the choices are run, and the lines
- * R, C, T, P, W and A of docs/FORMAT.md are written to the output; above 16384 bytes of input the
- * line `long` alone.  length: how many bytes were written, at most 947.  The bytes of the output
+ * an input without a start record is all table.  The hall is opened, the choices are run, and the
+ * lines R, C, T, P, W and A of docs/FORMAT.md are written to the output; above 16384 bytes of input
+ * the line `long` alone.  length: how many bytes were written, at most 947.  The bytes of the output
  * behind them are as they were. */
 void ruonfidd_report(const uint8_t *input, size_t input_length,
                      uint8_t output[RUONFIDD_REPORT_BYTES], size_t *length);

@@ -25,8 +25,8 @@
 //!
 //! What is proved of a whole list of calls, that each committed block acts in
 //! one moment, is proved of calls with the same table, and with hall and tally as
-//! the last call left them. It says nothing where somebody else has written hall or tally
-//! in between. The tally is no part of the hall and is kept beside it.
+//! the last call left them. It says nothing where somebody else has written
+//! hall or tally in between. The tally is no part of the hall and is kept beside it.
 //!
 //! # Example
 //!
