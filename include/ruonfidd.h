@@ -23,25 +23,25 @@
  *    2  the bytes end inside a record
  *    3  a term after 200 terms
  *    4  a tray over 15
- *    5  a reference that is not to an earlier term
- *    6  a reference to a process for an expression, or the other way round
+ *    5  a term is named that does not stand earlier
+ *    6  a process is named where an expression belongs, or the other way round
  *    7  a term over 64 wide, with over 8 branches, or over 16 long
  *    8  tokens of count 0, or for a tray that was given some before
  *    9  a byte behind the start record (place: that byte), or no start record (place: the length)
  *   10  the hall is not RUONFIDD_HALL_BYTES long  place of 10 and 11: 0
  *   11  the bytes are no hall of this table
- *   12  a choice's kind is not 1 or 2             place of 12 to 20: the choice's first byte
+ *   12  a choice of another kind than 1 and 2     place of 12 to 20: the choice's first byte
  *   13  the bytes end inside a choice
- *   14  no station at the position
- *   15  kind 1: an attempt that is not a single end or retry leaf; kind 2: no attempt
+ *   14  the position is past the last station
+ *   15  kind 1: an attempt that still has moves inside; kind 2: a station that is no attempt
  *   16  no node of this number
- *   17  no rule for the node: an end or retry leaf, or a fork whose left side is neither
+ *   17  the node has no move: a finished leaf (end or retry), or a fork with an unfinished left side
  *   18  a take from an empty tray
  *   19  over 64 stations would stand afterwards
  *   20  a put on a tray that holds 255
  *
- * Refused by 1 to 11, hall and tally are as they were.  A refused choice, 12 to 20, leaves what the
- * choices before it made.
+ * Refused by 1 to 11, hall and tally are as they were.  Where a choice is refused, 12 to 20, those
+ * before it stay done.
  *
  * WHAT A CALLER OWES
  *
@@ -131,10 +131,10 @@ uint8_t ruonfidd_suggest(const uint8_t *table, size_t table_length, const uint8_
 /* No printed run is longer. */
 #define RUONFIDD_REPORT_BYTES 1024
 
-/* Prints a run: the input is a table up to its first start record, then choices; where no start
- * record is found, all of it is the table.  The hall is opened, the choices are run, and the lines
- * R, C, T, P, W and A of docs/FORMAT.md are written to the output; above 16384 bytes of input the
- * line `long` alone.  length: how many bytes were written, at most 947.  The bytes of the output
+/* Prints a run: the input is a table, which ends with its first start record, and choices behind it;
+ * an input without a start record is all table.  The hall is opened, the choices are run, and the
+ * lines R, C, T, P, W and A of docs/FORMAT.md are written to the output; above 16384 bytes of input
+ * the line `long` alone.  length: how many bytes were written, at most 947.  The bytes of the output
  * behind them are as they were. */
 void ruonfidd_report(const uint8_t *input, size_t input_length,
                      uint8_t output[RUONFIDD_REPORT_BYTES], size_t *length);

@@ -330,7 +330,7 @@ fn take(table: &Table, state: &mut OneStep, position: usize) -> Result<Happened,
     }
 }
 
-/// Kind 1 at a block with a note.
+/// A block acts that has a note: its attempt ends.
 fn settle(
     table: &Table,
     state: &mut OneStep,

@@ -157,7 +157,7 @@ impl Node {
 /// One process of the parallel composition.
 #[derive(Clone, Debug, PartialEq, Eq)]
 pub enum Station {
-    /// A term of kind 3, 4 or 6 that has not begun.
+    /// A take, a repeated take or a block, none of it begun.
     Waiting {
         /// Its term.
         term: usize,

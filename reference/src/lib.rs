@@ -4,9 +4,9 @@
 //! there to be compared with it: for the same bytes both must give the same
 //! answers, the same hall, the same tally and the same printed lines.
 //!
-//! It aims to be easy to read against document 01 ("the hall engine: rule
-//! tables, halls and choices") and not to be fast. Comments name the section
-//! of that document which a piece of code follows.
+//! It aims to be easy to read against document 01, the scope, and not to be
+//! fast. Comments name the section of that document which a piece of code
+//! follows.
 //!
 //! | Module | What it holds |
 //! |---|---|

@@ -25,8 +25,8 @@ pub fn printed_run(input: &[u8]) -> Vec<u8> {
     text.into_bytes()
 }
 
-/// Where the table ends: behind the first start record, found by stepping over
-/// records; the end of the input when there is none.
+/// Where the table ends: behind the first start record on the way from record to
+/// record; at the end of the input when there is none.
 pub fn table_end(input: &[u8]) -> usize {
     let mut offset = 0;
     while offset < input.len() {

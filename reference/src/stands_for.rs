@@ -1,5 +1,5 @@
-//! The process and state that a hall stands for (document 01, "A hall stands
-//! for its stations in parallel"). Terms are unfolded into trees.
+//! The process and state that a hall stands for (document 01, "Choices and
+//! moves"). Terms are unfolded into trees.
 
 use crate::calculus::{Act, Expression, Multiset, Ongoing, Process};
 use crate::hall::{Action, Hall, Leaf, Node, Rest, Station};

@@ -5,8 +5,8 @@ use std::fmt;
 
 use crate::Refusal;
 
-/// One choice. Positions and nodes count from 0; the nodes of an attempt count
-/// in preorder: a node, its left side, its right side.
+/// One choice. Positions and nodes count from 0. A node of an attempt counts
+/// before the sides below it, and those on the left before those on the right.
 /// Further kinds may come.
 ///
 /// ```

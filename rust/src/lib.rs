@@ -20,13 +20,13 @@
 //!   and a [`Printed`] own memory for their bytes; nothing else is allocated.
 //! - The same bytes always get the same answer. Only which accepted choice is
 //!   suggested is promised by nothing, and may differ in another version.
-//! - Refused by table or hall, 1 to 11, hall and tally stay as they are. A
-//!   refused choice leaves what the choices before it made.
+//! - Refused by table or hall, 1 to 11, hall and tally stay as they are.
+//!   Where a choice is refused, those before it stay done.
 //!
 //! What is proved of a whole list of calls, that each committed block acts in
-//! one moment, is proved of calls on one table, hall and tally, each as the last
-//! call left it. It says nothing where somebody else has written hall or tally
-//! in between. The tally is no part of the hall and is kept beside it.
+//! one moment, is proved of calls with the same table, and with hall and tally as
+//! the last call left them. It says nothing where somebody else has written
+//! hall or tally in between. The tally is no part of the hall and is kept beside it.
 //!
 //! # Example
 //!

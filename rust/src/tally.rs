@@ -6,8 +6,8 @@ use crate::ffi;
 /// ended in retry.
 ///
 /// It is no part of a stored hall: whoever stores a hall stores its tally
-/// beside it. The first call may be lent any tally. A counter at 4,294,967,295
-/// stays there.
+/// beside it. The first call may be lent any tally. No counter goes past its top,
+/// 4,294,967,295.
 #[derive(Clone, Copy, Debug, PartialEq, Eq, Hash)]
 pub struct Tally {
     /// Blocks committed.

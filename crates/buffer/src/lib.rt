@@ -1,6 +1,7 @@
 // Bytes of a slice: read where there may be none, cleared, written, moved, and a part replaced by another that may be
-// longer or shorter. Every move of a stored hall is one `splice`. No slice is copied whole. Plain loops over bytes,
-// which the compiler makes wide; what moves within a slice goes by way of a chunk, so that it can do so there too.
+// longer or shorter. A station or a node that gives way to another does so by one `splice`; counts, and what rules 8 to
+// 10 change in a leaf, are stored in place. No slice is copied whole. Plain loops over bytes, which the compiler makes
+// wide; what moves within a slice goes by way of a chunk, so that it can do so there too.
 ghost use mathlib.Core.Path.{_≡_};
 ghost use mathlib.Core.List.{[]};
 ghost use Prim.Native.Nat.{_+_, _-_, _≤_, _<_};

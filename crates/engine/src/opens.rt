@@ -15,7 +15,7 @@ pub enum OpenAnswer {
     Refused { number: u8, place: usize },
 }
 
-// OpenAnswered a table in a hall, whatever stood there. Refused, it leaves the hall as it was: by 1 to 9 with the table's
+// Opens a table in a hall, whatever stood there. Refused, it leaves the hall as it was: by 1 to 9 with the table's
 // place, and by 10 where the hall has another length.
 pub fn open_hall(table: &[u8], hall: &mut [u8]) -> OpenAnswer
     ensures { λ r. ⌜ openingOf r (now (hall .exit)) ≡ openHall (now (table .entry)) (now (hall .entry)) ⌝ }

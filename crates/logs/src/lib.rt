@@ -1,8 +1,8 @@
 // Logs (document 01, "The stored hall" and "Choices and moves"): as values, and what a stored log needs and writes.
 //
-// What the reads of a log come to is an array of needs, one for each channel (tray). They are held against counts by one
-// test, `left_of`, whatever the counts are: the hall's own or a snapshot. A stored log is read where it stands, at an
-// offset of a hall's bytes.
+// What the reads of a log come to is an array of needs, one for each channel (tray), which a commit takes from the
+// counts. Whether counts suffice is told by one test, `left_of`, which takes the reads one by one, whatever the counts
+// are: the hall's own or a snapshot. A stored log is read where it stands, at an offset of a hall's bytes.
 use buffer::wide;
 use stored::CHANNELS;
 use stored::IDLE_SIZE;

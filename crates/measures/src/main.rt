@@ -1,5 +1,6 @@
 // The measures of the terms of six tables, by the walk over the unfolded term: `terms::measures_of` with no term's
-// measures kept. Reading a table makes the same walk with the measures of all earlier terms kept, which looks them up.
+// measures kept. Reading a table makes the same call with the measures of all earlier terms kept: it looks them up
+// and walks no further.
 //
 // Each table has a line `N` with how many terms it has, then for each term a line `T` with these columns: its number,
 // its kind, its breadth (a process's width, an expression's branches), its length (0 for a process), both as walked,

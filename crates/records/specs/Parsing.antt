@@ -1,4 +1,4 @@
--- What parsing answers at an offset of a table's bytes: one of four things, told apart by numbers.
+-- What parsing answers at an offset of a table's bytes: one of four cases, and what each says of the bytes.
 -- Assumes nothing.
 use Prim.Native.Nat.{ℕ, _+_, _≤_, _<_}
 use mathlib.Core.Path.{_≡_}

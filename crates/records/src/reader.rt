@@ -8,7 +8,7 @@ ghost use Rattle.records.specs.Parsing.{ParsedAs};
 // The offset of a table's first record.
 const FIRST: usize = 0;
 
-// A lent table and the offset of the next record.
+// The table that was lent, and where in it the next record begins.
 pub struct Reader<'a> {
     table: &'a [u8],
     at: usize,

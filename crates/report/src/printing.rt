@@ -68,7 +68,7 @@ fn counts_of(hall: &[u8]) -> [u8; CHANNELS]
     counts
 }
 
-// OpenAnswered a table in a hall, runs choices there and prints both. A table that is refused has its first line alone.
+// Opens a table in a hall, runs choices there and prints both. A table that is refused has its first line alone.
 pub fn print_run(table: &[u8], choices: &[u8], hall: &mut [u8], out: &mut [u8]) -> usize
     requires { ⌜ (length (now hall) ≡ hallBytes) × (linesMost ≤ length (now out)) ⌝ }
     ensures { λ r. ⌜ RunPrinted (now (table .entry)) (now (choices .entry)) (now (hall .entry)) (now (out .entry))

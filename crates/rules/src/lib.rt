@@ -1,4 +1,5 @@
-// What an entry of a schedule (document 01's choice) is answered, and the numbers of the rules and of the refusals.
+// What an entry of a schedule (document 01's choice) is answered, and the numbers of the rules and of an
+// entry's refusals.
 //
 // The rules are those of the calculus, numbered as document 01 numbers them: 1 to 3 pass tokens, 4 to 7 begin and end a
 // transaction (attempt), 8 to 13 move inside one.

@@ -47,7 +47,7 @@ pub extern "C" fn ruonfidd_check_table(table: &[u8], place: &mut usize) -> u8
     }
 }
 
-// OpenAnswered a table in a hall: 0, and place 0; or the number of the first refusal, and its place, with the hall as it
+// Opens a table in a hall: 0, and place 0; or the number of the first refusal, and its place, with the hall as it
 // was. The counters of an opened hall are the fresh ones.
 #[no_mangle]
 pub extern "C" fn ruonfidd_open_hall(table: &[u8], hall: &mut [u8], place: &mut usize) -> u8

@@ -52,7 +52,7 @@ fn leaf_bytes(hall: &[u8], at: usize) -> [u8; LEAF_SIZE]
     new
 }
 
-// A fork of two leaves with the terms of the choice at an offset, each with its log.
+// A fork of two leaves, one for each side of the orElse whose leaf begins at an offset, each with its log.
 fn fork_bytes(decoded: &[u8; DECODED], hall: &[u8], at: usize) -> [u8; SPLIT_SIZE]
     requires { ⌜ Splittable (now hall) at ⌝ }
     ensures { λ r. ⌜ r ≡ forkBytes (now (decoded .entry)) (now (hall .entry)) at ⌝ }

@@ -1,5 +1,5 @@
-//! The converse of document 01: every list of one-step steps whose blocks take
-//! the first path readable at commit has its accepted choices.
+//! The converse of document 01: wherever one-step steps lead, with blocks by
+//! the first path that is readable at the step, accepted choices lead too.
 
 use reference::atomic::{self, NotPossible, OneStep, Place, Step};
 use reference::build::Builder;

@@ -70,7 +70,7 @@ fn rehearsal_1_step_by_step() {
     }
 }
 
-/// rd 0.rd 1.wt 2.end orElse wt 3.end with one token in tray 0.
+/// Two reads and a write, or else a write to tray 3; one token in tray 0.
 fn table_of_rehearsal_2() -> Vec<u8> {
     let mut table = Builder::new();
     let end = table.end();
@@ -278,8 +278,8 @@ fn rehearsal_10_a_full_tray() {
     assert_eq!(run.hall.stations, [Station::Putting { tray: 7 }]);
 }
 
-/// The fault of document 00: a third station empties a tray between two steps
-/// of another's attempt.
+/// The fault of version two in document 00: in the middle of one station's
+/// attempt, another takes the last token of a tray.
 #[test]
 fn a_third_station_empties_the_tray() {
     let mut table = Builder::new();

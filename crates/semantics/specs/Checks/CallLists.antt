@@ -1,5 +1,5 @@
--- Lists of calls, runs and steps mixed (demand 3, sentence 4: each call gets hall and tally as the last one left them),
--- seen from their last call; and that a list of choices may be handed over in two calls, cut between two choices, where
+-- Lists of calls, runs and steps mixed (demand 3, sentence 4: hall and tally go on from call to call), seen from
+-- their last call; and that a list of choices may be handed over in two calls, cut between two choices, where
 -- the first call does all of its own.
 -- Assumes nothing.
 use Prim.Native.Nat.{ℕ, _+_}

@@ -229,12 +229,12 @@ RefusalNumbers =
 
 -- ---- 12 to 20: a choice
 
--- the nodes of a tree in preorder: a node, its left side, its right side
+-- the nodes of a tree in preorder: each before the sides below it, and what is left before what is right
 unfoldable pub preorder : Tree → List Tree
 preorder (leaf M δ) = leaf M δ ∷ []
 preorder (fork l r) = fork l r ∷ (preorder l ++ preorder r)
 
--- an end or retry leaf, or a fork whose left side is neither
+-- a leaf that is settled (end or retry), or a fork whose left side is not
 abbrev pub NoRuleAtNode : Tree → Type 0
 NoRuleAtNode (leaf M δ) = Settled (leaf M δ)
 NoRuleAtNode (fork l r) = ¬ Settled l
@@ -283,8 +283,8 @@ ChoiceNumbers =
     ((n : ℕ) → (answerTo h e ≡ refused n) ↔ FirstCondition (λ m. ChoiceCondition h m e) n) ×
     (IsMoved (answerTo h e) ↔ ((n : ℕ) → ChoiceCondition h n e → ⊥))
 
--- why a run stops with this number, before these bytes, at this configuration: 0 at the end, 12 where the choice's kind
--- is not 1 or 2, 13 where the choice is cut short, else the choice's first condition
+-- why a run stops with this number, before these bytes, at this configuration: 0 at the end, 12 at a byte that is
+-- no choice's kind, 13 where the choice is cut short, else the choice's first condition
 pub data Stops (h : Configuration) : ℕ → List ℕ → Type 0 where
   at-end : Stops h 0 []
   kind-neither : {k : ℕ} {bs : List ℕ} → k ≢ 1 → k ≢ 2 → Stops h 12 (k ∷ bs)

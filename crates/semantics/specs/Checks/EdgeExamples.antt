@@ -453,8 +453,8 @@ callsSeen table c cs =
       oneStep = oneStepRun (readTable table) none c done;
     }
 
--- rehearsal 1 in three calls, the first ended by 16, the last by 13: each gets hall and tally as the last one left
--- them, and a refused choice and what follows it in its call never reach the one-step run
+-- rehearsal 1 in three calls, the first ended by 16, the last by 13: hall and tally go on from one to the
+-- next, and the one-step run is fed neither the refused choices nor the bytes behind them in the same call
 unfoldable pub SeveralCalls : Type 0
 unfolding numbers tally trays hallOf callsSeen
 SeveralCalls =

@@ -3,7 +3,7 @@
 --
 -- Each row goes through the public calls on bytes: the table is checked, a hall full of noise is lent and opened, the
 -- hall is checked, the choices are run on it, the hall that they leave is checked and every choice tried on it, and the
--- program prints table and choices. Beside them go the rules done and the one-step run over the choices done.
+-- program prints table and choices. Beside them go the rules done and the one-step run that is fed what was done.
 -- The ten rehearsals come first. Each row below them is there for a wrong definition that the ten let through, and its
 -- comment says which. The edges at which a row need not go through all calls stand in specs/Checks/EdgeExamples.
 -- Assumes nothing.
@@ -56,7 +56,7 @@ pub record Observed : Type 0 where
   -- the bytes of the choices that are accepted on it, one after another: of all choices at its positions and the one
   -- behind them, with the nodes 0 to 15
   pub accepts : List ℕ
-  -- the one-step run over the choices done, where the hall was opened
+  -- the one-step run that is fed what was done, where the hall was opened
   pub oneStep : Option OneStep
   -- what the program prints
   pub text : List ℕ
@@ -333,27 +333,27 @@ rehearsals =
     (ran (ATST ∷ ARDOK ∷ AWR ∷ ATOK (rd 0 ∷ wt 1 ∷ []) ∷ OUT 1 ∷ []) 0 12 5 (tally 1 0 0)
     (left "0 1" "" "")
     "R 0 12 5\nC 1 0 0\nT 0 1 -1 0\nT 1 0 1 1\n") ∷
-    -- 2. rd 0.rd 1.wt 2.end orElse wt 3.end, one token in tray 0: the committed log is wt 3 alone
+    -- 2. tray 1 lacks what the way rd 0.rd 1.wt 2.end wants: nothing of it is committed, only wt 3 of the other way
     row "7 10 2 0 9 1 1 9 0 2 10 3 0 11 3 4 6 5 12 0 1 13 6" "1 0 2 0 0 2 0 1 2 0 1 2 0 0 2 0 0 1 0"
     (ran (ATST ∷ AOI ∷ ARDOK ∷ ARDF ∷ AOF ∷ AWR ∷ ATOK (wt 3 ∷ []) ∷ []) 0 19 7 (tally 1 0 0)
     (left "1" "24 3" "1 0")
     "R 0 19 7\nC 1 0 0\nT 0 1 0 1\nP 3\n") ∷
-    -- 3. rd 0.rd 0.end, one token: ARDF at the second read
+    -- 3. the block rd 0.rd 0.end where a single token lies: its first read passes, its second is ARDF
     row "7 9 0 0 9 0 1 6 2 12 0 1 13 3" "1 0 2 0 0 2 0 0"
     (ran (ATST ∷ ARDOK ∷ ARDF ∷ []) 0 8 3 (tally 0 0 0)
     (leftOpen "1" (attempt 3 "1" (leafOf 255 1 "0")) (attemptNoteBytes 3 "1") "1 0")
     "R 0 8 3\nC 0 0 0\nT 0 1 0 1\nA 3 1\n") ∷
-    -- 4. two blocks rd 0.end, one token, both opened and read: ATOK, then ATFAIL
+    -- 4. two attempts have read the only token: the first that acts commits it (ATOK), the other fails (ATFAIL)
     row "7 9 0 0 6 1 5 2 2 12 0 1 13 3" "1 0 1 1 2 0 0 2 1 0 1 0 1 0"
     (ran (ATST ∷ ATST ∷ ARDOK ∷ ARDOK ∷ ATOK (rd 0 ∷ []) ∷ ATFAIL ∷ []) 0 14 6 (tally 1 1 0)
     (left "" "20 2" "1 0")
     "R 0 14 6\nC 1 1 0\nT 0 1 -1 0\nW 2\n") ∷
-    -- 5. rd 0.wt 1.end orElse wt 2.end opened on empty tray 0, which then gains one: the commit still lays down tray 2
+    -- 5. what the way rd 0.wt 1.end wants comes after the attempt has begun: the other way, wt 2.end, is committed
     row "7 10 1 0 9 0 1 10 2 0 11 2 3 6 4 2 0 5 5 6 13 7" "1 0 1 1 2 0 0 2 0 1 2 0 0 2 0 0 1 0"
     (ran (ATST ∷ OUT 0 ∷ AOI ∷ ARDF ∷ AOF ∷ AWR ∷ ATOK (wt 2 ∷ []) ∷ []) 0 18 7 (tally 1 0 0)
     (left "1" "24 2" "1 0")
     "R 0 18 7\nC 1 0 0\nT 0 0 1 1\nP 2\n") ∷
-    -- 6. wt 0.rd 0.end on empty tray 0: ARDF
+    -- 6. a block writes into an empty tray and then reads from it: ARDF, as its own write is not there yet
     row "7 9 0 0 10 0 1 6 2 13 3" "1 0 2 0 0 2 0 0"
     (ran (ATST ∷ AWR ∷ ARDF ∷ []) 0 8 3 (tally 0 0 0)
     (leftOpen "" (attempt 3 "" (leafOf 255 1 "16")) (attemptNoteBytes 3 "") "1 0")
@@ -373,7 +373,7 @@ rehearsals =
     acceptedTable (7 ∷ (chain 10 16 0 ++ numbers "6 16 13 17")) (numbers "20 17") (numbers "1 0") (ascii "W 17\n") ∷
     -- 9. length 17 is refused 7
     refusedTable (7 ∷ (chain 10 17 0 ++ numbers "6 17 13 18")) 7 49 "R 7 49 0\n" ∷
-    -- 10. OUT at 254 gives 255; at 255 it is 20
+    -- 10. a put fills a tray of 254; the next put finds it full and is refused 20
     row "2 0 5 0 0 12 0 254 13 1" "1 0 1 0"
     (ran (OUT 0 ∷ []) 20 2 1 (tally 0 0 0)
     (left "255" "24 0" "")
@@ -385,17 +385,17 @@ rehearsals =
 unfoldable pub furtherRuns : List Example
 unfolding ascii numbers attempt leafOf attemptNoteBytes tally left leftOpen ranTo ran row rowFrom
 furtherRuns =
-    -- for the order of nodes and of outputs: wt 0.wt 1.end orElse wt 2.end, the right side moved first, two writes
+    -- for the order of nodes and of outputs: two writes, wt 0.wt 1.end, or else wt 2.end; the right side moved first
     row "7 10 1 0 10 0 1 10 2 0 11 2 3 6 4 13 5" "1 0 2 0 0 2 0 2 2 0 1 2 0 1 2 0 0 1 0"
     (ran (ATST ∷ AOI ∷ AWR ∷ AWR ∷ AWR ∷ AOE ∷ ATOK (wt 0 ∷ wt 1 ∷ []) ∷ []) 0 19 7 (tally 1 0 0)
     (left "" "24 0 24 1" "1 0 1 1") "R 0 19 7\nC 1 0 0\nP 0\nP 1\n") ∷
-    -- against AOF taken when a right side says retry: wt 0.end orElse retry, and 17 at the fork
+    -- against AOF by a right side that is a retry: wt 0.end orElse retry, and 17 at the fork
     row "7 10 0 0 8 11 1 2 6 3 13 4" "1 0 2 0 0 2 0 0"
     (ran (ATST ∷ AOI ∷ []) 17 5 2 (tally 0 0 0)
     (leftOpen "" (attempt 4 "" (22 ∷ (leafOf 1 0 "" ++ leafOf 2 0 ""))) (attemptNoteBytes 4 "") "2 0 1")
     "R 17 5 2\nC 0 0 0\nA 4 3\n") ∷
-    -- against the last readable path for the first: rd 0.wt 1.end orElse wt 2.end with a token in tray 0, so that both
-    -- are readable
+    -- against the last readable path for the first: the block of rehearsal 5 with a token in tray 0, so that both of
+    -- its paths are readable
     row "7 10 1 0 9 0 1 10 2 0 11 2 3 6 4 12 0 1 13 5" "1 0 2 0 0 2 0 1 2 0 1 2 0 0 1 0"
     (ran (ATST ∷ AOI ∷ ARDOK ∷ AWR ∷ AOE ∷ ATOK (rd 0 ∷ wt 1 ∷ []) ∷ []) 0 16 6 (tally 1 0 0)
     (left "" "24 1" "1 0")

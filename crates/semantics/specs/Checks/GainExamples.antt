@@ -70,7 +70,7 @@ padded16 σ = take 16 (σ ++ replicate 16 0)
 unfoldable pub runRows : List RunRow
 unfolding padded16 tallied
 runRows =
-    -- two blocks rd 0.end, one token, both opened and read: the first commits, the second fails where the first stood
+    -- rehearsal 4: of two attempts that have read one token the first commits, the second fails where the first stood
     record {
       table = 7 ∷ 9 ∷ 0 ∷ 0 ∷ 6 ∷ 1 ∷ 5 ∷ 2 ∷ 2 ∷ 12 ∷ 0 ∷ 1 ∷ 13 ∷ 3 ∷ [];
       choices = 1 ∷ 0 ∷ 1 ∷ 1 ∷ 2 ∷ 0 ∷ 0 ∷ 2 ∷ 1 ∷ 0 ∷ 1 ∷ 0 ∷ 1 ∷ 0 ∷ [];
@@ -95,7 +95,7 @@ runRows =
       stations = [];
       tally = tallied 4294967295 7 4294967295;
     } ∷
-    -- rd 0.wt 1.end orElse wt 2.end opened on an empty tray 0, which then gains one: the path of the opening
+    -- rehearsal 5: tray 0 is empty at the opening and gains behind it, and the path of the opening is committed
     record {
       table = 7 ∷ 10 ∷ 1 ∷ 0 ∷ 9 ∷ 0 ∷ 1 ∷ 10 ∷ 2 ∷ 0 ∷ 11 ∷ 2 ∷ 3 ∷ 6 ∷ 4 ∷ 2 ∷ 0 ∷ 5 ∷ 5 ∷ 6 ∷ 13 ∷ 7 ∷ [];
       choices = 1 ∷ 0 ∷ 1 ∷ 1 ∷ 2 ∷ 0 ∷ 0 ∷ 2 ∷ 0 ∷ 1 ∷ 2 ∷ 0 ∷ 0 ∷ 2 ∷ 0 ∷ 0 ∷ 1 ∷ 0 ∷ [];

@@ -1,5 +1,5 @@
 -- What is claimed of the printed run (document 01, "The printed run"): for an accepted table it is that of opening a
--- hall and then running the choices on it, as calls on bytes. Proved in proofs/PrintedRun.
+-- hall and then running the choices on it, as calls on bytes. Proved in theorems/proofs/PrintedRun.
 -- Assumes nothing.
 use Prim.Native.Nat.{ℕ, suc, _+_, _≤_, _<_}
 use mathlib.Core.Path.{_≡_}

@@ -37,7 +37,8 @@ pub data GivesWay : (position : ℕ) (old : Component) (new before after : List 
   further : {p : ℕ} {c d : Component} {new cs ds : List Component} → GivesWay p c new cs ds →
       GivesWay (suc p) c new (d ∷ cs) (d ∷ ds)
 
--- nodes count from 0 in preorder, a node, its left side, its right side: another tree in one's place; before and after
+-- nodes count from 0 in preorder, each before the sides below it, what is left before what is right: another tree in
+-- one's place; before and after
 pub data NodeBecomes : (node : ℕ) (old new before after : Tree) → Type 0 where
   at-root : {old new : Tree} → NodeBecomes 0 old new old new
   at-left : {k : ℕ} {old new l l′ r : Tree} → NodeBecomes k old new l l′ →
@@ -49,7 +50,7 @@ pub data NodeBecomes : (node : ℕ) (old new before after : Tree) → Type 0 whe
 
 -- kind 2, at a node of an attempt with this snapshot: the node, the rule with its number, what stands there afterwards
 pub data NodeMoves (s : State) : (old : Tree) → Rule → (number : ℕ) → (new : Tree) → Type 0 where
-  -- the log's reads with this one are within the snapshot: the read is logged
+  -- all that the log reads, this read added, was there at the snapshot: the read is logged
   ardok8 : {n : ℕ} {a : Name} {M : Expression} {δ : Log} → Included (RD (δ ++ (rd a ∷ []))) s →
       NodeMoves s (leaf (rdT n a M) δ) ARDOK 8 (leaf M (δ ++ (rd a ∷ [])))
   -- they are not: retry, by byte 255, with the log as it was
@@ -58,7 +59,7 @@ pub data NodeMoves (s : State) : (old : Tree) → Rule → (number : ℕ) → (n
   -- the write is logged
   awr10 : {n : ℕ} {a : Name} {M : Expression} {δ : Log} →
       NodeMoves s (leaf (wtT n a M) δ) AWR 10 (leaf M (δ ++ (wt a ∷ [])))
-  -- a fork, both sides with the log so far
+  -- a fork of two leaves, each with what is logged until now
   aoi11 : {n : ℕ} {M N : Expression} {δ : Log} →
       NodeMoves s (leaf (orElseT n M N) δ) AOI 11 (fork (leaf M δ) (leaf N δ))
   -- the left side is a retry leaf: the right side remains
@@ -78,7 +79,7 @@ pub data MoveAsStated (h : Configuration) : Entry → Rule → (number : ℕ) �
       GivesWay p (idle (taking n a P)) (map idle ds) (h .components) cs → OpensInto P ds →
       count (h .counts) a ≡ suc m → length cs ≤ 64 →
       MoveAsStated h (act p) (IN a) 2 (record { counts = set (h .counts) a m; components = cs })
-  -- the same, and the repeated take stays, after what opened
+  -- the same, and the repeated take is still there, behind what opened
   rep3 : {p n m : ℕ} {a : Name} {P : Program} {ds : List Idle} {cs : List Component} →
       GivesWay p (idle (repeating n a P)) (map idle (ds ++ (repeating n a P ∷ []))) (h .components) cs →
       OpensInto P ds → count (h .counts) a ≡ suc m → length cs ≤ 64 →
@@ -96,8 +97,8 @@ pub data MoveAsStated (h : Configuration) : Entry → Rule → (number : ℕ) �
       GivesWay p (transaction n M s (leaf (endT e) δ)) (idle (block n M) ∷ []) (h .components) cs →
       ¬ Included (RD δ) (h .counts) →
       MoveAsStated h (act p) ATFAIL 6 (record { counts = h .counts; components = cs })
-  -- a single end leaf whose log reads no more than is there now: the counts fall by the reads, and a putting station
-  -- for each write, in log order, stands in the attempt's place; at most 64 stations are left
+  -- a single end leaf whose log reads no more than is there now: the counts fall by the reads, and the log's writes
+  -- stand, in their order, as putting stations in the attempt's place; at most 64 stations are left
   atok7 : {p n e : ℕ} {M : Expression} {s : State} {δ : Log} {cs : List Component} →
       GivesWay p (transaction n M s (leaf (endT e) δ)) (map (λ a. idle (output a)) (WT δ)) (h .components) cs →
       Included (RD δ) (h .counts) → length cs ≤ 64 →

@@ -1,5 +1,5 @@
 -- The claims about accepted tables and about the stored form of configurations, as types. Their proofs:
--- proofs/GoodTable and proofs/RoundTrip.
+-- theorems/proofs/GoodTable and theorems/proofs/RoundTrip.
 -- Assumes nothing.
 use Prim.Native.Nat.{ℕ, _≤_}
 use mathlib.Core.Path.{_≡_}

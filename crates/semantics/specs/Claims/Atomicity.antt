@@ -1,4 +1,5 @@
--- Demand 3 as one type: a record over one table, one list of calls and one first tally. The proof stands in proofs/.
+-- Demand 3 as one type: a record over one table, one list of calls and one first tally. Its proof stands in
+-- the crate theorems.
 -- Assumes nothing.
 use Prim.Native.Nat.{ℕ, _≤_, _<_}
 use mathlib.Core.Path.{_≡_}
@@ -91,7 +92,7 @@ module _ (table : List ℕ) (t : Table) (buffer : List ℕ) (first : Counters) (
   unfolding withoutAborted members numberedStart steps opening allDone
   doneWithoutAborted = withoutAborted (members (numberedStart t first) (steps (opening t) allDone))
 
-  -- the one-step run over the choices done
+  -- the one-step run, fed with all of them
   unfoldable pub atomic : Atomic State
   unfolding atomicRun atomicStart allDone
   atomic = atomicRun (atomicStart t first) allDone
@@ -117,7 +118,7 @@ module _ (table : List ℕ) (t : Table) (buffer : List ℕ) (first : Counters) (
         (a .number ≡ 0) × (a .configuration ≡ finalConfiguration (opening t) (take j (steps (opening t) allDone))) ×
         (a .configuration .counts ≡ o .counts) × (a .counters ≡ o .counters) ×
         (map rolledBack (a .configuration .components) ≡ map (λ x. x .station) (o .stations))
-    -- Sentence 2. A committed block acts in one step at its commit: that is how the one-step run is defined, and with
+    -- Sentence 2. What a committed block does happens all at once, at its commit: so the one-step run is defined; with
     -- `each-choice` the hall has that step's counts and stations right behind the commit. And abandoned attempts: take
     -- their choices away, and the list is still accepted whole, to the same bytes; the one-step run ends in the same
     -- state and with as many commits, while failed and retries are the first tally's; all that had an effect is done
@@ -142,9 +143,9 @@ module _ (table : List ℕ) (t : Table) (buffer : List ℕ) (first : Counters) (
         AttemptsOk t first allDone j (finalConfiguration (opening t) (take j (steps (opening t) allDone)))
     -- Sentence 4 is in the definitions: `finalBuffers` and `allDone` hand hall and tally on from call to call, and `first`
     -- is any tally (Checks/CallLists says the same of a list's last call).
-    -- Sentence 5: for every one-step run within the limits whose blocks take the first path readable at commit there
-    -- is a list of choices, in bytes, that one call accepts whole and that ends with its counts and stations and no
-    -- attempt open.
+    -- Sentence 5: wherever one-step steps lead, each within the limits and each commit by the path that is the first
+    -- readable then, there leads a list of choices too, in bytes, that one call accepts whole and that ends with the
+    -- same counts and stations and no attempt open.
     pub converse :
         (s : PlainState) → ConverseSteps (plainStart t) s →
         (es : List Entry) × Bytes (scheduleBytes es) ×

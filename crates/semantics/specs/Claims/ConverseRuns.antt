@@ -45,8 +45,8 @@ unfoldable pub replacing : PlainState → ℕ → State → List Idle → PlainS
 unfolding replaceAt
 replacing s p σ cs = record { counts = σ; stations = replaceAt p cs (s .stations) }
 
--- a step at a position: OUT, IN, REP, or a commit of a block by its first path readable at that moment; each within the
--- limits, which for a commit leaves 14 and 19 to ask
+-- a step at a position: OUT, IN, REP, or a block that commits the first of its paths that is readable now; each within
+-- the limits, which for a commit leaves 14 and 19 to ask
 pub data ConverseStep (s : PlainState) (p : ℕ) : PlainState → Type 0 where
   stepOut : (a : Name) → getElem? (s .stations) p ≡ some (output a) → ¬ FullChannel (s .counts) a →
       ConverseStep s p (replacing s p (addToken (s .counts) a) [])

@@ -1,5 +1,6 @@
--- Demand 2 as types: each accepted choice does one reduction of the calculus, and each reduction within the limits has
--- its choices. A reader believes these statements and the definitions that they name; the proofs stand in proofs/.
+-- Demand 2 as types: what an accepted choice does is one reduction of the calculus, and no reduction within the limits
+-- is without choices that do it. A reader believes these statements and the definitions that they name; the proofs
+-- stand in the crate theorems.
 -- Assumes nothing.
 use Prim.Native.Nat.{ℕ, _≤_}
 use mathlib.Core.Path.{_≡_}

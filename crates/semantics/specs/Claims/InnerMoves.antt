@@ -53,7 +53,7 @@ MovesLowerWeight = EveryHall (λ t h.
     (v : Tree) × (inner s u k ≡ evolves r v) × (weight v < weight u) ×
     (g ≡ record { counts = h .counts; components = replaceAt p (transaction n M s v ∷ []) (h .components) }))
 
--- an attempt that is no single end or retry leaf has a move inside it
+-- an attempt that is not settled yet can move at one of its nodes
 unfoldable pub MovesGoOn : Type 0
 unfolding InBytes
 MovesGoOn = EveryHall (λ t h.

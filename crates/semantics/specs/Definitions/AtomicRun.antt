@@ -1,5 +1,5 @@
--- The atomic run (document 01, "The one-step run"): each committed block acts in one step, at its commit. It has no
--- refusals, no transactions and no trees. It uses none of the moves of a hall, and counts by itself.
+-- The atomic run (document 01, "The one-step run"): all that a block does is done in one step, when it is committed. It
+-- has no refusals, no transactions and no trees. It uses none of the moves of a hall, and counts by itself.
 --
 -- A note (`N`) has the counts at which its attempt was opened. In the run of document 01, `atomicRun` below, it has
 -- nothing else; in Claims/NumberedRun it also has a number.
@@ -69,7 +69,7 @@ module _ {N : Type 0} where
 
 -- how the counts are read off a note, and the note that the present counts make
 module _ {N : Type 0} (countsOf : N → State) (noteOf : State → N) where
-  -- kind 1 at a block: without a note the present counts become its note; with one its attempt is settled
+  -- kind 1 at a block: where it has no note it gets one of the counts as they are; where it has one, its attempt ends
   unfoldable pub stepBlock : Atomic N → ℕ → ℕ → Expression → Option N → Atomic N
   unfolding endAttempt firstReadable
   stepBlock s p n M none =

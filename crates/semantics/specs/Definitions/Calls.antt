@@ -170,7 +170,7 @@ stepCall table l kind position node =
     let rule = firstRule (admission table (l .hall)) (entries (schedule choice)) in
     record { number = a .number; place = a .place; rule = rule; buffers = a .buffers }
 
--- ---- a list of calls on one table, hall and counters
+-- ---- a list of calls, with one table, one hall and one tally
 
 pub data Call : Type 0 where
   runChoices : List ℕ → Call

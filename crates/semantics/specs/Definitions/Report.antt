@@ -62,7 +62,7 @@ channelLines i [] ls = []
 channelLines i (f ∷ fs) [] = []
 channelLines i (f ∷ fs) (l ∷ ls) = cond (eqb f 0 && eqb l 0) [] (channelLine i f l) ++ channelLines (suc i) fs ls
 
--- `P tray`, `W term` or `A term nodes`
+-- the line of a station: `P tray`, `W term`, `A term nodes`
 unfoldable pub componentLine : Component → List ℕ
 unfolding line decimal nodes
 componentLine (idle (taking n a P)) = line 87 (decimal n ∷ [])

@@ -60,7 +60,8 @@ unfoldable pub channelOf : Action → Name
 channelOf (rd a) = a
 channelOf (wt a) = a
 
--- each leaf: its term is the table's, its channels are below 16, log length plus the length of its term is at most 16
+-- each leaf: its term is the table's, its channels are below 16, its log and the longest way through its term have at
+-- most 16 actions together
 unfoldable pub TreeOk : List Term → Tree → Type 0
 unfolding leafExpression channelOf pathLength number
 TreeOk ts (leaf M δ) =

@@ -1,4 +1,4 @@
-//! Refusal 10: the lent hall is not 11,344 bytes.
+//! Refusal 10: a hall that is too long or too short.
 
 use reference::generator::Random;
 use ruonfidd::HALL_BYTES;

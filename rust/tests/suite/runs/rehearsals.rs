@@ -158,7 +158,7 @@ fn a_tray_that_gains_during_an_attempt() {
     stands(&sequence, &[1], &[PUTTING, 2]);
 }
 
-/// A read does not see the attempt's own writes.
+/// What an attempt has written itself is not there for it to read.
 #[test]
 fn a_read_behind_a_write() {
     let mut table = Builder::new();

@@ -1,4 +1,4 @@
-//! Refusal 8: a tokens record has count 0, or its tray was given before.
+//! Refusal 8: 0 tokens for a tray, or a second record for it.
 
 use super::{all_refused, Cases, PROCESS_AND_EXPRESSION};
 use crate::common::answers::{table_gives, ACCEPTED};

@@ -1,4 +1,4 @@
-//! Refusal 5: a reference is not to an earlier term.
+//! Refusal 5: a term is named that does not stand earlier.
 
 use reference::build::Builder;
 

@@ -1,4 +1,4 @@
-//! Refusal 2: the body is cut short.
+//! Refusal 2: the bytes end inside a record.
 
 use super::{all_refused, Cases, PROCESS_AND_EXPRESSION};
 use crate::common::answers::{table_answer, table_gives};

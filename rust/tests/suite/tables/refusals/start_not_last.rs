@@ -1,4 +1,4 @@
-//! Refusal 9: a byte follows the start record, or there is no start record.
+//! Refusal 9: something stands behind the start record, or there is none.
 
 use reference::generator::record_starts;
 use reference::table::byte_of;

@@ -1,5 +1,5 @@
-//! Refusal 7: width is over 64, branches over 8 or length over 16. The shapes
-//! that a term can have at its limits are in `measures`.
+//! Refusal 7: a term past the limit of width (64), of branches (8) or of length
+//! (16). The shapes that a term can have at its limits are in `measures`.
 
 use reference::build::Builder;
 

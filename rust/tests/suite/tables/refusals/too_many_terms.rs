@@ -1,4 +1,4 @@
-//! Refusal 3: a term record comes after 200 terms.
+//! Refusal 3: a term more than the 200 that a table may have.
 
 use reference::build::Builder;
 use reference::generator::record_starts;

@@ -1,4 +1,4 @@
-//! Refusal 1: the kind is not 1 to 13.
+//! Refusal 1: no record begins with such a byte.
 
 use super::{all_refused, Cases};
 use crate::common::answers::{table_answer, table_gives};

@@ -1,4 +1,4 @@
-//! Refusal 4: a tray is over 15.
+//! Refusal 4: a tray past the sixteenth.
 
 use reference::build::Builder;
 

@@ -1,4 +1,4 @@
-//! Refusal 6: a reference is to the wrong class.
+//! Refusal 6: an expression where a process belongs, or the other way round.
 
 use reference::build::Builder;
 
