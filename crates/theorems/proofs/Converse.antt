@@ -1,6 +1,6 @@
--- The converse of demand 3 (document 01, "The one-step run"): for every one-step run within the limits whose blocks take
--- the first path readable at commit there are choices that are accepted whole by one call and end with its counts and
--- stations and no attempt open.
+-- The converse of demand 3 (document 01, "The one-step run"): wherever one-step steps lead, each within the limits and
+-- each commit by the path that is the first readable then, there are choices that one call accepts whole and that end
+-- with the same counts and stations and no attempt open.
 -- Assumes nothing.
 use Prim.Native.Nat.{ℕ, _+_, _≤_, _<_}
 use native.Mathlib.Omega.{arith}

@@ -217,7 +217,7 @@ moves-lower-weight bs t a h w p k n M s u e r g q =
     let low : weight (i .0) < weight u = rw (i .1) at (inner-lowers s u k) in
     (i .0, i .1, low, λ j. record { counts = i .2 j; components = i .3 j })
 
--- an attempt that is no single end or retry leaf has a move inside it
+-- an attempt that is not settled yet can move at one of its nodes
 pub moves-go-on : MovesGoOn
 unfolding MovesGoOn InBytes answerTo ComponentOk
 moves-go-on bs t a h w p n M s u e live = go (mover s u live)

@@ -1,6 +1,6 @@
--- The path clause: wherever a run commits, the block's path is the first readable at the counts when that attempt
--- opened, and the first readable at commit too if no channel has gained since. And every attempt that is open on the
--- way has come from its block by moves inside it, with the counts at its opening as snapshot.
+-- The path clause: wherever a run commits, the block's path comes first among those readable at the counts of the
+-- opening, and where no channel gained in between, first among those readable at the commit. And every attempt that
+-- is open on the way has come from its block by moves inside it, with the counts at its opening as snapshot.
 -- Assumes nothing.
 use Prim.Native.Nat.{ℕ, zero, suc, _≤_, _<_}
 use native.Mathlib.Omega.{arith}

@@ -89,7 +89,7 @@ fn on_the_examples_of_the_byte_forms() {
         assert!(report.starts_with(said.trim_end_matches("...")), "{report}");
         met += 1;
     }
-    assert_eq!(met, 31);
+    assert_eq!(met, 36);
 }
 
 /// 64 attempts of 15 nodes, 16 full trays, a refused choice far behind.
