@@ -18,17 +18,17 @@ use Rattle.decimals.proofs.Digits.{decimal-short}
 use Rattle.lines.specs.Lines.{numberLine}
 use Rattle.report.specs.Limits.{runMost, countersMost}
 use Rattle.report.specs.Printed.{Printed}
-use Rattle.report.specs.Runs.{NumbersAre, CounterIs}
+use Rattle.report.specs.Runs.{TotalsAre, CounterIs}
 use Rattle.report.proofs.NumberLines.{line-three, three-length, byte-short}
 
 -- ---- the answer as numbers
 
 module _ (a : RunAnswer) (p d : ℕ) (c : Counters) where
-  pub numbers-completed : a ≡ Completed p d c → NumbersAre a (record { number = 0; place = p; done = d; counters = c })
+  pub numbers-completed : a ≡ Completed p d c → TotalsAre a (record { number = 0; place = p; done = d; counters = c })
   numbers-completed e = record { same = λ hall. rw e refl }
 
   pub numbers-refused : (n : ℕ) → a ≡ Refused n p d c →
-      NumbersAre a (record { number = n; place = p; done = d; counters = c })
+      TotalsAre a (record { number = n; place = p; done = d; counters = c })
   numbers-refused n e = record { same = λ hall. rw e refl }
 
 -- ---- the line of the run

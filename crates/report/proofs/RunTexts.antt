@@ -33,10 +33,10 @@ use Rattle.engine.specs.declared.opens.OpenAnswer.{OpenAnswer}
 use Rattle.engine.specs.declared.opens.OpenAnswer.the-variants as answer
 use Rattle.engine.specs.Answers.{openAnswerOf, openingOf, buffersOf}
 use Rattle.engine.proofs.Admitted.{admitted-hall, refused-hall}
-use Rattle.report.specs.declared.numbers.RunNumbers.{RunNumbers}
+use Rattle.report.specs.declared.totals.RunTotals.{RunTotals}
 use Rattle.report.specs.Limits.{runMost, countersMost, channelsMost, componentsMost, linesMost}
 use Rattle.report.specs.Printed.{Printed, ComponentsHeld, ComponentsPrinted}
-use Rattle.report.specs.Runs.{callOf, answerOf, NumbersAre, LinesPrinted, HallPrinted, RunPrinted}
+use Rattle.report.specs.Runs.{callOf, answerOf, TotalsAre, LinesPrinted, HallPrinted, RunPrinted}
 use Rattle.report.proofs.Texts.{printed-more, printed-wider}
 
 -- ---- a hall that is held
@@ -59,7 +59,7 @@ lines-are f a c e =
     let y = flatten (map componentLine (a .configuration .components)) in
     ap (λ x. v ++ (w ++ (x ++ y))) e ∙ sym (regrouped v w c y)
 
-module _ (s starts : List ℕ) (n : ℕ) (first : List ℕ) (o : RunNumbers) (out₀ out₁ out₂ out₃ out₄ : List ℕ)
+module _ (s starts : List ℕ) (n : ℕ) (first : List ℕ) (o : RunTotals) (out₀ out₁ out₂ out₃ out₄ : List ℕ)
     (i₁ i₂ i₃ i₄ : ℕ) where
   pub lines-printed : linesMost ≤ length out₀ →
       Printed runMost out₀ 0 (runLine (o .number) (o .place) (o .done)) out₁ i₁ →
@@ -89,7 +89,7 @@ module _ (d table s starts : List ℕ) (a : Admission) (w : AdmissionIs a d s st
   admitted-standing n e = admitted-hall d table s starts a w n e
       (λ t h q x. record { terms = t .terms; configuration = h; holds = x .holds })
 
-  module _ (first : List ℕ) (o : RunNumbers) (out₀ out₁ : List ℕ) (r : ℕ) where
+  module _ (first : List ℕ) (o : RunTotals) (out₀ out₁ : List ℕ) (r : ℕ) where
     pub admitted-printed : (n : ℕ) → a ≡ admit.Admitted n → LinesPrinted s starts n first o out₀ out₁ r →
         HallPrinted table s first o out₀ out₁ r
     admitted-printed n e x = record {
@@ -172,7 +172,7 @@ module _ (table choices hall₀ hall₁ : List ℕ) (a : OpenAnswer) (w : openin
     (out₀ out₁ : List ℕ) (r : ℕ) where
   pub opened-printed : (c : Counters) → a ≡ answer.Opened c → (first : List ℕ) → first ≡ take channels hall₁ →
       (ans : RunAnswer) (hall₂ : List ℕ) → runCallOf ans hall₂ ≡ runCall table (buffersOf hall₁ c) choices →
-      length hall₂ ≡ hallBytes → (o : RunNumbers) → NumbersAre ans o → HallPrinted table hall₂ first o out₀ out₁ r →
+      length hall₂ ≡ hallBytes → (o : RunTotals) → TotalsAre ans o → HallPrinted table hall₂ first o out₀ out₁ r →
       RunPrinted table choices hall₀ out₀ out₁ r
   unfolding openAnswerOf answer-of
   opened-printed c e first f ans hall₂ ran size o same x = record {

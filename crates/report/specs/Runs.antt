@@ -22,14 +22,14 @@ use Rattle.counters.specs.Counted.{countersOf}
 use Rattle.runs.specs.declared.RunAnswer.{RunAnswer}
 use Rattle.runs.specs.Answers.{runCallOf}
 use Rattle.index.specs.Holds.{Holds}
-use Rattle.report.specs.declared.numbers.RunNumbers.{RunNumbers}
+use Rattle.report.specs.declared.totals.RunTotals.{RunTotals}
 use Rattle.report.specs.Limits.{linesMost}
 use Rattle.report.specs.Printed.{Printed}
 
 -- ---- what a run answers, as numbers
 
 -- with the bytes of a hall afterwards, and with the configuration there
-abbrev pub callOf : RunNumbers → List ℕ → RunCall
+abbrev pub callOf : RunTotals → List ℕ → RunCall
 callOf o hall =
     record {
       number = o .number;
@@ -38,7 +38,7 @@ callOf o hall =
       buffers = record { hall = hall; counters = countersOf (o .counters) };
     }
 
-abbrev pub answerOf : RunNumbers → Configuration → run.RunAnswer
+abbrev pub answerOf : RunTotals → Configuration → run.RunAnswer
 answerOf o h =
     record {
       number = o .number;
@@ -49,7 +49,7 @@ answerOf o h =
     }
 
 -- both cases of the code's answer, told apart by the number
-pub record NumbersAre (a : RunAnswer) (o : RunNumbers) : Type 0 where
+pub record TotalsAre (a : RunAnswer) (o : RunTotals) : Type 0 where
   pub same : (hall : List ℕ) → callOf o hall ≡ runCallOf a hall
 
 -- a counter, in a wider number
@@ -60,13 +60,13 @@ pub record CounterIs (n r : ℕ) : Type 0 where
 -- ---- the lines of a run
 
 -- behind whichever first configuration has these counts, whichever configuration is held
-pub record LinesPrinted (s starts : List ℕ) (n : ℕ) (first : List ℕ) (o : RunNumbers) (before after : List ℕ) (to : ℕ) :
+pub record LinesPrinted (s starts : List ℕ) (n : ℕ) (first : List ℕ) (o : RunTotals) (before after : List ℕ) (to : ℕ) :
     Type 0 where
   pub found : (ts : List Term) (f l : Configuration) → f .counts ≡ take channels first → Holds ts l s starts n →
       Printed linesMost before 0 (lines f (answerOf o l)) after to
 
 -- the same for whichever configuration the hall stores behind an accepted table
-pub record HallPrinted (table s first : List ℕ) (o : RunNumbers) (before after : List ℕ) (to : ℕ) : Type 0 where
+pub record HallPrinted (table s first : List ℕ) (o : RunTotals) (before after : List ℕ) (to : ℕ) : Type 0 where
   pub found : (t : Table) (f l : Configuration) → readTable table ≡ accepted t → f .counts ≡ take channels first →
       length s ≡ hallBytes → configurationOf (t .terms) s ≡ some l →
       Printed linesMost before 0 (lines f (answerOf o l)) after to

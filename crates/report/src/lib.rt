@@ -2,9 +2,9 @@
 // the bytes of its text.
 mod channels;
 mod components;
-mod numbers;
 mod printing;
 mod tables;
+mod totals;
 
 use buffer::write_at;
 use stored::HALL_SIZE;

@@ -1,10 +1,10 @@
 // What is printed of a table that is opened in a hall and of a run over choices there.
 use crate::channels::channel_lines;
 use crate::components::component_lines;
-use crate::numbers::RunNumbers;
-use crate::numbers::counters_line;
-use crate::numbers::numbers_of;
-use crate::numbers::run_line;
+use crate::totals::RunTotals;
+use crate::totals::counters_line;
+use crate::totals::run_line;
+use crate::totals::totals_of;
 use admission::Admission;
 use engine::OpenAnswer;
 use stored::CHANNELS;
@@ -24,32 +24,32 @@ fn print_lines(
     starts: &[usize; INDEX_SIZE],
     components: usize,
     first: &[u8],
-    numbers: RunNumbers,
+    totals: RunTotals,
     out: &mut [u8],
 ) -> usize
     requires { ⌜ ComponentsHeld (now hall) (now starts) components × (Layout·channels ≤ length (now first))
         × (linesMost ≤ length (now out)) ⌝ }
-    ensures { λ r. ⌜ LinesPrinted (now (hall .entry)) (now (starts .entry)) components (now (first .entry)) numbers
+    ensures { λ r. ⌜ LinesPrinted (now (hall .entry)) (now (starts .entry)) components (now (first .entry)) totals
         (now (out .entry)) (now (out .exit)) r ⌝ }
 {
-    let counters = numbers.counters;
-    let answered = run_line(out, numbers.number, numbers.place, numbers.done);
+    let counters = totals.counters;
+    let answered = run_line(out, totals.number, totals.place, totals.done);
     let counted = counters_line(out, answered, counters);
     let netted = channel_lines(out, counted, first, hall);
     component_lines(hall, starts, components, out, netted)
 }
 
 // The same for a hall that is not held yet. One that a run left behind is never refused.
-fn print_hall(table: &[u8], hall: &[u8], first: &[u8], numbers: RunNumbers, out: &mut [u8]) -> usize
+fn print_hall(table: &[u8], hall: &[u8], first: &[u8], totals: RunTotals, out: &mut [u8]) -> usize
     requires { ⌜ (Layout·channels ≤ length (now first)) × (linesMost ≤ length (now out)) ⌝ }
-    ensures { λ r. ⌜ HallPrinted (now (table .entry)) (now (hall .entry)) (now (first .entry)) numbers
+    ensures { λ r. ⌜ HallPrinted (now (table .entry)) (now (hall .entry)) (now (first .entry)) totals
         (now (out .entry)) (now (out .exit)) r ⌝ }
 {
     let mut decoded = [0u8; DECODED];
     let mut starts = [0usize; INDEX_SIZE];
     match admission::admit(table, hall, &mut decoded, &mut starts) {
         Admission::Admitted { components } => {
-            print_lines(hall, &starts, components, first, numbers, out)
+            print_lines(hall, &starts, components, first, totals, out)
         }
         Admission::Refused {
             number: _,
@@ -77,8 +77,8 @@ pub fn print_run(table: &[u8], choices: &[u8], hall: &mut [u8], out: &mut [u8]) 
     match engine::open_hall(table, hall) {
         OpenAnswer::Opened(counters) => {
             let first = counts_of(hall);
-            let numbers = numbers_of(engine::run(table, hall, choices, counters));
-            print_hall(table, hall, &first, numbers, out)
+            let totals = totals_of(engine::run(table, hall, choices, counters));
+            print_hall(table, hall, &first, totals, out)
         }
         OpenAnswer::Refused { number, place } => run_line(out, number, place, 0),
     }

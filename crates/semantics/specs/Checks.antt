@@ -7,6 +7,7 @@ pub mod Conditions
 pub mod Answers
 pub mod CallLists
 pub mod Steps
+pub mod Notes
 pub mod PrintedRun
 pub mod Examples
 pub mod GainExamples

@@ -19,6 +19,7 @@ pub mod Outcome
 pub mod InnerMoves
 pub mod StatedMoves
 pub mod Simulation
+pub mod Notes
 pub mod PathClause
 pub mod Runs
 pub mod CallsAsOne

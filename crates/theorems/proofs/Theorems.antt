@@ -16,6 +16,7 @@ use mathlib.Core.Path.{refl, sym, ap, _∙_}
 use mathlib.Core.List.{map}
 use Rattle.semantics.specs.Definitions.Stored.{bytesOf, configurationOf}
 use Rattle.semantics.specs.Claims.NumberedRun.{NumberedIsAtomic}
+use Rattle.semantics.specs.Checks.Notes.{NotesAtBlocks}
 use Rattle.semantics.specs.Checks.PrintedRun.{TableFound, AcceptedIsFound, PrintedLong, PrintedRefused, PrintedAsCalls}
 use Rattle.theorems.proofs.WellFormedKept as Kept
 use Rattle.theorems.proofs.Soundness as Sound
@@ -24,6 +25,7 @@ use Rattle.theorems.proofs.Completeness as Complete
 use Rattle.theorems.proofs.Handover as Together
 use Rattle.theorems.proofs.AnyOrder as Any
 use Rattle.theorems.proofs.InnerMoves as Inside
+use Rattle.theorems.proofs.Notes as Noting
 use Rattle.theorems.proofs.StatedMoves as Printing
 use Rattle.semantics.proofs.MovesWorked as WorkedMoves
 use Rattle.theorems.proofs.CallsAsOne.{firstBuffers, opened-calls}
@@ -142,6 +144,9 @@ pub moves-settle-first-path : MovesSettleFirstPath
 moves-settle-first-path = Inside.moves-settle-first-path
 
 -- ---- demand 3
+
+pub notes-at-blocks : NotesAtBlocks
+notes-at-blocks = Noting.notes-at-blocks
 
 pub numbered-is-atomic : NumberedIsAtomic
 numbered-is-atomic = Pace.numbered-is-atomic

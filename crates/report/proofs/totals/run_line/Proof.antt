@@ -2,8 +2,8 @@
 -- Assumes nothing.
 use borrow.Author.Needs.{needs}
 use Rattle.report.proofs.RunLines.{run-fits, run-printed}
-use Rattle.report.proofs.numbers.run_line.Statement.{statement}
-use Rattle.report.proofs.numbers.run_line.Tie as tie
+use Rattle.report.proofs.totals.run_line.Statement.{statement}
+use Rattle.report.proofs.totals.run_line.Tie as tie
 
 wide-requires : tie.Need-wide-requires
 wide-requires c κs = search needs

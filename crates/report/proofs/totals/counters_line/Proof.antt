@@ -2,8 +2,8 @@
 -- Assumes nothing.
 use borrow.Author.Needs.{needs}
 use Rattle.report.proofs.RunLines.{counters-fit, counters-printed}
-use Rattle.report.proofs.numbers.counters_line.Statement.{statement}
-use Rattle.report.proofs.numbers.counters_line.Tie as tie
+use Rattle.report.proofs.totals.counters_line.Statement.{statement}
+use Rattle.report.proofs.totals.counters_line.Tie as tie
 
 wide-counter-requires : tie.Need-wide-counter-requires
 wide-counter-requires c κs = search needs

@@ -2,8 +2,8 @@
 -- Assumes nothing.
 use borrow.Author.Needs.{needs}
 use Rattle.report.proofs.RunLines.{numbers-completed, numbers-refused}
-use Rattle.report.proofs.numbers.numbers_of.Statement.{statement}
-use Rattle.report.proofs.numbers.numbers_of.Tie as tie
+use Rattle.report.proofs.totals.totals_of.Statement.{statement}
+use Rattle.report.proofs.totals.totals_of.Tie as tie
 
 enum-known-answer : tie.Need-enum-known-answer
 enum-known-answer c = search needs
@@ -17,5 +17,5 @@ returns c = search numbers-completed
 returns-2 : tie.Need-returns-2
 returns-2 c = search numbers-refused
 
-pub numbers-of-spec : {M : Type 1} → statement M
-numbers-of-spec = tie.close (tie.spec enum-known-answer enum-known-answer-2 returns returns-2)
+pub totals-of-spec : {M : Type 1} → statement M
+totals-of-spec = tie.close (tie.spec enum-known-answer enum-known-answer-2 returns returns-2)

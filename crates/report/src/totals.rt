@@ -11,25 +11,25 @@ ghost use Rattle.semantics.specs.Definitions.Report.{runLine, countersLine};
 ghost use Rattle.counters.specs.Counted.{countersOf};
 ghost use Rattle.report.specs.Limits.{runMost, countersMost};
 ghost use Rattle.report.specs.Printed.{Printed};
-ghost use Rattle.report.specs.Runs.{NumbersAre, CounterIs};
+ghost use Rattle.report.specs.Runs.{TotalsAre, CounterIs};
 
 // Number 0 stands for a run that was completed.
-pub struct RunNumbers {
+pub struct RunTotals {
     pub number: u8,
     pub place: usize,
     pub done: usize,
     pub counters: Counters,
 }
 
-pub fn numbers_of(answer: RunAnswer) -> RunNumbers
-    ensures { λ r. ⌜ NumbersAre answer r ⌝ }
+pub fn totals_of(answer: RunAnswer) -> RunTotals
+    ensures { λ r. ⌜ TotalsAre answer r ⌝ }
 {
     match answer {
         RunAnswer::Completed {
             place,
             done,
             counters,
-        } => RunNumbers {
+        } => RunTotals {
             number: 0,
             place,
             done,
@@ -40,7 +40,7 @@ pub fn numbers_of(answer: RunAnswer) -> RunNumbers
             place,
             done,
             counters,
-        } => RunNumbers {
+        } => RunTotals {
             number,
             place,
             done,
