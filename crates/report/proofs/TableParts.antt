@@ -132,13 +132,13 @@ module _ (s : List ℕ) (at : ℕ) (x : SteppedTo s at) where
       go true e =
           let k = eqb-true (getD s at 0) 13 e in
           let here : TableEnds (drop at s) 2 = rw (first, k) at-start in
-          let past : length s < at + 1 + 1 = rw k at (w .past) in
+          let past : length s < at + 1 + 1 = rw k at (w .cut) in
           let all : take (at + 2) s ≡ s = take-all (at + 2) s (omega arith) in
           record { inside = omega arith; part = rw take-length (rw all at (up-to-start (at + 2) (x .onwards 2 here))) }
       go false e = none-more (λ n y.
           let o = ends-behind (drop at s) n y (getD s at 0) (drop (suc at) s) first (eqb-false (getD s at 0) 13 e) in
           let body = ap length (body-of-kind (getD s at 0) (o .0) (o .1)) in
-          let past = w .past in
+          let past = w .cut in
           let size = length (fields (o .0)) in
           let end : drop size (drop (suc at) s) ≡ [] =
           drop-drop size (suc at) s ∙ drop-of-length-le s {i = suc at + size} (omega arith) in
