@@ -19,7 +19,7 @@ pub struct Counters {
 }
 
 // A counter after a move by a rule: one more where it is the rule that this counter counts.
-fn raised(counts: u8, rule: u8, counter: u32) -> u32
+fn counted_at(counts: u8, rule: u8, counter: u32) -> u32
     ensures { λ r. ⌜ r ≡ countedAt counts rule counter ⌝ }
 {
     if rule != counts {
@@ -36,9 +36,9 @@ fn counted_rule(counters: Counters, rule: u8) -> Counters
     ensures { λ r. ⌜ r ≡ countedBy counters rule ⌝ }
 {
     Counters {
-        commits: raised(ATOK, rule, counters.commits),
-        failed: raised(ATFAIL, rule, counters.failed),
-        retries: raised(ATRE, rule, counters.retries),
+        commits: counted_at(ATOK, rule, counters.commits),
+        failed: counted_at(ATFAIL, rule, counters.failed),
+        retries: counted_at(ATRE, rule, counters.retries),
     }
 }
 

@@ -10,7 +10,7 @@ use lib.ListN.{length, getElem?}
 use lib.Dec.{leb}
 use Rattle.semantics.specs.Definitions.Layout.{channels}
 use Rattle.semantics.specs.Definitions.Terms.{Term}
-use Rattle.semantics.specs.Definitions.Table.{Kind, kindOf, Field, channelF, programF, amountF, fields, anyField, channelOutOfRange, forwardReference}
+use Rattle.semantics.specs.Definitions.Table.{Kind, kindByNumber, Field, channelF, programF, amountF, fields, anyField, channelOutOfRange, forwardReference}
 use Rattle.records.specs.Shapes.{bodyOf, fieldNumber, fieldFrom, failsAt}
 use Rattle.records.proofs.Shapes.{body-of-kind, body-few}
 
@@ -63,7 +63,7 @@ module _ (fails : Field → ℕ → Bool) (l r : ℕ) where
   two-fields (f ∷ e ∷ d ∷ fs) h = absurd (omega arith)
 
   -- of a record of kind k, whose fields are those with the numbers f and g
-  pub both-fields : (k : ℕ) (K : Kind) → kindOf k ≡ some K → (f : ℕ) → fieldFrom f ≡ getElem? (bodyOf k) 0 →
+  pub both-fields : (k : ℕ) (K : Kind) → kindByNumber k ≡ some K → (f : ℕ) → fieldFrom f ≡ getElem? (bodyOf k) 0 →
       (g : ℕ) → fieldFrom g ≡ getElem? (bodyOf k) 1 →
       anyField fails (fields K) (l ∷ r ∷ []) ≡ (failsAt fails (fieldFrom f) l || failsAt fails (fieldFrom g) r)
   both-fields k K named f p g q = rw (p, q, ← (body-of-kind k K named)) (two-fields (bodyOf k) (body-few k (length (bodyOf k)) refl))

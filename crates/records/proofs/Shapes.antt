@@ -9,7 +9,7 @@ use mathlib.Core.Option.{Option, none, some}
 use mathlib.Core.List.{List, [], _∷_}
 use lib.Bits.{bitAnd}
 use lib.ListN.{length, getElem?}
-use Rattle.semantics.specs.Definitions.Table.{Kind, kinds, kindOf, fields}
+use Rattle.semantics.specs.Definitions.Table.{Kind, kinds, kindByNumber, fields}
 use Rattle.theorems.proofs.Lists.{all-at}
 use Rattle.records.specs.Shapes.{lastKind, kindsEnd, fieldsOf, bodyOf}
 
@@ -32,7 +32,7 @@ pub length-at : (k x : ℕ) → x ≡ k → k < kindsEnd → bitAnd (111680144 /
 unfolding bodyOf
 length-at k x p h = rw p (same-at (λ i. bitAnd (111680144 / 2 ^ (2 * i)) 3) (λ i. length (bodyOf i)) 0 14 refl k (omega arith) h)
 
-pub body-of-kind : (k : ℕ) (K : Kind) → kindOf k ≡ some K → bodyOf k ≡ fields K
+pub body-of-kind : (k : ℕ) (K : Kind) → kindByNumber k ≡ some K → bodyOf k ≡ fields K
 unfolding bodyOf fieldsOf
 body-of-kind k K named = rw named
 
@@ -41,7 +41,7 @@ unfolding kinds fields
 fields-few K j e = all-at (λ K. length (fields K) ≤ 2) kinds j K (omega arith) e
 
 pub body-few : (k b : ℕ) → b ≡ length (bodyOf k) → b ≤ 2
-unfolding bodyOf fieldsOf kindOf
+unfolding bodyOf fieldsOf kindByNumber
 body-few zero b p = omega arith
 body-few (suc k) b p = rw p (go (getElem? kinds k) refl)
   where
@@ -51,8 +51,8 @@ body-few (suc k) b p = rw p (go (getElem? kinds k) refl)
 
 -- ---- bytes of no kind
 
-pub no-kind : (k : ℕ) → lastKind < k → kindOf k ≡ none
-unfolding kindOf kinds
+pub no-kind : (k : ℕ) → lastKind < k → kindByNumber k ≡ none
+unfolding kindByNumber kinds
 no-kind zero h = refl
 no-kind (suc k) h = past kinds k (omega arith)
   where

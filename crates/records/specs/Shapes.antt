@@ -7,7 +7,7 @@ use mathlib.Core.Option.{Option, none, some}
 use mathlib.Core.List.{List, []}
 use Rattle.semantics.specs.Definitions.Terms.{Term, process, expression}
 pub use Rattle.semantics.specs.Checks.AcceptedTables.{kindByte}
-use Rattle.semantics.specs.Definitions.Table.{Kind, startK, kindOf, Field, channelF, programF, expressionF, amountF, fields, Content, termRecord, tokensRecord, startRecord, recordContent}
+use Rattle.semantics.specs.Definitions.Table.{Kind, startK, kindByNumber, Field, channelF, programF, expressionF, amountF, fields, Content, termRecord, tokensRecord, startRecord, recordContent}
 
 -- no byte past it is a kind
 abbrev pub lastKind : ℕ
@@ -23,8 +23,8 @@ fieldsOf none = []
 fieldsOf (some K) = fields K
 
 unfoldable pub bodyOf : ℕ → List Field
-unfolding kindOf fieldsOf
-bodyOf k = fieldsOf (kindOf k)
+unfolding kindByNumber fieldsOf
+bodyOf k = fieldsOf (kindByNumber k)
 
 -- a field's number
 abbrev pub fieldNumber : Field → ℕ
@@ -66,5 +66,5 @@ classOfKind none = 0
 classOfKind (some K) = contentClass (recordContent [] [] K)
 
 unfoldable pub classOf : ℕ → ℕ
-unfolding kindOf classOfKind
-classOf k = classOfKind (kindOf k)
+unfolding kindByNumber classOfKind
+classOf k = classOfKind (kindByNumber k)

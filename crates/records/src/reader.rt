@@ -6,7 +6,7 @@ ghost use mathlib.Core.Path.{_≡_};
 ghost use Rattle.records.specs.Parsing.{ParsedAs};
 
 // The offset of a table's first record.
-const FIRST: usize = 0;
+const FIRST_RECORD: usize = 0;
 
 // The table that was lent, and where in it the next record begins.
 pub struct Reader<'a> {
@@ -19,7 +19,10 @@ impl<'a> Reader<'a> {
     pub fn new(table: &'a [u8]) -> Reader<'a>
         ensures { λ r. ⌜ r ≡ record { table = table .entry; at = 0 } ⌝ }
     {
-        Reader { table, at: FIRST }
+        Reader {
+            table,
+            at: FIRST_RECORD,
+        }
     }
 
     // At another offset of the same table, as that behind a record.

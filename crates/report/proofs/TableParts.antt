@@ -12,7 +12,7 @@ use lib.Dec.{eqb}
 use borrow.Author.Tests.{eqb-true, eqb-false}
 use Rattle.theorems.proofs.Lists.{found-below}
 use lib.Seq.{drop-cons, drop-drop, take-all, take-length}
-use Rattle.semantics.specs.Definitions.Table.{Kind, kindOf, kinds, fields}
+use Rattle.semantics.specs.Definitions.Table.{Kind, kindByNumber, kinds, fields}
 use Rattle.semantics.specs.Checks.PrintedRun.{TableEnds, at-start, after-record, up-to-start, all-of-it}
 use Rattle.records.specs.declared.Record.{Record}
 use Rattle.records.specs.declared.Parsed.{Parsed}
@@ -30,15 +30,15 @@ no-end n x = elim x [ ]
 
 -- what a table ends with behind a record that is no start
 ends-behind : (bs : List ℕ) (n : ℕ) → TableEnds bs n → (k : ℕ) (rest : List ℕ) → bs ≡ k ∷ rest → (k ≡ 13 → ⊥) →
-    (K : Kind) × (kindOf k ≡ some K) × (m : ℕ) × TableEnds (drop (length (fields K)) rest) m
+    (K : Kind) × (kindByNumber k ≡ some K) × (m : ℕ) × TableEnds (drop (length (fields K)) rest) m
 ends-behind bs n at-start k rest e ne = absurd (ne (cc))
 ends-behind bs n (after-record {k = j} {n = m} {bs = others} K named other x) k rest e ne =
     let p : j ≡ k = cc in
     let q : others ≡ rest = cc in (K, rw p at named, m, rw q at x)
 
 -- a byte of a kind is one of 1 to 13
-kind-bounds : (k : ℕ) (K : Kind) → kindOf k ≡ some K → (1 ≤ k) × (k ≤ 13)
-unfolding kindOf kinds
+kind-bounds : (k : ℕ) (K : Kind) → kindByNumber k ≡ some K → (1 ≤ k) × (k ≤ 13)
+unfolding kindByNumber kinds
 kind-bounds zero K e = let z : _≡_ {A = ℕ} 0 1 = cc in absurd (omega arith)
 kind-bounds (suc k) K e = let l = found-below kinds k K e in (omega arith, omega arith)
 
@@ -70,7 +70,7 @@ module _ (s : List ℕ) (at : ℕ) (x : SteppedTo s at) where
     first-byte = let b = w .behind in let i = w .inside in rw (w .kind) (drop-cons s at 0 (omega arith))
 
     pub start-reached : r .kind ≡ 13 → TableUpTo s (r .next)
-    unfolding bodyOf kindOf kinds fields
+    unfolding bodyOf kindByNumber kinds fields
     start-reached k =
         let b = w .behind in
         let size : r .next ≡ at + 2 = b ∙ rw k (omega arith) in
@@ -122,7 +122,7 @@ module _ (s : List ℕ) (at : ℕ) (x : SteppedTo s at) where
       outside a b (inr e) = omega arith
 
   cut-more : ShortRecord s at → TableUpTo s (length s)
-  unfolding bodyOf kindOf kinds fields
+  unfolding bodyOf kindByNumber kinds fields
   cut-more w = go (eqb (getD s at 0) 13) refl
     where
       first : drop at s ≡ getD s at 0 ∷ drop (suc at) s

@@ -4,7 +4,7 @@ use Prim.Native.Nat.{ℕ, zero, suc}
 use native.Mathlib.Omega.{arith}
 use mathlib.Core.Path.{refl}
 use lib.ListN.{getD}
-use Rattle.semantics.specs.Definitions.Table.{nilK, kinds, kindOf}
+use Rattle.semantics.specs.Definitions.Table.{nilK, kinds, kindByNumber}
 use Rattle.theorems.proofs.Lists.{found-at, found-getD}
 use Rattle.records.specs.Shapes.{kindByte}
 use Rattle.records.specs.Parsing.{IsKind}
@@ -12,7 +12,7 @@ use Rattle.records.proofs.Shapes.{same-at}
 use Rattle.tablelaws.specs.Refusals.{KindAt}
 
 pub kind-at : (k : ℕ) → IsKind k → KindAt k
-unfolding kindOf kinds
+unfolding kindByNumber kinds
 kind-at zero h = absurd (omega arith)
 kind-at (suc k) h =
     let K = found-at kinds k (omega arith) in

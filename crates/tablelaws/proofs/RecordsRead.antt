@@ -13,7 +13,7 @@ use lib.Dec.{ltb}
 use borrow.Author.Tests.{lt-ltb, le-ltb}
 use Rattle.semantics.specs.Definitions.Basics.{firstOf}
 use Rattle.semantics.specs.Definitions.Terms.{Term}
-use Rattle.semantics.specs.Definitions.Table.{Kind, nilK, putK, takeK, repeatK, parK, atomK, endK, retryK, rdK, wtK, orElseK, tokensK, startK, kindOf, Field, fields, Reading, refusedAt, Content, recordContent, programIn, expressionIn, anyField, channelOutOfRange, forwardReference, classMismatch, tests, RecordAnswer, stop, recordPassed, recordTested, recordOfKind, readRecord}
+use Rattle.semantics.specs.Definitions.Table.{Kind, nilK, putK, takeK, repeatK, parK, atomK, endK, retryK, rdK, wtK, orElseK, tokensK, startK, kindByNumber, Field, fields, Reading, refusedAt, Content, recordContent, programIn, expressionIn, anyField, channelOutOfRange, forwardReference, classMismatch, tests, RecordAnswer, stop, recordPassed, recordTested, recordOfKind, readRecord}
 use Rattle.records.specs.declared.Record.{Record}
 use Rattle.records.specs.Shapes.{lastKind, bodyOf}
 use Rattle.records.specs.Parsing.{ShortRecord, WholeRecord}
@@ -106,12 +106,12 @@ module _ (x : Reading) (s : List ℕ) (at : ℕ) where
   end-turn h = rw (drop-of-length-le s h)
 
   -- a byte, and what follows it
-  byte-turn : at < length s → readRecord x at (drop at s) ≡ recordOfKind x at (drop (suc at) s) (kindOf (getD s at 0))
+  byte-turn : at < length s → readRecord x at (drop at s) ≡ recordOfKind x at (drop (suc at) s) (kindByNumber (getD s at 0))
   unfolding readRecord
   byte-turn h = rw (drop-cons s at 0 h)
 
   pub unknown-turn : at < length s → (getD s at 0 ≡ 0) ⊎ (lastKind < getD s at 0) → readRecord x at (drop at s) ≡ stop (refusedAt 1 at)
-  unfolding recordOfKind kindOf
+  unfolding recordOfKind kindByNumber
   unknown-turn h (inl e) = byte-turn h ∙ rw e refl
   unknown-turn h (inr g) = byte-turn h ∙ rw (no-kind (getD s at 0) g) refl
 
@@ -124,7 +124,7 @@ module _ (x : Reading) (s : List ℕ) (at : ℕ) where
       byte-turn (h .inside)
       ∙ rw (K .named, lt-ltb (length (drop (suc at) s)) (length (fields (K .kind))) (omega (arith, h .cut, h .inside))) refl
 
-  module _ (y : Record) (w : WholeRecord s at y) (K : Kind) (named : kindOf (y .kind) ≡ some K) where
+  module _ (y : Record) (w : WholeRecord s at y) (K : Kind) (named : kindByNumber (y .kind) ≡ some K) where
     abbrev body : ℕ
     body = length (fields K)
 

@@ -6,13 +6,13 @@ use mathlib.Core.Bool.{cond}
 use mathlib.Core.Option.{some}
 use mathlib.Core.List.{List, [], _∷_}
 use Rattle.semantics.specs.Definitions.Terms.{Term}
-use Rattle.semantics.specs.Definitions.Table.{Kind, kindOf, fields, Content, Reading, recordContent, anyField, tooManyTerms, channelOutOfRange, forwardReference, classMismatch, overLimit, badTokens}
+use Rattle.semantics.specs.Definitions.Table.{Kind, kindByNumber, fields, Content, Reading, recordContent, anyField, tooManyTerms, channelOutOfRange, forwardReference, classMismatch, overLimit, badTokens}
 use Rattle.records.specs.Shapes.{kindByte}
 
 -- a byte of kind, with its kind
 pub record KindAt (k : ℕ) : Type 0 where
   pub kind : Kind
-  pub named : kindOf k ≡ some kind
+  pub named : kindByNumber k ≡ some kind
   pub byte : k ≡ kindByte kind
 
 -- what the record says, after the terms ts

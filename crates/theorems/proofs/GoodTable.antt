@@ -14,7 +14,7 @@ use borrow.Author.Tests.{leb-false, not-false}
 use Rattle.calculus.specs.Syntax.{State}
 use Rattle.semantics.specs.Definitions.Basics.{firstOf, All}
 use Rattle.semantics.specs.Definitions.Terms.{endT, retryT, rdT, wtT, orElseT, Program, nilT, putT, takeT, repeatT, parT, atomT, Term, process, expression, number, width, branches, pathLength}
-use Rattle.semantics.specs.Definitions.Table.{Kind, nilK, putK, takeK, repeatK, parK, atomK, endK, retryK, rdK, wtK, orElseK, tokensK, startK, kindOf, Reading, Table, TableAnswer, accepted, refusedAt, isProgram, isExpression, asProgram, asExpression, Content, termRecord, tokensRecord, startRecord, recordContent, fields, anyField, tooManyTerms, channelOutOfRange, classMismatch, overLimit, Test, tests, RecordAnswer, stop, more, tableEnd, recordPassed, recordTested, recordOfKind, readRecord, thenRead, readFrom, emptyReading, readTable}
+use Rattle.semantics.specs.Definitions.Table.{Kind, nilK, putK, takeK, repeatK, parK, atomK, endK, retryK, rdK, wtK, orElseK, tokensK, startK, kindByNumber, Reading, Table, TableAnswer, accepted, refusedAt, isProgram, isExpression, asProgram, asExpression, Content, termRecord, tokensRecord, startRecord, recordContent, fields, anyField, tooManyTerms, channelOutOfRange, classMismatch, overLimit, Test, tests, RecordAnswer, stop, more, tableEnd, recordPassed, recordTested, recordOfKind, readRecord, thenRead, readFrom, emptyReading, readTable}
 use Rattle.semantics.specs.Checks.AcceptedTables.{programNumber, termNumber, ProgramIn, ExpressionIn, SubtermsIn, ChannelBelow, MeasuresWithinLimits, GoodTable}
 use Rattle.semantics.specs.Checks.StoredForm.{AcceptedIsGood, StartIsTerm, TokensAreCounts}
 use Rattle.theorems.proofs.Reading.{or-false}
@@ -238,7 +238,7 @@ module _ (B : ℕ → Type 0) where
   turn-good : (r : Reading) (at : ℕ) (bs : List ℕ) → ReadingGood B r → All B bs → TurnGood B (readRecord r at bs)
   unfolding readRecord TurnGood AnswerGood
   turn-good r at [] g b = tt
-  turn-good r at (k ∷ bs) g b = go (kindOf k)
+  turn-good r at (k ∷ bs) g b = go (kindByNumber k)
     where
       go : (o : Option Kind) → TurnGood B (recordOfKind r at bs o)
       go none = tt

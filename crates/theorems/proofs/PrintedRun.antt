@@ -13,7 +13,7 @@ use lib.Dec.{eqb, ltb}
 use borrow.Author.Tests.{eqb-true, eqb-false, eq-eqb, ne-eqb, ltb-false, lt-ltb, le-ltb}
 use Rattle.semantics.specs.Definitions.Basics.{firstOf}
 use Rattle.semantics.specs.Definitions.Terms.{Program}
-use Rattle.semantics.specs.Definitions.Table.{Kind, kindOf, fields, Reading, Table, TableAnswer, accepted, refusedAt, Content}
+use Rattle.semantics.specs.Definitions.Table.{Kind, kindByNumber, fields, Reading, Table, TableAnswer, accepted, refusedAt, Content}
 use Rattle.semantics.specs.Definitions.Table.{termRecord, tokensRecord, startRecord, recordContent, Test, tests, RecordAnswer, stop, more, tableEnd}
 use Rattle.semantics.specs.Definitions.Table.{recordPassed, recordTested, recordOfKind, readRecord, thenRead, readFrom, emptyReading, readTable}
 use Rattle.semantics.specs.Definitions.Configuration.{opening}
@@ -51,7 +51,7 @@ ends-at (suc f) (k ∷ bs) n e = from (eqb k 13) refl e (λ size m. ends-at f (d
     rest : ℕ → Option ℕ
     rest size = bind (tableSize f (drop size bs)) (λ m. some (suc size + m))
 
-    over : (K : Kind) → kindOf k ≡ some K → k ≢ 13 → (o : Option ℕ) → tableSize f (drop (length (fields K)) bs) ≡ o →
+    over : (K : Kind) → kindByNumber k ≡ some K → k ≢ 13 → (o : Option ℕ) → tableSize f (drop (length (fields K)) bs) ≡ o →
         bind o (λ m. some (suc (length (fields K)) + m)) ≡ some n →
         ((size m : ℕ) → tableSize f (drop size bs) ≡ some m → TableEnds (drop size bs) m) → TableEnds (k ∷ bs) n
     over K named ne none p q later = let z : _≡_ {A = ℕ} 0 1 = cc in absurd (omega arith)
@@ -59,15 +59,15 @@ ends-at (suc f) (k ∷ bs) n e = from (eqb k 13) refl e (λ size m. ends-at f (d
         let z : suc (length (fields K)) + m ≡ n = cc in
         rw (← z) (after-record K named ne (later (length (fields K)) m p))
 
-    by-kind : (o : Option Kind) → kindOf k ≡ o → k ≢ 13 → bind o (λ K. rest (length (fields K))) ≡ some n →
+    by-kind : (o : Option Kind) → kindByNumber k ≡ o → k ≢ 13 → bind o (λ K. rest (length (fields K))) ≡ some n →
         ((size m : ℕ) → tableSize f (drop size bs) ≡ some m → TableEnds (drop size bs) m) → TableEnds (k ∷ bs) n
     by-kind none named ne q later = let z : _≡_ {A = ℕ} 0 1 = cc in absurd (omega arith)
     by-kind (some K) named ne q later = over K named ne (tableSize f (drop (length (fields K)) bs)) refl q later
 
-    from : (b : Bool) → eqb k 13 ≡ b → cond b (some 2) (bind (kindOf k) (λ K. rest (length (fields K)))) ≡ some n →
+    from : (b : Bool) → eqb k 13 ≡ b → cond b (some 2) (bind (kindByNumber k) (λ K. rest (length (fields K)))) ≡ some n →
         ((size m : ℕ) → tableSize f (drop size bs) ≡ some m → TableEnds (drop size bs) m) → TableEnds (k ∷ bs) n
     from true p q later = let z : 2 ≡ n = cc in rw (← z, eqb-true k 13 p) at-start
-    from false p q later = by-kind (kindOf k) refl (eqb-false k 13 p) q later
+    from false p q later = by-kind (kindByNumber k) refl (eqb-false k 13 p) q later
 
 -- what the steps find is the table
 part-of : (bs : List ℕ) → Option ℕ → List ℕ
@@ -119,7 +119,7 @@ module _ (cs : List ℕ) where
   TurnEnds bs (more r w) = TableEnds (drop w bs ++ cs) (length (drop w bs)) → TableEnds (bs ++ cs) (length bs)
 
   -- over a record that is no start record
-  record-ends : (k : ℕ) (rest : List ℕ) (K : Kind) → kindOf k ≡ some K → k ≢ 13 → length (fields K) ≤ length rest →
+  record-ends : (k : ℕ) (rest : List ℕ) (K : Kind) → kindByNumber k ≡ some K → k ≢ 13 → length (fields K) ≤ length rest →
       TableEnds (drop (length (fields K)) rest ++ cs) (length (drop (length (fields K)) rest)) →
       TableEnds (k ∷ (rest ++ cs)) (suc (length rest))
   record-ends k rest K named ne whole x =
@@ -136,7 +136,7 @@ module _ (cs : List ℕ) where
   closed-ends r P k at (x ∷ []) e h = rw e at-start
   closed-ends r P k at (x ∷ y ∷ ys) e h = tt
 
-  passed-ends : (r : Reading) (k at : ℕ) (rest : List ℕ) (K : Kind) → kindOf k ≡ some K →
+  passed-ends : (r : Reading) (k at : ℕ) (rest : List ℕ) (K : Kind) → kindByNumber k ≡ some K →
       length (fields K) ≤ length rest → (c : Content) → ContentReason K rest c →
       TurnEnds (k ∷ rest) (recordPassed r c (suc (length (fields K))) at (drop (length (fields K)) rest))
   unfolding recordPassed TurnEnds
@@ -151,16 +151,16 @@ module _ (cs : List ℕ) where
   turn-ends : (r : Reading) (at : ℕ) (bs : List ℕ) → TurnEnds bs (readRecord r at bs)
   unfolding readRecord recordOfKind recordTested TurnEnds AnswerEnds
   turn-ends r at [] = tt
-  turn-ends r at (k ∷ rest) = by-kind (kindOf k) refl
+  turn-ends r at (k ∷ rest) = by-kind (kindByNumber k) refl
     where
-      by-test : (K : Kind) → kindOf k ≡ some K → (o : Option Test) → firstOf (λ t. t .holds) (tests r K rest) ≡ o →
+      by-test : (K : Kind) → kindByNumber k ≡ some K → (o : Option Test) → firstOf (λ t. t .holds) (tests r K rest) ≡ o →
           TurnEnds (k ∷ rest) (recordTested r at K rest o)
       by-test K named (some t) e = tt
       by-test K named none e =
           passed-ends r k _ rest K named (whole-body r K rest e) (recordContent (r .terms) rest K)
           (said-reason (r .terms) rest K)
 
-      by-kind : (o : Option Kind) → kindOf k ≡ o → TurnEnds (k ∷ rest) (recordOfKind r at rest o)
+      by-kind : (o : Option Kind) → kindByNumber k ≡ o → TurnEnds (k ∷ rest) (recordOfKind r at rest o)
       by-kind none e = tt
       by-kind (some K) e = by-test K e _ refl
 

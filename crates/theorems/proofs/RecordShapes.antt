@@ -8,7 +8,7 @@ use mathlib.Core.Option.{Option, none, some}
 use mathlib.Core.List.{List, [], _∷_, map}
 use lib.ListN.{length, getD, getElem?}
 use Rattle.semantics.specs.Definitions.Terms.{Expression, Program, Term, process, expression}
-use Rattle.semantics.specs.Definitions.Table.{Kind, nilK, putK, takeK, repeatK, parK, atomK, endK, retryK, rdK, wtK, orElseK, tokensK, startK, kinds, kindOf, Field, channelF, programF, expressionF, amountF, fields, asProgram, asExpression, Content, termRecord, tokensRecord, startRecord, recordContent}
+use Rattle.semantics.specs.Definitions.Table.{Kind, nilK, putK, takeK, repeatK, parK, atomK, endK, retryK, rdK, wtK, orElseK, tokensK, startK, kinds, kindByNumber, Field, channelF, programF, expressionF, amountF, fields, asProgram, asExpression, Content, termRecord, tokensRecord, startRecord, recordContent}
 use Rattle.semantics.specs.Checks.AcceptedTables.{kindByte}
 use Rattle.semantics.specs.Checks.Conditions.{statedBodies, Body, RecordAsStated, nil1, put2, take3, repeat4, par5, atom6, end7, retry8, rd9, wt10, orElse11, tokens12, start13, ReadAsStated}
 use Rattle.theorems.proofs.Lists.{none-found, found-below, found-at, none-past, found-map}
@@ -31,25 +31,25 @@ unfolding kinds
 in-order = (refl, (refl, (refl, (refl, (refl, (refl, (refl, (refl, (refl, (refl, (refl, (refl, (refl, tt)))))))))))))
 
 -- a byte that names a kind is that kind's number
-pub kind-number : (k : ℕ) (K : Kind) → kindOf k ≡ some K → k ≡ kindByte K
-unfolding kindOf
+pub kind-number : (k : ℕ) (K : Kind) → kindByNumber k ≡ some K → k ≡ kindByte K
+unfolding kindByNumber
 kind-number zero K e = absurd (let z : _≡_ {A = ℕ} 0 1 = cc in omega arith)
 kind-number (suc j) K e = let z = numbered-at 1 kinds in-order j K e in omega arith
 
 -- a byte names a kind where it is 1 to 13
-pub kind-within : (k : ℕ) (K : Kind) → kindOf k ≡ some K → (k ≡ 0) ⊎ (13 < k) → ⊥
-unfolding kindOf
+pub kind-within : (k : ℕ) (K : Kind) → kindByNumber k ≡ some K → (k ≡ 0) ⊎ (13 < k) → ⊥
+unfolding kindByNumber
 kind-within zero K e h = let z : _≡_ {A = ℕ} 0 1 = cc in omega arith
 kind-within (suc j) K e (inl h) = omega arith
 kind-within (suc j) K e (inr h) = let z = found-below kinds j K e in omega arith
 
-pub kind-positive : (k : ℕ) (K : Kind) → kindOf k ≡ some K → 1 ≤ k
-unfolding kindOf
+pub kind-positive : (k : ℕ) (K : Kind) → kindByNumber k ≡ some K → 1 ≤ k
+unfolding kindByNumber
 kind-positive zero K e = absurd (let z : _≡_ {A = ℕ} 0 1 = cc in omega arith)
 kind-positive (suc j) K e = omega arith
 
-pub kind-without : (k : ℕ) → kindOf k ≡ none → (k ≡ 0) ⊎ (13 < k)
-unfolding kindOf
+pub kind-without : (k : ℕ) → kindByNumber k ≡ none → (k ≡ 0) ⊎ (13 < k)
+unfolding kindByNumber
 kind-without zero e = inl refl
 kind-without (suc j) e = inr (let z = none-past kinds j e in omega arith)
 
@@ -83,14 +83,14 @@ bodies-as-stated : map (λ K. (kindByte K, fields K)) kinds ≡ statedBodies
 unfolding kinds fields statedBodies
 bodies-as-stated = refl
 
-pub body-of : (k : ℕ) (K : Kind) → kindOf k ≡ some K → Body k (fields K)
-unfolding kindOf
+pub body-of : (k : ℕ) (K : Kind) → kindByNumber k ≡ some K → Body k (fields K)
+unfolding kindByNumber
 body-of zero K e = absurd (let z : _≡_ {A = ℕ} 0 1 = cc in omega arith)
 body-of (suc j) K e =
     (j, rw (kind-number (suc j) K e, ← bodies-as-stated) (found-map (λ L. (kindByte L, fields L)) kinds j K e))
 
-pub body-is : (k : ℕ) (K : Kind) → kindOf k ≡ some K → (fs : List Field) → Body k fs → fs ≡ fields K
-unfolding kindOf kinds statedBodies
+pub body-is : (k : ℕ) (K : Kind) → kindByNumber k ≡ some K → (fs : List Field) → Body k fs → fs ≡ fields K
+unfolding kindByNumber kinds statedBodies
 body-is k K e fs (i, g) = go (found-at kinds i (found-below statedBodies i (k, fs) g))
   where
     go : (L : Kind) × (getElem? kinds i ≡ some L) → fs ≡ fields K
@@ -100,7 +100,7 @@ body-is k K e fs (i, g) = go (found-at kinds i (found-below statedBodies i (k, f
         g in
         let same : _≡_ {A = ℕ × List Field} (kindByte L, fields L) (k, fs) = cc in
         let number : suc i ≡ k = kind-number (suc i) L q ∙ ap (λ x. x .0) same in
-        let kind : K ≡ L = (let z : kindOf (suc i) ≡ some K = ap kindOf number ∙ e in cc) in
+        let kind : K ≡ L = (let z : kindByNumber (suc i) ≡ some K = ap kindByNumber number ∙ e in cc) in
         rw kind (sym (ap (λ x. x .1) same))
 
 -- ---- what a record says

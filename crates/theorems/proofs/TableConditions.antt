@@ -18,7 +18,7 @@ use borrow.Author.Tests.{leb-true, leb-false, lt-leb, eqb-true, eqb-false}
 use Rattle.calculus.specs.State.{count}
 use Rattle.semantics.specs.Definitions.Basics.{firstOf}
 use Rattle.semantics.specs.Definitions.Terms.{Program, Term, process, expression, width, branches, pathLength}
-use Rattle.semantics.specs.Definitions.Table.{Kind, kindOf, Field, channelF, programF, expressionF, amountF, fields, Reading, Table, TableAnswer, accepted, refusedAt, isProgram, isExpression, Content, termRecord, tokensRecord, startRecord, recordContent, anyField, tooManyTerms, channelOutOfRange, forwardReference, classMismatch, overLimit, badTokens, Test, tests, RecordAnswer, stop, more, tableEnd, recordPassed, recordTested, recordOfKind, readRecord, thenRead, readFrom, emptyReading, readTable}
+use Rattle.semantics.specs.Definitions.Table.{Kind, kindByNumber, Field, channelF, programF, expressionF, amountF, fields, Reading, Table, TableAnswer, accepted, refusedAt, isProgram, isExpression, Content, termRecord, tokensRecord, startRecord, recordContent, anyField, tooManyTerms, channelOutOfRange, forwardReference, classMismatch, overLimit, badTokens, Test, tests, RecordAnswer, stop, more, tableEnd, recordPassed, recordTested, recordOfKind, readRecord, thenRead, readFrom, emptyReading, readTable}
 use Rattle.semantics.specs.Checks.Conditions.{Body, BodyByte, RecordAsStated, start13, ReadAsStated, TableCondition, kind-unknown, body-short, terms-many, channel-over, forward-reference, class-expression, class-process, width-over, paths-over, tokens-none, tokens-again, byte-follows, start-missing, NoCondition, Reached, at-first, after-term, after-tokens, TableRefused, TableAccepted, TableNumbers}
 use Rattle.theorems.proofs.Lists.{none-found, found-below, none-past}
 use Rattle.semantics.specs.Checks.AcceptedTables.{kindByte}
@@ -132,7 +132,7 @@ module _ (r : Reading) (k : ℕ) (bs : List ℕ) where
   meets-none clear last n o c = let z = condition-number r n o (k ∷ bs) c in clear-next 9 clear last n o (omega arith) c
 
 -- a record of kind K
-module _ (r : Reading) (k : ℕ) (bs : List ℕ) (K : Kind) (named : kindOf k ≡ some K) where
+module _ (r : Reading) (k : ℕ) (bs : List ℕ) (K : Kind) (named : kindByNumber k ≡ some K) where
   -- a test decides its condition
   abbrev Decides : ℕ → Bool → Type 0
   Decides n true = TableCondition r n 0 (k ∷ bs)
@@ -462,13 +462,13 @@ closed-reason r p bs w P (start13 {r = b} {bs = rest} e) clear = go rest clear
 
 module _ (r : Reading) (p k : ℕ) (rest : List ℕ) where
   -- a record that is no start record and passed its tests meets no condition
-  met-none : (K : Kind) → kindOf k ≡ some K → Clear r k rest 9 → kindByte K ≤ 12 → NoCondition r (k ∷ rest)
+  met-none : (K : Kind) → kindByNumber k ≡ some K → Clear r k rest 9 → kindByte K ≤ 12 → NoCondition r (k ∷ rest)
   met-none K named clear l =
       meets-none r k rest clear (λ o c. let z = follow-means r o k rest c in let y = kind-number k K named in
       omega arith)
 
   -- a record that passed its tests
-  passed-reason : (K : Kind) → kindOf k ≡ some K → Clear r k rest 9 → (c : Content) →
+  passed-reason : (K : Kind) → kindByNumber k ≡ some K → Clear r k rest 9 → (c : Content) →
       RecordAsStated (r .terms) (k ∷ rest) (suc (length (fields K))) c → ContentReason K rest c →
       TurnReason r p (k ∷ rest)
       (recordPassed r c (suc (length (fields K))) (p + suc (length (fields K))) (drop (length (fields K)) rest))
@@ -480,7 +480,7 @@ module _ (r : Reading) (p k : ℕ) (rest : List ℕ) where
       closed-reason r p (k ∷ rest) (suc (length (fields K))) P prints clear
 
   -- a record after its tests, and one with its kind
-  tested-reason : (K : Kind) (named : kindOf k ≡ some K) (o : Option Test) → Found r k rest K named o →
+  tested-reason : (K : Kind) (named : kindByNumber k ≡ some K) (o : Option Test) → Found r k rest K named o →
       TurnReason r p (k ∷ rest) (recordTested r p K rest o)
   unfolding recordTested
   tested-reason K named (some t) f = (0, f .0, f .1, omega arith)
@@ -488,7 +488,7 @@ module _ (r : Reading) (p k : ℕ) (rest : List ℕ) where
       passed-reason K named f (recordContent (r .terms) rest K) (as-stated r k rest K named (λ m o l. f m o (omega arith)))
       (said-reason (r .terms) rest K)
 
-  kind-reason : (o : Option Kind) → kindOf k ≡ o → TurnReason r p (k ∷ rest) (recordOfKind r p rest o)
+  kind-reason : (o : Option Kind) → kindByNumber k ≡ o → TurnReason r p (k ∷ rest) (recordOfKind r p rest o)
   unfolding recordOfKind
   kind-reason none e = (
     0,
@@ -505,7 +505,7 @@ turn-reason r p [] = (0, start-missing, (λ m i l c. ends m i l c), omega arith)
   where
     ends : (m i : ℕ) → m < 9 → TableCondition r m i [] → ⊥
     ends m i l start-missing = omega arith
-turn-reason r p (k ∷ rest) = kind-reason r p k rest (kindOf k) refl
+turn-reason r p (k ∷ rest) = kind-reason r p k rest (kindByNumber k) refl
 
 -- a record of which a condition is the first that holds is refused with it
 turn-refuses : (r : Reading) (p : ℕ) (bs : List ℕ) (n o : ℕ) → TableCondition r n o bs →
@@ -535,7 +535,7 @@ unfolding ReadAsStated readRecord recordOfKind recordTested
 turn-passes r p [] w c passes prints = absurd (elim prints [ ])
 turn-passes r p (k ∷ rest) w c passes prints = go (read-as-stated (r .terms) k rest w c prints)
   where
-    go : (K : Kind) × (kindOf k ≡ some K) × (suc (length (fields K)) ≡ w) × (recordContent (r .terms) rest K ≡ c) →
+    go : (K : Kind) × (kindByNumber k ≡ some K) × (suc (length (fields K)) ≡ w) × (recordContent (r .terms) rest K ≡ c) →
         readRecord r p (k ∷ rest) ≡ recordPassed r c w (p + w) (drop w (k ∷ rest))
     go (K, named, size, says) =
         rw (named, ← size, ← says) (none-holds (firstOf (λ t. t .holds) (tests r K rest)) (found r k rest K named))
@@ -573,7 +573,7 @@ unfolding ReadAsStated
 printed-within r [] w c passes prints = absurd (elim prints [ ])
 printed-within r (k ∷ rest) w c passes prints = go (read-as-stated (r .terms) k rest w c prints)
   where
-    go : (K : Kind) × (kindOf k ≡ some K) × (suc (length (fields K)) ≡ w) × (recordContent (r .terms) rest K ≡ c) → (1 ≤ w) ×
+    go : (K : Kind) × (kindByNumber k ≡ some K) × (suc (length (fields K)) ≡ w) × (recordContent (r .terms) rest K ≡ c) → (1 ≤ w) ×
         (w ≤ suc (length rest))
     go (K, named, size, says) = let fits = whole r k rest K named (λ m o l. passes m o) in omega arith
 

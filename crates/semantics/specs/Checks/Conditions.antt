@@ -13,7 +13,7 @@ use Rattle.calculus.specs.State.{count, Included}
 use Rattle.calculus.specs.Log.{RD, WT}
 use Rattle.semantics.specs.Definitions.Basics.{replaceAt, Bytes}
 use Rattle.semantics.specs.Definitions.Terms.{Expression, endT, retryT, rdT, wtT, orElseT, Program, nilT, putT, takeT, repeatT, parT, atomT, Term, process, expression, width, branches, pathLength}
-use Rattle.semantics.specs.Definitions.Table.{Kind, kindOf, Field, channelF, programF, expressionF, amountF, fields, Reading, Content, termRecord, tokensRecord, startRecord, recordContent, Table, accepted, refusedAt, readTable}
+use Rattle.semantics.specs.Definitions.Table.{Kind, kindByNumber, Field, channelF, programF, expressionF, amountF, fields, Reading, Content, termRecord, tokensRecord, startRecord, recordContent, Table, accepted, refusedAt, readTable}
 use Rattle.semantics.specs.Definitions.Configuration.{Idle, taking, repeating, output, Tree, leaf, fork, idle, transaction, Configuration, opens, opening, nodes}
 use Rattle.semantics.specs.Definitions.Stored.{WellFormed, bytesOf}
 use Rattle.semantics.specs.Definitions.Moves.{Entry, act, inside, refused, answerTo}
@@ -79,10 +79,10 @@ pub data RecordAsStated (ts : List Term) : List ℕ → ℕ → Content → Type
 
 -- the definitions read a record as it is printed
 unfoldable pub ReadAsStated : Type 0
-unfolding recordContent kindOf fields
+unfolding recordContent kindByNumber fields
 ReadAsStated =
     (ts : List Term) (k : ℕ) (bs : List ℕ) (w : ℕ) (c : Content) → RecordAsStated ts (k ∷ bs) w c →
-    (K : Kind) × (kindOf k ≡ some K) × (suc (length (fields K)) ≡ w) × (recordContent ts bs K ≡ c)
+    (K : Kind) × (kindByNumber k ≡ some K) × (suc (length (fields K)) ≡ w) × (recordContent ts bs K ≡ c)
 
 -- ---- 1 to 9: a table
 

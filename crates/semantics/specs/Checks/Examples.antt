@@ -177,13 +177,13 @@ times zero xs = []
 times (suc n) xs = xs ++ times n xs
 
 -- n bytes: these, then zeros
-unfoldable pub filled : ℕ → List ℕ → List ℕ
-filled n xs = take n (xs ++ replicate n 0)
+unfoldable pub zeroFilled : ℕ → List ℕ → List ℕ
+zeroFilled n xs = take n (xs ++ replicate n 0)
 
 -- counts from tray 0 on, 0 for trays not written
 unfoldable pub trays : String → List ℕ
-unfolding filled numbers
-trays counts = filled 16 (numbers counts)
+unfolding zeroFilled numbers
+trays counts = zeroFilled 16 (numbers counts)
 
 -- a hall's bytes: counts, then stations, then zeros
 unfoldable pub hallOf : (counts stations : List ℕ) → List ℕ
@@ -196,8 +196,8 @@ attempt n snapshot nodes = 21 ∷ n ∷ (trays snapshot ++ nodes)
 
 -- a leaf's bytes: a term or 255, the length of its log, and the log
 unfoldable pub leafOf : (term size : ℕ) (log : String) → List ℕ
-unfolding filled numbers
-leafOf n size log = 23 ∷ n ∷ size ∷ filled 16 (numbers log)
+unfolding zeroFilled numbers
+leafOf n size log = 23 ∷ n ∷ size ∷ zeroFilled 16 (numbers log)
 
 -- a block's bytes in the one-step run, with its note
 unfoldable pub attemptNoteBytes : (term : ℕ) (note : String) → List ℕ
@@ -215,9 +215,9 @@ doublings k zero i = []
 doublings k (suc n) i = k ∷ i ∷ i ∷ doublings k n (suc i)
 
 -- the choices that act at the positions below n
-unfoldable pub acts : ℕ → List ℕ
-acts zero = []
-acts (suc n) = acts n ++ (1 ∷ n ∷ [])
+unfoldable pub actChoices : ℕ → List ℕ
+actChoices zero = []
+actChoices (suc n) = actChoices n ++ (1 ∷ n ∷ [])
 
 unfoldable pub tally : (commits failed retries : ℕ) → Counters
 tally c f r = record { commits = c; failed = f; retries = r }
@@ -228,25 +228,25 @@ verdict zero p = ok
 verdict (suc n) p = rejected (suc n) p
 
 -- what stands behind a run: counts, stations, the stations of the one-step run, and the choices accepted on the hall
-pub record Left : Type 0 where
+pub record HallLeft : Type 0 where
   pub counts : List ℕ
   pub stations : List ℕ
   pub oneStep : List ℕ
   pub accepts : List ℕ
 
 -- no attempt is open, so that the one-step run has the same stations
-unfoldable pub left : (counts stations accepts : String) → Left
+unfoldable pub hallLeft : (counts stations accepts : String) → HallLeft
 unfolding trays numbers
-left counts stations es =
+hallLeft counts stations es =
     record { counts = trays counts; stations = numbers stations; oneStep = numbers stations; accepts = numbers es }
 
-unfoldable pub leftOpen : (counts : String) (stations oneStep : List ℕ) (accepts : String) → Left
+unfoldable pub hallLeftOpen : (counts : String) (stations oneStep : List ℕ) (accepts : String) → HallLeft
 unfolding trays numbers
-leftOpen counts stations blocks es =
+hallLeftOpen counts stations blocks es =
     record { counts = trays counts; stations = stations; oneStep = blocks; accepts = numbers es }
 
 -- the table is accepted and a hall opened from it; this is the run, whose one-step run ends so
-unfoldable pub ranTo : List Rule → (number place done : ℕ) → Counters → Left → Option OneStep → List ℕ → Observed
+unfoldable pub ranTo : List Rule → (number place done : ℕ) → Counters → HallLeft → Option OneStep → List ℕ → Observed
 unfolding verdict tally hallOf
 ranTo rs n p d t l s x =
     record {
@@ -266,7 +266,7 @@ ranTo rs n p d t l s x =
     }
 
 -- on the hall opened: the one-step run has the same counts and the same tally
-unfoldable pub ran : (rules : List Rule) (number place done : ℕ) → Counters → Left → (text : String) → Observed
+unfoldable pub ran : (rules : List Rule) (number place done : ℕ) → Counters → HallLeft → (text : String) → Observed
 unfolding ranTo ascii
 ran rs n p d t l x =
     ranTo rs n p d t l (some (record { counts = l .counts; stations = l .oneStep; counters = t })) (ascii x)
@@ -285,7 +285,7 @@ row table choices e = rowFrom (tally 0 0 0) table choices e
 unfoldable pub acceptedTable : (table stations accepts lines : List ℕ) → Example
 unfolding ranTo tally trays ascii
 acceptedTable table stations es lines =
-    let l : Left = record { counts = trays ""; stations = stations; oneStep = stations; accepts = es } in
+    let l : HallLeft = record { counts = trays ""; stations = stations; oneStep = stations; accepts = es } in
     let s : OneStep = record { counts = trays ""; stations = stations; counters = tally 0 0 0 } in
     record {
       table = table;
@@ -325,44 +325,44 @@ refusedTable table n p x =
 -- ---- the ten rehearsals
 
 unfoldable pub rehearsals : List Example
-unfolding ascii numbers times attempt leafOf attemptNoteBytes chain doublings acts tally left leftOpen ran row acceptedTable
+unfolding ascii numbers times attempt leafOf attemptNoteBytes chain doublings actChoices tally hallLeft hallLeftOpen ran row acceptedTable
     refusedTable
 rehearsals =
     -- 1. the run that document 01 prints, to the byte
     row "7 10 1 0 9 0 1 6 2 12 0 1 13 3" "1 0 2 0 0 2 0 0 1 0 1 0"
     (ran (ATST ∷ ARDOK ∷ AWR ∷ ATOK (rd 0 ∷ wt 1 ∷ []) ∷ OUT 1 ∷ []) 0 12 5 (tally 1 0 0)
-    (left "0 1" "" "")
+    (hallLeft "0 1" "" "")
     "R 0 12 5\nC 1 0 0\nT 0 1 -1 0\nT 1 0 1 1\n") ∷
     -- 2. tray 1 lacks what the way rd 0.rd 1.wt 2.end wants: nothing of it is committed, only wt 3 of the other way
     row "7 10 2 0 9 1 1 9 0 2 10 3 0 11 3 4 6 5 12 0 1 13 6" "1 0 2 0 0 2 0 1 2 0 1 2 0 0 2 0 0 1 0"
     (ran (ATST ∷ AOI ∷ ARDOK ∷ ARDF ∷ AOF ∷ AWR ∷ ATOK (wt 3 ∷ []) ∷ []) 0 19 7 (tally 1 0 0)
-    (left "1" "24 3" "1 0")
+    (hallLeft "1" "24 3" "1 0")
     "R 0 19 7\nC 1 0 0\nT 0 1 0 1\nP 3\n") ∷
     -- 3. the block rd 0.rd 0.end where a single token lies: its first read passes, its second is ARDF
     row "7 9 0 0 9 0 1 6 2 12 0 1 13 3" "1 0 2 0 0 2 0 0"
     (ran (ATST ∷ ARDOK ∷ ARDF ∷ []) 0 8 3 (tally 0 0 0)
-    (leftOpen "1" (attempt 3 "1" (leafOf 255 1 "0")) (attemptNoteBytes 3 "1") "1 0")
+    (hallLeftOpen "1" (attempt 3 "1" (leafOf 255 1 "0")) (attemptNoteBytes 3 "1") "1 0")
     "R 0 8 3\nC 0 0 0\nT 0 1 0 1\nA 3 1\n") ∷
     -- 4. two attempts have read the only token: the first that acts commits it (ATOK), the other fails (ATFAIL)
     row "7 9 0 0 6 1 5 2 2 12 0 1 13 3" "1 0 1 1 2 0 0 2 1 0 1 0 1 0"
     (ran (ATST ∷ ATST ∷ ARDOK ∷ ARDOK ∷ ATOK (rd 0 ∷ []) ∷ ATFAIL ∷ []) 0 14 6 (tally 1 1 0)
-    (left "" "20 2" "1 0")
+    (hallLeft "" "20 2" "1 0")
     "R 0 14 6\nC 1 1 0\nT 0 1 -1 0\nW 2\n") ∷
     -- 5. what the way rd 0.wt 1.end wants comes after the attempt has begun: the other way, wt 2.end, is committed
     row "7 10 1 0 9 0 1 10 2 0 11 2 3 6 4 2 0 5 5 6 13 7" "1 0 1 1 2 0 0 2 0 1 2 0 0 2 0 0 1 0"
     (ran (ATST ∷ OUT 0 ∷ AOI ∷ ARDF ∷ AOF ∷ AWR ∷ ATOK (wt 2 ∷ []) ∷ []) 0 18 7 (tally 1 0 0)
-    (left "1" "24 2" "1 0")
+    (hallLeft "1" "24 2" "1 0")
     "R 0 18 7\nC 1 0 0\nT 0 0 1 1\nP 2\n") ∷
     -- 6. a block writes into an empty tray and then reads from it: ARDF, as its own write is not there yet
     row "7 9 0 0 10 0 1 6 2 13 3" "1 0 2 0 0 2 0 0"
     (ran (ATST ∷ AWR ∷ ARDF ∷ []) 0 8 3 (tally 0 0 0)
-    (leftOpen "" (attempt 3 "" (leafOf 255 1 "16")) (attemptNoteBytes 3 "") "1 0")
+    (hallLeftOpen "" (attempt 3 "" (leafOf 255 1 "16")) (attemptNoteBytes 3 "") "1 0")
     "R 0 8 3\nC 0 0 0\nA 3 1\n") ∷
     -- 7. the empty table: 9, place 0
     refusedTable [] 9 0 "R 9 0 0\n" ∷
     -- 8. width 64 is accepted, and all 64 stations stand
     acceptedTable (numbers "2 0" ++ (doublings 5 6 0 ++ numbers "13 6"))
-    (times 64 (numbers "24 0")) (acts 64) (times 64 (ascii "P 0\n")) ∷
+    (times 64 (numbers "24 0")) (actChoices 64) (times 64 (ascii "P 0\n")) ∷
     -- 8. width 65 is refused 7, at the record that makes it
     refusedTable (numbers "2 0" ++ (doublings 5 6 0 ++ numbers "5 6 0 13 7")) 7 20 "R 7 20 0\n" ∷
     -- 9. branches 8 are accepted
@@ -376,29 +376,29 @@ rehearsals =
     -- 10. a put fills a tray of 254; the next put finds it full and is refused 20
     row "2 0 5 0 0 12 0 254 13 1" "1 0 1 0"
     (ran (OUT 0 ∷ []) 20 2 1 (tally 0 0 0)
-    (left "255" "24 0" "")
+    (hallLeft "255" "24 0" "")
     "R 20 2 1\nC 0 0 0\nT 0 254 1 255\nP 0\n") ∷
     []
 
 -- ---- further runs
 
 unfoldable pub furtherRuns : List Example
-unfolding ascii numbers attempt leafOf attemptNoteBytes tally left leftOpen ranTo ran row rowFrom
+unfolding ascii numbers attempt leafOf attemptNoteBytes tally hallLeft hallLeftOpen ranTo ran row rowFrom
 furtherRuns =
     -- for the order of nodes and of outputs: two writes, wt 0.wt 1.end, or else wt 2.end; the right side moved first
     row "7 10 1 0 10 0 1 10 2 0 11 2 3 6 4 13 5" "1 0 2 0 0 2 0 2 2 0 1 2 0 1 2 0 0 1 0"
     (ran (ATST ∷ AOI ∷ AWR ∷ AWR ∷ AWR ∷ AOE ∷ ATOK (wt 0 ∷ wt 1 ∷ []) ∷ []) 0 19 7 (tally 1 0 0)
-    (left "" "24 0 24 1" "1 0 1 1") "R 0 19 7\nC 1 0 0\nP 0\nP 1\n") ∷
+    (hallLeft "" "24 0 24 1" "1 0 1 1") "R 0 19 7\nC 1 0 0\nP 0\nP 1\n") ∷
     -- against AOF by a right side that is a retry: wt 0.end orElse retry, and 17 at the fork
     row "7 10 0 0 8 11 1 2 6 3 13 4" "1 0 2 0 0 2 0 0"
     (ran (ATST ∷ AOI ∷ []) 17 5 2 (tally 0 0 0)
-    (leftOpen "" (attempt 4 "" (22 ∷ (leafOf 1 0 "" ++ leafOf 2 0 ""))) (attemptNoteBytes 4 "") "2 0 1")
+    (hallLeftOpen "" (attempt 4 "" (22 ∷ (leafOf 1 0 "" ++ leafOf 2 0 ""))) (attemptNoteBytes 4 "") "2 0 1")
     "R 17 5 2\nC 0 0 0\nA 4 3\n") ∷
     -- against the last readable path for the first: the block of rehearsal 5 with a token in tray 0, so that both of
     -- its paths are readable
     row "7 10 1 0 9 0 1 10 2 0 11 2 3 6 4 12 0 1 13 5" "1 0 2 0 0 2 0 1 2 0 1 2 0 0 1 0"
     (ran (ATST ∷ AOI ∷ ARDOK ∷ AWR ∷ AOE ∷ ATOK (rd 0 ∷ wt 1 ∷ []) ∷ []) 0 16 6 (tally 1 0 0)
-    (left "" "24 1" "1 0")
+    (hallLeft "" "24 1" "1 0")
     "R 0 16 6\nC 1 0 0\nT 0 1 -1 0\nP 1\n") ∷
     -- for the kinds and rules that the ten do not meet: take 1.nil, repeated take 2 of nil, atom retry,
     -- atom (end orElse rd 3.end) and atom (rd 3.end) side by side. ARDF writes 255 although the table has a retry; the
@@ -406,7 +406,7 @@ furtherRuns =
     row "1 3 1 0 4 2 0 8 6 3 7 9 3 5 11 5 6 6 7 6 6 5 1 2 5 4 8 5 10 11 5 12 9 12 1 1 12 2 1 13 13"
     "1 0 1 0 1 1 1 1 1 2 2 2 0 2 2 0 1 2 1 2 2 2 0 1 0"
     (ran (IN 1 ∷ REP 2 ∷ ATST ∷ ATRE ∷ ATST ∷ AOI ∷ AOE ∷ ATOK [] ∷ ATST ∷ ARDF ∷ []) 18 23 10 (tally 1 0 1)
-    (leftOpen "" (numbers "20 2 20 4" ++ attempt 9 "" (leafOf 255 0 "")) (numbers "20 2 20 4" ++ attemptNoteBytes 9 "") "1 1 1 2")
+    (hallLeftOpen "" (numbers "20 2 20 4" ++ attempt 9 "" (leafOf 255 0 "")) (numbers "20 2 20 4" ++ attemptNoteBytes 9 "") "1 1 1 2")
     "R 18 23 10\nC 1 0 1\nT 1 1 -1 0\nT 2 1 -1 0\nW 2\nW 4\nA 9 1\n") ∷
     -- for the order in which stations are laid down: rep 0.(put 1 | put 2) and take 0.(put 1 | put 2) beside a block
     -- rd 0.wt 1.rd 0.wt 2.end
@@ -414,13 +414,13 @@ furtherRuns =
     "1 0 1 3 1 5 2 5 0 2 5 0 2 5 0 2 5 0 1 5"
     (ran (REP 0 ∷ IN 0 ∷ ATST ∷ ARDOK ∷ AWR ∷ ARDOK ∷ AWR ∷ ATOK (rd 0 ∷ wt 1 ∷ rd 0 ∷ wt 2 ∷ []) ∷ []) 0 20 8
     (tally 1 0 0)
-    (left "" "24 1 24 2 20 3 24 1 24 2 24 1 24 2" "1 0 1 1 1 3 1 4 1 5 1 6")
+    (hallLeft "" "24 1 24 2 20 3 24 1 24 2 24 1 24 2" "1 0 1 1 1 3 1 4 1 5 1 6")
     "R 0 20 8\nC 1 0 0\nT 0 4 -4 0\nP 1\nP 2\nW 3\nP 1\nP 2\nP 1\nP 2\n") ∷
     -- for nodes in preorder, and both sides of an orElse with the log so far:
     -- wt 3.((rd 0.end orElse wt 1.end) orElse wt 2.end), both orElse taken apart, the leaves at nodes 2, 3 and 4
     row "7 9 0 0 10 1 0 11 1 2 10 2 0 11 3 4 10 3 5 6 6 13 7" "1 0 2 0 0 2 0 0 2 0 1 2 0 4"
     (ran (ATST ∷ AWR ∷ AOI ∷ AOI ∷ AWR ∷ []) 0 14 5 (tally 0 0 0)
-    (leftOpen ""
+    (hallLeftOpen ""
     (attempt 7 "" (22 ∷ 22 ∷ (leafOf 1 1 "19" ++ (leafOf 2 1 "19" ++ leafOf 0 2 "19 18")))) (attemptNoteBytes 7 "") "2 0 2 2 0 3")
     "R 0 14 5\nC 0 0 0\nA 7 5\n") ∷
     -- against counters that pass 4,294,967,295 or stop before it: one commit, one failure and one retry, each counter
@@ -437,7 +437,7 @@ furtherRuns =
       choices = numbers "2 4 1";
       expected =
           ranTo (ARDF ∷ []) 0 3 1 (tally 7 8 9)
-          (leftOpen "0 0 1" (attempted (leafOf 255 1 "0")) [] "1 0 1 1 1 2 1 3 2 4 0 2 4 2 2 4 4") none
+          (hallLeftOpen "0 0 1" (attempted (leafOf 255 1 "0")) [] "1 0 1 1 1 2 1 3 2 4 0 2 4 2 2 4 4") none
           (ascii "R 14 0 0\nC 0 0 0\nW 4\n");
     } ∷
     []
@@ -446,7 +446,7 @@ furtherRuns =
     tallied first last =
         rowFrom first "7 9 0 0 6 1 8 6 3 5 2 2 5 5 4 12 0 1 13 6" "1 0 1 1 2 0 0 2 1 0 1 0 1 0 1 1 1 1"
         (ran (ATST ∷ ATST ∷ ARDOK ∷ ARDOK ∷ ATOK (rd 0 ∷ []) ∷ ATFAIL ∷ ATST ∷ ATRE ∷ []) 0 18 8 last
-        (left "" "20 2 20 4" "1 0 1 1")
+        (hallLeft "" "20 2 20 4" "1 0 1 1")
         "R 0 18 8\nC 1 1 1\nT 0 1 -1 0\nW 2\nW 4\n")
 
     -- take, repeated take, block and output, and an attempt: a fork with this left side, and on its right another fork

@@ -7,7 +7,7 @@ use mathlib.Core.Logic.{_≢_}
 use mathlib.Core.Option.{some}
 use mathlib.Core.List.{List, [], _∷_, _++_}
 use lib.ListN.{length, take, drop}
-use Rattle.semantics.specs.Definitions.Table.{Kind, kindOf, fields, Table, accepted, refusedAt, readTable}
+use Rattle.semantics.specs.Definitions.Table.{Kind, kindByNumber, fields, Table, accepted, refusedAt, readTable}
 use Rattle.semantics.specs.Definitions.Configuration.{Configuration}
 use Rattle.semantics.specs.Definitions.Stored.{hallBytes, configurationOf}
 use Rattle.semantics.specs.Definitions.Run.{Counters}
@@ -20,7 +20,7 @@ use Rattle.semantics.specs.Claims.Correspondence.{AcceptsTable}
 -- so many bytes go up to the end of the first start record, which is found by stepping over records
 pub data TableEnds : List ℕ → ℕ → Type 0 where
   at-start : {bs : List ℕ} → TableEnds (13 ∷ bs) 2
-  after-record : {k n : ℕ} {bs : List ℕ} (K : Kind) → kindOf k ≡ some K → k ≢ 13 →
+  after-record : {k n : ℕ} {bs : List ℕ} (K : Kind) → kindByNumber k ≡ some K → k ≢ 13 →
       TableEnds (drop (length (fields K)) bs) n → TableEnds (k ∷ bs) (suc (length (fields K)) + n)
 
 -- the table is what goes up to there, or all of the input where no start record is found

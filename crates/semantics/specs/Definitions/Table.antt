@@ -23,10 +23,10 @@ unfoldable pub kinds : List Kind
 kinds = nilK ∷ putK ∷ takeK ∷ repeatK ∷ parK ∷ atomK ∷ endK ∷ retryK ∷ rdK ∷ wtK ∷ orElseK ∷ tokensK ∷ startK ∷ []
 
 -- the kind that a byte names
-unfoldable pub kindOf : ℕ → Option Kind
+unfoldable pub kindByNumber : ℕ → Option Kind
 unfolding kinds
-kindOf zero = none
-kindOf (suc k) = getElem? kinds k
+kindByNumber zero = none
+kindByNumber (suc k) = getElem? kinds k
 
 -- what a byte of a body is: a tray, a reference to a process or to an expression, a count of tokens
 pub data Field : Type 0 where
@@ -221,9 +221,9 @@ recordOfKind r at bs (some K) = recordTested r at K bs (firstOf (λ t. t .holds)
 
 -- the record at a place; where the table ends there without a start record, refusal 9 at that place
 unfoldable pub readRecord : Reading → ℕ → List ℕ → RecordAnswer
-unfolding recordOfKind kindOf
+unfolding recordOfKind kindByNumber
 readRecord r at [] = stop (refusedAt 9 at)
-readRecord r at (k ∷ bs) = recordOfKind r at bs (kindOf k)
+readRecord r at (k ∷ bs) = recordOfKind r at bs (kindByNumber k)
 
 unfoldable pub thenRead : RecordAnswer → (Reading → ℕ → TableAnswer) → TableAnswer
 thenRead (stop answer) next = answer

@@ -1,9 +1,9 @@
--- `raised` meets its contract. Assumes nothing.
+-- `counted_at` meets its contract. Assumes nothing.
 use native.Mathlib.Omega.{arith}
 use borrow.Author.Needs.{needs}
 use Rattle.counters.proofs.Rising.{raised-not, raised-stays, raised-one}
-use Rattle.counters.proofs.raised.Statement.{statement}
-use Rattle.counters.proofs.raised.Tie as tie
+use Rattle.counters.proofs.counted_at.Statement.{statement}
+use Rattle.counters.proofs.counted_at.Tie as tie
 
 returns : tie.Need-returns
 returns c = raised-not _ _ _ (c .if1 .taken)
@@ -17,5 +17,5 @@ add-result c = search needs
 returns-3 : tie.Need-returns-3
 returns-3 c = raised-one _ _ _ (c .before .if1 .left) (c .if2 .left) (omega arith)
 
-pub raised-spec : {M : Type 1} → statement M
-raised-spec = tie.close (tie.spec returns returns-2 add-result returns-3)
+pub counted-at-spec : {M : Type 1} → statement M
+counted-at-spec = tie.close (tie.spec returns returns-2 add-result returns-3)
