@@ -214,7 +214,24 @@ pub inside-refused : {d s starts : List ℕ} {n q k m : ℕ} {r : InnerMove} →
 unfolding replied
 inside-refused l is = chosen-refused (l .looked) (ap replied is)
 
+-- the look alone
+module _ {d s starts : List ℕ} {n q k : ℕ} {r : InnerMove} (l : LookedInside d s starts n q k r) where
+  pub inside-looked-moved : {rule at : ℕ} → r ≡ Found rule at → Looked d s starts n (inside q k) (Moved rule)
+  unfolding replied
+  inside-looked-moved is = rw is at (l .looked)
+
+  pub inside-looked-refused : {m : ℕ} → r ≡ inner.Refused m → Looked d s starts n (inside q k) (Refused m)
+  unfolding replied
+  inside-looked-refused is = rw is at (l .looked)
+
 -- ---- either kind
+
+module _ {d s starts : List ℕ} {n : ℕ} {r : Reply} (x : choices.Entry) where
+  pub looked-act : {p : ℕ} → Looked d s starts n (act p) r → x ≡ Act p → Looked d s starts n (entryOf x) r
+  looked-act l is = rw is l
+
+  pub looked-inside : {p k : ℕ} → Looked d s starts n (inside p k) r → x ≡ Inside p k → Looked d s starts n (entryOf x) r
+  looked-inside l is = rw is l
 
 module _ {d s starts s′ starts′ : List ℕ} {n n′ : ℕ} {r : Reply} (x : choices.Entry) where
   pub made-act : {p : ℕ} → Chosen d s starts n (act p) r s′ starts′ n′ → x ≡ Act p →

@@ -9,7 +9,7 @@ use terms::DECODED;
 use transactions::InnerMove;
 ghost use Rattle.semantics.specs.Definitions.Moves.{inside};
 ghost use Rattle.index.specs.Holds.{Running};
-ghost use Rattle.index.specs.Choices.{Chosen};
+ghost use Rattle.index.specs.Choices.{Looked, Chosen};
 ghost use Rattle.choices.specs.Entries.{LookedInside};
 
 // What the entry is answered, and where its node stands. Nothing changes.
@@ -34,6 +34,26 @@ pub fn find_inside(
         return InnerMove::Refused(WRONG_COMPONENT);
     }
     transactions::find(decoded, hall, begin, node)
+}
+
+// What the entry is answered, and no more.
+pub fn look_inside(
+    decoded: &[u8; DECODED],
+    hall: &[u8],
+    starts: &[usize; INDEX_SIZE],
+    components: usize,
+    position: u8,
+    node: u8,
+) -> Reply
+    requires { ⌜ Running (now decoded) (now hall) (now starts) components ⌝ }
+    ensures { λ r. ⌜ Looked (now (decoded .entry)) (now (hall .entry)) (now (starts .entry)) components
+        (inside position node) r ⌝ }
+{
+    let found = find_inside(decoded, hall, starts, components, position, node);
+    match found {
+        InnerMove::Found { rule, at: _ } => Reply::Moved(rule),
+        InnerMove::Refused(number) => Reply::Refused(number),
+    }
 }
 
 // The entry made, where the look accepts it. As many components stay.
