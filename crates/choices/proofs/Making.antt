@@ -1,7 +1,7 @@
 -- An entry that is looked at and made: what the look found may be made, and after it the configuration that the
 -- definitions give is held.
 -- Assumes nothing.
-use Prim.Native.Nat.{ℕ, _-_, _≤_}
+use Prim.Native.Nat.{ℕ, _+_, _-_, _≤_, _<_}
 use native.Mathlib.Decide.{ℕ-discrete}
 use native.Mathlib.Omega.{arith}
 use mathlib.Core.Path.{_≡_, refl, sym, ap, _∙_}
@@ -9,6 +9,9 @@ use mathlib.Core.Logic.{inl, inr}
 use mathlib.Core.Bool.{true, false}
 use mathlib.Core.List.{List}
 use lib.Dec.{lit≤}
+use lib.ListN.{length, getD}
+use mir.Syntax.{w64}
+use mir.Val.{Fits}
 use Rattle.calculus.specs.Syntax.{State}
 use Rattle.calculus.specs.Reduction.{Rule, OUT, IN, REP, ATST, ATRE, ATFAIL, ATOK, ARDOK, ARDF, AWR, AOI, AOF, AOE}
 use Rattle.semantics.specs.Definitions.Configuration.{Component, Configuration}
@@ -23,7 +26,14 @@ use Rattle.transactions.specs.declared.InnerMove.{InnerMove}
 use Rattle.transactions.specs.declared.InnerMove.the-variants as inner
 use Rattle.transactions.specs.declared.InnerMove.the-variants.{Found}
 use Rattle.transactions.specs.Finding.{replied}
-use Rattle.transactions.specs.Moving.{CanMove, HasMoved}
+use Rattle.transactions.specs.Moving.{HasMoved, NodeStands, NodeMoved}
+use Rattle.transactions.proofs.Searching.{findable-inside, search-missing, search-found, search-none}
+use Rattle.stored.specs.declared.Place.{Place}
+use Rattle.stored.specs.declared.Place.the-variants.{At, Nowhere}
+use Rattle.stored.specs.Layout.{transactionKind, transactionHead}
+use Rattle.stored.specs.Nodes.{nodeStart}
+use Rattle.index.proofs.Holding.{hall-length}
+use Rattle.choices.proofs.Looking.{inside-past, inside-idle, find-held, find-looked}
 use Rattle.schedule.specs.declared.Entry as choices
 use Rattle.schedule.specs.declared.Entry.the-variants.{Act, Inside}
 use Rattle.choices.specs.Entries.{LookedInside}
@@ -182,21 +192,6 @@ module _ {d s starts : List ℕ} {n p q rule : ℕ} (e : p ≡ q) where
 -- ---- kind 2
 
 module _ {d s starts : List ℕ} {n p q k : ℕ} {r : InnerMove} (l : LookedInside d s starts n q k r) where
-  pub can-move : {rule at : ℕ} → Running d s starts n → r ≡ Found rule at → p ≡ q → CanMove d s starts n p rule at
-  unfolding replied replyIs
-  can-move {rule} {at} x is e = rw e (record {
-    terms = x .terms;
-    configuration = x .configuration;
-    node = k;
-    move = record {
-      decoded = x .decoded;
-      holds = x .holds;
-      place = l .place rule at is;
-      reply = sym (l .looked .found (x .terms) (x .configuration) (x .decoded) (x .holds))
-          ∙ ap (λ m. replyIs (replied m)) is;
-    };
-  })
-
   pub inside-moved : {rule at : ℕ} {s′ starts′ : List ℕ} → HasMoved d s starts n p rule at s′ starts′ →
       r ≡ Found rule at → p ≡ q →
       Chosen d s starts n (inside q k) (Moved rule) s′ starts′ n
@@ -213,6 +208,46 @@ pub inside-refused : {d s starts : List ℕ} {n q k m : ℕ} {r : InnerMove} →
     Chosen d s starts n (inside q k) (Refused m) s starts n
 unfolding replied
 inside-refused l is = chosen-refused (l .looked) (ap replied is)
+
+-- made by what stands at the node: p is the position as the code has it, q as the entry has it
+module _ {d s starts : List ℕ} {n p q k : ℕ} where
+  pub past-refused : n ≤ p → p ≡ q → Chosen d s starts n (inside q k) (Refused 14) s starts n
+  past-refused l e = inside-refused (inside-past l e) refl
+
+  pub idle-refused : p < n → (getD s (getD starts p 0) 0 ≡ transactionKind → ⊥) → p ≡ q →
+      Chosen d s starts n (inside q k) (Refused 15) s starts n
+  idle-refused l other e = inside-refused (inside-idle l other e) refl
+
+module _ {d s starts : List ℕ} {n p : ℕ} (l : p < n) (t : getD s (getD starts p 0) 0 ≡ transactionKind) where
+  pub nodes-inside : Running d s starts n → getD starts p 0 + transactionHead ≤ length s
+  nodes-inside x = findable-inside d s (getD starts p 0) (find-held x l t)
+
+  pub nodes-fit : Running d s starts n → Fits w64 (getD starts p 0 + transactionHead)
+  nodes-fit x = let i = nodes-inside x in let z = hall-length (x .holds) in record { fits = omega arith }
+
+  module _ (k : ℕ) (place : Place) (f : place ≡ nodeStart s (getD starts p 0 + transactionHead) k) where
+    pub node-missing : {q : ℕ} → place ≡ Nowhere → p ≡ q → Chosen d s starts n (inside q k) (Refused 16) s starts n
+    node-missing g e = inside-refused (find-looked (search-missing d s (getD starts p 0) k place f g) l t e) refl
+
+    module _ {at : ℕ} (g : place ≡ At at) where
+      pub node-stands : Running d s starts n → NodeStands d s starts n p at
+      node-stands x = record {
+        terms = x .terms;
+        configuration = x .configuration;
+        node = k;
+        there = record { decoded = x .decoded; holds = x .holds; there = l; begins = refl; kind = t };
+        place = sym f ∙ g;
+      }
+
+      pub node-chosen : {q : ℕ} {r : Reply} {s′ starts′ : List ℕ} → NodeMoved d s starts n p at r s′ starts′ → p ≡ q →
+          Chosen d s starts n (inside q k) r s′ starts′ n
+      node-chosen {r = Moved rule} m e =
+          let found = search-found d s (getD starts p 0) k place f at (Moved rule) g (m .read) rule refl in
+          inside-moved (find-looked found l t e) (m .made rule refl) refl e
+      node-chosen {r = Refused j} m e =
+          let none = search-none d s (getD starts p 0) k place f at (Refused j) g (m .read) j refl in
+          let kept = m .kept j refl in
+          rw (kept .0, kept .1) (inside-refused (find-looked none l t e) refl)
 
 -- the look alone
 module _ {d s starts : List ℕ} {n q k : ℕ} {r : InnerMove} (l : LookedInside d s starts n q k r) where
