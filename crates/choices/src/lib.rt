@@ -1,7 +1,8 @@
 // One entry of a schedule (document 01's choice) on a configuration (hall) that a run holds: looked at, made, or looked
 // for.
 //
-// A look only reads; what is made is what the look found. A suggestion goes through the looks alone.
+// A look only reads and answers by which rule an entry would move; suggestions and steps look. What is made is made by
+// what stands at the position and at the node, and answers the same.
 mod acts;
 mod inside;
 mod suggests;
