@@ -37,16 +37,9 @@ use Rattle.communication.specs.Tokens.{OutputHeld, OutputLooked, takeOf, TakeHe
 use Rattle.blocks.proofs.Beginning.{block-begins}
 use Rattle.blocks.specs.Ends.{CanLookEnd, EndLooked}
 use Rattle.transactions.specs.Finding.{replied, Findable, Searched}
-use Rattle.choices.specs.Entries.{LookedInside}
+use Rattle.choices.specs.Entries.{kindOf, bodyOf, LookedInside}
 
 -- ---- what stands at a position
-
--- the kind and the body of the component at a position
-abbrev kindOf : (s starts : List ℕ) → ℕ → ℕ
-kindOf s starts p = getD s (getD starts p 0) 0
-
-abbrev bodyOf : (s starts : List ℕ) → ℕ → ℕ
-bodyOf s starts p = getD s (getD starts p 0 + componentBody) 0
 
 module _ {d s starts : List ℕ} {n p : ℕ} (x : Running d s starts n) (l : p < n) where
   pub kind-inside : getD starts p 0 < length s
@@ -85,7 +78,7 @@ module _ {ts : List Term} {h : Configuration} {s starts : List ℕ} {n p : ℕ} 
       record { component = c; there = e; waiting = waiting-here x p c e (waits-kind c (kind-here x p c e)) }
 
 -- a take or a repeated take of this number waits at a position
-abbrev TakeThere : Configuration → (p term : ℕ) → Type 0
+abbrev pub TakeThere : Configuration → (p term : ℕ) → Type 0
 TakeThere h p term =
     (b : Bool) × (a : Name) × (P : Program) × (getElem? (h .components) p ≡ some (idle (takeOf b term a P)))
 
@@ -174,7 +167,7 @@ module _ {d s starts : List ℕ} {n : ℕ} where
 
         module _ (other : k ≡ kindByte atomK → ⊥) where
           -- on a take or a repeated take
-          waits-take : {ts : List Term} {h : Configuration} → Decoded ts d → Holds ts h s starts n →
+          pub waits-take : {ts : List Term} {h : Configuration} → Decoded ts d → Holds ts h s starts n →
               TakeThere h p (bodyOf s starts p)
           unfolding termKind
           waits-take {ts} {h} y x =

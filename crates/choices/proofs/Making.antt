@@ -1,20 +1,31 @@
 -- An entry that is looked at and made: what the look found may be made, and after it the configuration that the
 -- definitions give is held.
 -- Assumes nothing.
-use Prim.Native.Nat.{ℕ, _-_, _≤_}
+use Prim.Native.Nat.{ℕ, _+_, _-_, _≤_, _<_}
 use native.Mathlib.Decide.{ℕ-discrete}
 use native.Mathlib.Omega.{arith}
 use mathlib.Core.Path.{_≡_, refl, sym, ap, _∙_}
 use mathlib.Core.Logic.{inl, inr}
-use mathlib.Core.Bool.{true, false}
+use mathlib.Core.Bool.{Bool, true, false}
+use mathlib.Core.Option.{some}
 use mathlib.Core.List.{List}
-use lib.Dec.{lit≤}
+use lib.Dec.{eqb, leb}
+use lib.ListN.{length, getD, getElem?}
+use mir.Syntax.{w64}
+use mir.Val.{Fits}
 use Rattle.calculus.specs.Syntax.{State}
-use Rattle.calculus.specs.Reduction.{Rule, OUT, IN, REP, ATST, ATRE, ATFAIL, ATOK, ARDOK, ARDF, AWR, AOI, AOF, AOE}
-use Rattle.semantics.specs.Definitions.Configuration.{Component, Configuration}
+use Rattle.calculus.specs.State.{count}
+use Rattle.semantics.specs.Definitions.Layout.{maxCount}
+use Rattle.semantics.specs.Definitions.Terms.{endT, retryT, rdT, wtT, orElseT}
+use Rattle.semantics.specs.Definitions.Logs.{readable}
+use Rattle.semantics.specs.Definitions.Configuration.{taking, repeating, block, output, leaf, fork, Component, idle, transaction, Configuration}
+use Rattle.semantics.specs.Definitions.Stored.{componentBytes}
+use Rattle.semantics.specs.Definitions.Table.{atomK}
+use Rattle.semantics.specs.Checks.AcceptedTables.{kindByte}
+use Rattle.theorems.proofs.Reading.{by-cases}
+use Rattle.terms.specs.Decoded.{kindAt}
 use Rattle.index.proofs.Acting.{acted}
-use Rattle.blocks.proofs.Numbers.{BlockMove, begins, retries, fails, commits, acts-by}
-use Rattle.semantics.specs.Definitions.Moves.{Entry, act, inside, Answer, moved, refused, refusedBy, answerTo, effectOf, ruleNumber, replyOf}
+use Rattle.semantics.specs.Definitions.Moves.{Entry, act, inside, Answer, LocalAnswer, moves, blocked, acts, takes, puts, ends, commits, moved, refused, refusedBy, answerTo, ruleNumber, replyOf}
 use Rattle.rules.specs.declared.Reply.{Reply}
 use Rattle.rules.specs.declared.Reply.the-variants.{Moved, Refused}
 use Rattle.rules.specs.Replies.{replyIs}
@@ -23,13 +34,20 @@ use Rattle.transactions.specs.declared.InnerMove.{InnerMove}
 use Rattle.transactions.specs.declared.InnerMove.the-variants as inner
 use Rattle.transactions.specs.declared.InnerMove.the-variants.{Found}
 use Rattle.transactions.specs.Finding.{replied}
-use Rattle.transactions.specs.Moving.{CanMove, HasMoved}
+use Rattle.transactions.specs.Moving.{HasMoved, NodeStands, NodeMoved}
+use Rattle.transactions.proofs.Searching.{findable-inside, search-missing, search-found, search-none}
+use Rattle.stored.specs.declared.Place.{Place}
+use Rattle.stored.specs.declared.Place.the-variants.{At, Nowhere}
+use Rattle.stored.specs.Layout.{transactionKind, outputKind, transactionHead}
+use Rattle.stored.specs.Nodes.{nodeStart}
+use Rattle.index.proofs.Holding.{hall-length, component-at, kind-here, output-here}
+use Rattle.choices.proofs.Looking.{TakeThere, past-components, output-looked, end-looked, block-looked, waits-take, take-looked, inside-past, inside-idle, find-held, find-looked}
 use Rattle.schedule.specs.declared.Entry as choices
 use Rattle.schedule.specs.declared.Entry.the-variants.{Act, Inside}
-use Rattle.choices.specs.Entries.{LookedInside}
+use Rattle.choices.specs.Entries.{kindOf, bodyOf, LookedInside}
 use Rattle.schedule.specs.Entries.{entryOf}
-use Rattle.communication.specs.Tokens.{CanPut, TokenPut, CanTake, TokenTaken}
-use Rattle.blocks.specs.Ends.{Restarts, CanRestart, Restarted, CanCommit, Committed}
+use Rattle.communication.specs.Tokens.{takeNumber, OutputLooked, CanPut, TokenPut, TakeLooked, CanTake, TokenTaken}
+use Rattle.blocks.specs.Ends.{EndLooked, Restarts, CanRestart, Restarted, CanCommit, Committed}
 use Rattle.index.specs.Choices.{afterwards, Looked, Accepts, Applied, Chosen}
 
 -- a refusal leaves the configuration as it was
@@ -83,42 +101,68 @@ module _ {d s starts : List ℕ} {n : ℕ} where
 
 -- ---- kind 1, by its rule: p is the position as the code has it, q as the entry has it
 
--- the rules are numbered from 1 on
-rule-above : (r : Rule) → 1 ≤ ruleNumber r
-unfolding ruleNumber effectOf
-rule-above (OUT a) = lit≤ tt
-rule-above (IN a) = lit≤ tt
-rule-above (REP a) = lit≤ tt
-rule-above ATST = lit≤ tt
-rule-above ATRE = lit≤ tt
-rule-above ATFAIL = lit≤ tt
-rule-above (ATOK δ) = lit≤ tt
-rule-above ARDOK = lit≤ tt
-rule-above ARDF = lit≤ tt
-rule-above AWR = lit≤ tt
-rule-above AOI = lit≤ tt
-rule-above AOF = lit≤ tt
-rule-above AOE = lit≤ tt
+-- the numbers of the rules by which a component acts
+abbrev NumberOf : Component → ℕ → Type 0
+NumberOf (idle (output a)) k = k ≡ 1
+NumberOf (idle (taking m a P)) k = k ≡ 2
+NumberOf (idle (repeating m a P)) k = k ≡ 3
+NumberOf (idle (block m M)) k = k ≡ 4
+NumberOf (transaction m M s t) k = (4 < k) × (k ≤ 7)
 
--- those from 4 on, of a block or its transaction, end with 7
-rule-below : {σ : State} {c : Component} {τ : State} {cs : List Component} (k : ℕ) → (4 ≤ k → BlockMove σ c k τ cs) →
-    k ≤ 7
-rule-below k f = elim (ℕ-discrete (k - 7) 0) [ yes z ↦ omega arith | no z ↦ go (f (omega arith)) ]
-  where
-    go : {σ : State} {c : Component} {τ : State} {cs : List Component} → BlockMove σ c k τ cs → k ≤ 7
-    go (begins n M e is f g) = omega arith
-    go (retries n M s e δ f is g h) = omega arith
-    go (fails n M s e δ f is g h) = omega arith
-    go (commits n M s e δ f q is g h) = omega arith
+abbrev Numbered : Component → LocalAnswer → Type 0
+Numbered c (blocked n) = Unit {0}
+Numbered c (moves r τ ds) = NumberOf c (ruleNumber r)
 
--- an act is made by one of the rules 1 to 7
-act-rules : {d s starts : List ℕ} {n p rule : ℕ} → Accepts d s starts n (act p) rule → (1 ≤ rule) × (rule ≤ 7)
-act-rules {p = p} {rule = rule} x =
-    let h = x .configuration in
-    let a = acted h p rule (x .reply) in
-    let b = rw (a .local) at (acts-by (h .counts) (a .component)) in
-    let low = rule-above (a .rule) in
-    let same = a .number in (omega arith, rw (← same) (rule-below (ruleNumber (a .rule)) b))
+acts-numbered : (σ : State) (c : Component) → Numbered c (acts σ c)
+unfolding acts takes puts ends commits ruleNumber
+acts-numbered σ (idle (taking m a P)) =
+    by-cases (Numbered (idle (taking m a P))) (eqb (count σ a) 0) _ _ (λ q. tt) (λ q. refl)
+acts-numbered σ (idle (repeating m a P)) =
+    by-cases (Numbered (idle (repeating m a P))) (eqb (count σ a) 0) _ _ (λ q. tt) (λ q. refl)
+acts-numbered σ (idle (block m M)) = refl
+acts-numbered σ (idle (output a)) =
+    by-cases (Numbered (idle (output a))) (leb maxCount (count σ a)) _ _ (λ q. tt) (λ q. refl)
+acts-numbered σ (transaction m M s (leaf (endT k) δ)) =
+    by-cases (Numbered (transaction m M s (leaf (endT k) δ))) (readable σ δ) _ _ (λ q. (omega arith, omega arith))
+    (λ q. (omega arith, omega arith))
+acts-numbered σ (transaction m M s (leaf (retryT k) δ)) = (omega arith, omega arith)
+acts-numbered σ (transaction m M s (leaf (rdT k a N) δ)) = tt
+acts-numbered σ (transaction m M s (leaf (wtT k a N) δ)) = tt
+acts-numbered σ (transaction m M s (leaf (orElseT k N N′) δ)) = tt
+acts-numbered σ (transaction m M s (fork l r)) = tt
+
+numbered-as : (c b : Component) (m k : ℕ) → b ≡ c → m ≡ k → NumberOf b m → NumberOf c k
+numbered-as c b m k e f x = rw (← e, ← f) x
+
+module _ {d s starts : List ℕ} {n p rule : ℕ} (x : Accepts d s starts n (act p) rule) where
+  number-of : (c : Component) → getElem? (x .configuration .components) p ≡ some c → NumberOf c rule
+  number-of c f =
+      let a = acted (x .configuration) p rule (x .reply) in
+      let there = a .found in
+      let same : a .component ≡ c = cc in
+      numbered-as c (a .component) (ruleNumber (a .rule)) rule same (a .number)
+      (rw (a .local) at (acts-numbered (x .configuration .counts) (a .component)))
+
+  output-number : p < n → kindOf s starts p ≡ outputKind → rule ≡ 1
+  output-number l k =
+      let (c, f) = component-at (x .holds) p l in
+      number-of (idle (output (bodyOf s starts p))) (f ∙ ap some (output-here (x .holds) p c f k))
+
+  end-number : p < n → kindOf s starts p ≡ transactionKind → (4 < rule) × (rule ≤ 7)
+  unfolding componentBytes
+  end-number l k = let (c, f) = component-at (x .holds) p l in go c f (kind-here (x .holds) p c f)
+    where
+      go : (c : Component) → getElem? (x .configuration .components) p ≡ some c →
+          kindOf s starts p ≡ getD (componentBytes c) 0 0 → (4 < rule) × (rule ≤ 7)
+      go (idle (taking m a P)) f b = absurd (omega arith)
+      go (idle (repeating m a P)) f b = absurd (omega arith)
+      go (idle (block m M)) f b = absurd (omega arith)
+      go (idle (output a)) f b = absurd (omega arith)
+      go (transaction m M σ t) f b = number-of (transaction m M σ t) f
+
+  take-number : {term : ℕ} → TakeThere (x .configuration) p term → (b : Bool) × (rule ≡ takeNumber b)
+  take-number (false, a, P, f) = (false, number-of _ f)
+  take-number (true, a, P, f) = (true, number-of _ f)
 
 module _ {d s starts : List ℕ} {n p q rule : ℕ} (e : p ≡ q) where
   renamed : (k : ℕ) → rule ≡ k → Accepts d s starts n (act q) rule → Accepts d s starts n (act p) k
@@ -128,75 +172,124 @@ module _ {d s starts : List ℕ} {n p q rule : ℕ} (e : p ≡ q) where
       Applied d s starts n (act q) rule s′ starts′ n′
   renamed-back k is x = rw (← e, is) x
 
-  pub can-put : Accepts d s starts n (act q) rule → rule ≡ 1 → CanPut s starts n p
-  can-put x is = record { decoded = d; accepts = renamed 1 is x }
+  -- OUT
+  module _ (l : p < n) (k : kindOf s starts p ≡ outputKind) where
+    pub can-put : Accepts d s starts n (act q) rule → CanPut s starts n p
+    can-put x = record { decoded = d; accepts = renamed 1 (output-number (renamed rule refl x) l k) x }
 
-  pub put-applied : {s′ starts′ : List ℕ} {n′ : ℕ} → TokenPut s starts n p s′ starts′ n′ → rule ≡ 1 →
-      Applied d s starts n (act q) rule s′ starts′ n′
-  put-applied f is = renamed-back 1 is (f .applied d)
+    pub put-applied : Accepts d s starts n (act q) rule → {s′ starts′ : List ℕ} {n′ : ℕ} → TokenPut s starts n p s′ starts′ n′ →
+        Applied d s starts n (act q) rule s′ starts′ n′
+    put-applied x f = renamed-back 1 (output-number (renamed rule refl x) l k) (f .applied d)
 
   -- IN, and REP
-  pub can-take : Accepts d s starts n (act q) rule → rule ≡ 2 → CanTake d s starts n p
-  can-take x is = record { repeated = false; accepts = renamed 2 is x }
+  module _ {term : ℕ} (t : (x : Accepts d s starts n (act p) rule) → TakeThere (x .configuration) p term) where
+    pub can-take : Accepts d s starts n (act q) rule → CanTake d s starts n p
+    can-take x =
+        let y = renamed rule refl x in
+        let (b, is) = take-number y (t y) in record { repeated = b; accepts = renamed (takeNumber b) is x }
 
-  pub take-applied : {s′ starts′ : List ℕ} {n′ : ℕ} → TokenTaken d s starts n p s′ starts′ n′ → rule ≡ 2 →
-      Applied d s starts n (act q) rule s′ starts′ n′
-  take-applied f is = renamed-back 2 is (f .applied false)
+    pub take-applied : Accepts d s starts n (act q) rule → {s′ starts′ : List ℕ} {n′ : ℕ} → TokenTaken d s starts n p s′ starts′ n′ →
+        Applied d s starts n (act q) rule s′ starts′ n′
+    take-applied x f =
+        let y = renamed rule refl x in
+        let (b, is) = take-number y (t y) in renamed-back (takeNumber b) is (f .applied b)
 
-  pub can-repeat : Accepts d s starts n (act q) rule → rule ≡ 3 → CanTake d s starts n p
-  can-repeat x is = record { repeated = true; accepts = renamed 3 is x }
+  -- ATOK, ATRE and ATFAIL
+  module _ (l : p < n) (k : kindOf s starts p ≡ transactionKind) where
+    pub can-commit : Accepts d s starts n (act q) rule → rule ≡ 7 → CanCommit s starts n p
+    can-commit x is = record { decoded = d; accepts = renamed 7 is x }
 
-  pub repeat-applied : {s′ starts′ : List ℕ} {n′ : ℕ} → TokenTaken d s starts n p s′ starts′ n′ → rule ≡ 3 →
-      Applied d s starts n (act q) rule s′ starts′ n′
-  repeat-applied f is = renamed-back 3 is (f .applied true)
+    pub commit-applied : {s′ starts′ : List ℕ} {n′ : ℕ} → Committed s starts n p s′ starts′ n′ → rule ≡ 7 →
+        Applied d s starts n (act q) rule s′ starts′ n′
+    commit-applied f is = renamed-back 7 is (f .found d)
 
-  -- ATST
-  pub can-begin : Accepts d s starts n (act q) rule → rule ≡ 4 → Accepts d s starts n (act p) 4
-  can-begin x is = renamed 4 is x
+    module _ (x : Accepts d s starts n (act q) rule) (other : rule ≡ 7 → ⊥) where
+      restarts : Restarts rule
+      restarts =
+          let b = end-number (renamed rule refl x) l k in
+          elim (ℕ-discrete rule 5) [ yes is ↦ inl is | no is ↦ inr (omega arith) ]
 
-  pub begin-applied : {s′ starts′ : List ℕ} → Applied d s starts n (act p) 4 s′ starts′ n → rule ≡ 4 →
-      Applied d s starts n (act q) rule s′ starts′ n
-  begin-applied f is = renamed-back 4 is f
+      pub can-restart : CanRestart s starts n p
+      can-restart = record { decoded = d; rule = rule; either = restarts; accepts = renamed rule refl x }
 
-  -- ATOK
-  pub can-commit : Accepts d s starts n (act q) rule → rule ≡ 7 → CanCommit s starts n p
-  can-commit x is = record { decoded = d; accepts = renamed 7 is x }
+      pub restart-applied : {s′ starts′ : List ℕ} → Restarted s starts n p s′ starts′ →
+          Applied d s starts n (act q) rule s′ starts′ n
+      restart-applied r = renamed-back rule refl (r .found d rule restarts)
 
-  pub commit-applied : {s′ starts′ : List ℕ} {n′ : ℕ} → Committed s starts n p s′ starts′ n′ → rule ≡ 7 →
-      Applied d s starts n (act q) rule s′ starts′ n′
-  commit-applied f is = renamed-back 7 is (f .found d)
+-- ---- kind 1, made by what stands at the position
 
-  -- ATRE and ATFAIL: every other rule
-  module _ (x : Accepts d s starts n (act q) rule) (a : rule ≡ 1 → ⊥) (b : rule ≡ 2 → ⊥) (c : rule ≡ 3 → ⊥)
-      (f : rule ≡ 4 → ⊥) (g : rule ≡ 7 → ⊥) where
-    restarts : Restarts rule
-    restarts = let l = act-rules x in elim (ℕ-discrete rule 5) [ yes is ↦ inl is | no is ↦ inr (omega arith) ]
+module _ {d s starts : List ℕ} {n p q : ℕ} where
+  pub act-past : n ≤ p → p ≡ q → Chosen d s starts n (act q) (Refused 14) s starts n
+  act-past l e = chosen-refused (past-components l e) refl
 
-    pub can-restart : CanRestart s starts n p
-    can-restart = record { decoded = d; rule = rule; either = restarts; accepts = renamed rule refl x }
+  -- the position, as the entry has it
+  pub act-named : {r : Reply} {s′ starts′ : List ℕ} {n′ : ℕ} → Chosen d s starts n (act p) r s′ starts′ n′ → p ≡ q →
+      Chosen d s starts n (act q) r s′ starts′ n′
+  act-named c e = rw (← e) c
 
-    pub restart-applied : {s′ starts′ : List ℕ} → Restarted s starts n p s′ starts′ →
-        Applied d s starts n (act q) rule s′ starts′ n
-    restart-applied r = renamed-back rule refl (r .found d rule restarts)
+module _ {d s starts : List ℕ} {n p : ℕ} (x : Running d s starts n) (l : p < n) where
+  -- at an output
+  module _ (k : kindOf s starts p ≡ outputKind) {r : Reply} (f : OutputLooked s (bodyOf s starts p) r) {rule : ℕ} (is : r ≡ Moved rule) where
+    accepts-put : Accepts d s starts n (act p) rule
+    accepts-put = looked-accepts x (output-looked f l k refl) is
+
+    pub act-can-put : CanPut s starts n p
+    act-can-put = can-put refl l k accepts-put
+
+    pub act-put : {s′ starts′ : List ℕ} {n′ : ℕ} → TokenPut s starts n p s′ starts′ n′ →
+        Chosen d s starts n (act p) (Moved rule) s′ starts′ n′
+    act-put t = chosen-moved (output-looked f l k refl) is (put-applied refl l k accepts-put t)
+
+  -- at a transaction
+  module _ (k : kindOf s starts p ≡ transactionKind) {r : Reply} (f : EndLooked d s n (getD starts p 0) r) {rule : ℕ} (is : r ≡ Moved rule) where
+    accepts-end : Accepts d s starts n (act p) rule
+    accepts-end = looked-accepts x (end-looked f l k refl) is
+
+    pub act-can-commit : rule ≡ 7 → CanCommit s starts n p
+    act-can-commit c = can-commit refl l k accepts-end c
+
+    pub act-commit : rule ≡ 7 → {s′ starts′ : List ℕ} {n′ : ℕ} → Committed s starts n p s′ starts′ n′ →
+        Chosen d s starts n (act p) (Moved rule) s′ starts′ n′
+    act-commit c t = chosen-moved (end-looked f l k refl) is (commit-applied refl l k t c)
+
+    pub act-can-restart : (rule ≡ 7 → ⊥) → CanRestart s starts n p
+    act-can-restart c = can-restart refl l k accepts-end c
+
+    pub act-restart : (rule ≡ 7 → ⊥) → {s′ starts′ : List ℕ} → Restarted s starts n p s′ starts′ →
+        Chosen d s starts n (act p) (Moved rule) s′ starts′ n
+    act-restart c t = chosen-moved (end-looked f l k refl) is (restart-applied refl l k accepts-end c t)
+
+  -- at a component that waits
+  module _ (noTransaction : kindOf s starts p ≡ transactionKind → ⊥) (noOutput : kindOf s starts p ≡ outputKind → ⊥) {i k : ℕ}
+      (named : i ≡ bodyOf s starts p) (read : k ≡ kindAt d i) where
+    module _ (atom : k ≡ kindByte atomK) where
+      begins : Looked d s starts n (act p) (Moved 4)
+      begins = block-looked l noTransaction noOutput named read atom refl
+
+      pub act-can-begin : Accepts d s starts n (act p) 4
+      act-can-begin = looked-accepts x begins refl
+
+      pub act-begin : {s′ starts′ : List ℕ} → Applied d s starts n (act p) 4 s′ starts′ n →
+          Chosen d s starts n (act p) (Moved 4) s′ starts′ n
+      act-begin t = chosen-moved begins refl t
+
+    module _ (other : k ≡ kindByte atomK → ⊥) {r : Reply} (f : TakeLooked d s n (bodyOf s starts p) r) {rule : ℕ} (is : r ≡ Moved rule) where
+      looks-take : Looked d s starts n (act p) r
+      looks-take = take-looked l noTransaction noOutput named read other f refl
+
+      there : (y : Accepts d s starts n (act p) rule) → TakeThere (y .configuration) p (bodyOf s starts p)
+      there y = waits-take l noTransaction noOutput named read other (y .decoded) (y .holds)
+
+      pub act-can-take : CanTake d s starts n p
+      act-can-take = can-take refl there (looked-accepts x looks-take is)
+
+      pub act-take : {s′ starts′ : List ℕ} {n′ : ℕ} → TokenTaken d s starts n p s′ starts′ n′ →
+          Chosen d s starts n (act p) (Moved rule) s′ starts′ n′
+      act-take t = chosen-moved looks-take is (take-applied refl there (looked-accepts x looks-take is) t)
 
 -- ---- kind 2
 
 module _ {d s starts : List ℕ} {n p q k : ℕ} {r : InnerMove} (l : LookedInside d s starts n q k r) where
-  pub can-move : {rule at : ℕ} → Running d s starts n → r ≡ Found rule at → p ≡ q → CanMove d s starts n p rule at
-  unfolding replied replyIs
-  can-move {rule} {at} x is e = rw e (record {
-    terms = x .terms;
-    configuration = x .configuration;
-    node = k;
-    move = record {
-      decoded = x .decoded;
-      holds = x .holds;
-      place = l .place rule at is;
-      reply = sym (l .looked .found (x .terms) (x .configuration) (x .decoded) (x .holds))
-          ∙ ap (λ m. replyIs (replied m)) is;
-    };
-  })
-
   pub inside-moved : {rule at : ℕ} {s′ starts′ : List ℕ} → HasMoved d s starts n p rule at s′ starts′ →
       r ≡ Found rule at → p ≡ q →
       Chosen d s starts n (inside q k) (Moved rule) s′ starts′ n
@@ -214,7 +307,64 @@ pub inside-refused : {d s starts : List ℕ} {n q k m : ℕ} {r : InnerMove} →
 unfolding replied
 inside-refused l is = chosen-refused (l .looked) (ap replied is)
 
+-- made by what stands at the node: p is the position as the code has it, q as the entry has it
+module _ {d s starts : List ℕ} {n p q k : ℕ} where
+  pub past-refused : n ≤ p → p ≡ q → Chosen d s starts n (inside q k) (Refused 14) s starts n
+  past-refused l e = inside-refused (inside-past l e) refl
+
+  pub idle-refused : p < n → (getD s (getD starts p 0) 0 ≡ transactionKind → ⊥) → p ≡ q →
+      Chosen d s starts n (inside q k) (Refused 15) s starts n
+  idle-refused l other e = inside-refused (inside-idle l other e) refl
+
+module _ {d s starts : List ℕ} {n p : ℕ} (l : p < n) (t : getD s (getD starts p 0) 0 ≡ transactionKind) where
+  pub nodes-inside : Running d s starts n → getD starts p 0 + transactionHead ≤ length s
+  nodes-inside x = findable-inside d s (getD starts p 0) (find-held x l t)
+
+  pub nodes-fit : Running d s starts n → Fits w64 (getD starts p 0 + transactionHead)
+  nodes-fit x = let i = nodes-inside x in let z = hall-length (x .holds) in record { fits = omega arith }
+
+  module _ (k : ℕ) (place : Place) (f : place ≡ nodeStart s (getD starts p 0 + transactionHead) k) where
+    pub node-missing : {q : ℕ} → place ≡ Nowhere → p ≡ q → Chosen d s starts n (inside q k) (Refused 16) s starts n
+    node-missing g e = inside-refused (find-looked (search-missing d s (getD starts p 0) k place f g) l t e) refl
+
+    module _ {at : ℕ} (g : place ≡ At at) where
+      pub node-stands : Running d s starts n → NodeStands d s starts n p at
+      node-stands x = record {
+        terms = x .terms;
+        configuration = x .configuration;
+        node = k;
+        there = record { decoded = x .decoded; holds = x .holds; there = l; begins = refl; kind = t };
+        place = sym f ∙ g;
+      }
+
+      pub node-chosen : {q : ℕ} {r : Reply} {s′ starts′ : List ℕ} → NodeMoved d s starts n p at r s′ starts′ → p ≡ q →
+          Chosen d s starts n (inside q k) r s′ starts′ n
+      node-chosen {r = Moved rule} m e =
+          let found = search-found d s (getD starts p 0) k place f at (Moved rule) g (m .read) rule refl in
+          inside-moved (find-looked found l t e) (m .made rule refl) refl e
+      node-chosen {r = Refused j} m e =
+          let none = search-none d s (getD starts p 0) k place f at (Refused j) g (m .read) j refl in
+          let kept = m .kept j refl in
+          rw (kept .0, kept .1) (inside-refused (find-looked none l t e) refl)
+
+-- the look alone
+module _ {d s starts : List ℕ} {n q k : ℕ} {r : InnerMove} (l : LookedInside d s starts n q k r) where
+  pub inside-looked-moved : {rule at : ℕ} → r ≡ Found rule at → Looked d s starts n (inside q k) (Moved rule)
+  unfolding replied
+  inside-looked-moved is = rw is at (l .looked)
+
+  pub inside-looked-refused : {m : ℕ} → r ≡ inner.Refused m → Looked d s starts n (inside q k) (Refused m)
+  unfolding replied
+  inside-looked-refused is = rw is at (l .looked)
+
 -- ---- either kind
+
+module _ {d s starts : List ℕ} {n : ℕ} {r : Reply} (x : choices.Entry) where
+  pub looked-act : {p : ℕ} → Looked d s starts n (act p) r → x ≡ Act p → Looked d s starts n (entryOf x) r
+  looked-act l is = rw is l
+
+  pub looked-inside : {p k : ℕ} → Looked d s starts n (inside p k) r → x ≡ Inside p k → Looked d s starts n (entryOf x) r
+  looked-inside l is = rw is l
 
 module _ {d s starts s′ starts′ : List ℕ} {n n′ : ℕ} {r : Reply} (x : choices.Entry) where
   pub made-act : {p : ℕ} → Chosen d s starts n (act p) r s′ starts′ n′ → x ≡ Act p →

@@ -14,7 +14,7 @@ use Rattle.semantics.specs.Definitions.Moves as moves
 use Rattle.semantics.specs.Definitions.Calls.{SuggestAnswer, suggested, still, IsRefused, Suggestable}
 use Rattle.terms.specs.Decoded.{Decoded}
 use Rattle.stored.specs.declared.Place.the-variants.{At}
-use Rattle.stored.specs.Layout.{transactionHead}
+use Rattle.stored.specs.Layout.{transactionHead, componentBody}
 use Rattle.stored.specs.Nodes.{nodeStart}
 use Rattle.index.specs.Holds.{Holds}
 use Rattle.index.specs.Choices.{Looked}
@@ -24,6 +24,15 @@ use Rattle.transactions.specs.Finding.{replied}
 use Rattle.schedule.specs.Entries.{entryOf}
 use Rattle.choices.specs.declared.suggests.Suggestion.{Suggestion}
 use Rattle.choices.specs.declared.suggests.Suggestion.the-variants.{Accepted, Still}
+
+-- ---- what stands at a position
+
+-- the kind and the body of the component there
+abbrev pub kindOf : (s starts : List ℕ) → ℕ → ℕ
+kindOf s starts p = getD s (getD starts p 0) 0
+
+abbrev pub bodyOf : (s starts : List ℕ) → ℕ → ℕ
+bodyOf s starts p = getD s (getD starts p 0 + componentBody) 0
 
 -- ---- inside a transaction
 

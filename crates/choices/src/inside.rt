@@ -1,15 +1,18 @@
 // Entries of kind 2 (to move inside a transaction): rules 8 to 13, at a position and a node.
 use buffer::wide;
 use rules::NO_COMPONENT;
+use rules::NO_NODE;
 use rules::Reply;
 use rules::WRONG_COMPONENT;
 use stored::INDEX_SIZE;
 use stored::KIND_TRANSACTION;
+use stored::Place;
+use stored::TRANSACTION_HEAD;
 use terms::DECODED;
 use transactions::InnerMove;
 ghost use Rattle.semantics.specs.Definitions.Moves.{inside};
 ghost use Rattle.index.specs.Holds.{Running};
-ghost use Rattle.index.specs.Choices.{Chosen};
+ghost use Rattle.index.specs.Choices.{Looked, Chosen};
 ghost use Rattle.choices.specs.Entries.{LookedInside};
 
 // What the entry is answered, and where its node stands. Nothing changes.
@@ -36,7 +39,27 @@ pub fn find_inside(
     transactions::find(decoded, hall, begin, node)
 }
 
-// The entry made, where the look accepts it. As many components stay.
+// What the entry is answered, and no more.
+pub fn look_inside(
+    decoded: &[u8; DECODED],
+    hall: &[u8],
+    starts: &[usize; INDEX_SIZE],
+    components: usize,
+    position: u8,
+    node: u8,
+) -> Reply
+    requires { ⌜ Running (now decoded) (now hall) (now starts) components ⌝ }
+    ensures { λ r. ⌜ Looked (now (decoded .entry)) (now (hall .entry)) (now (starts .entry)) components
+        (inside position node) r ⌝ }
+{
+    let found = find_inside(decoded, hall, starts, components, position, node);
+    match found {
+        InnerMove::Found { rule, at: _ } => Reply::Moved(rule),
+        InnerMove::Refused(number) => Reply::Refused(number),
+    }
+}
+
+// The entry made, where it is accepted, by what stands at its node. As many components stay.
 pub fn act_inside(
     decoded: &[u8; DECODED],
     hall: &mut [u8],
@@ -49,11 +72,16 @@ pub fn act_inside(
     ensures { λ r. ⌜ Chosen (now (decoded .entry)) (now (hall .entry)) (now (starts .entry)) components
         (inside position node) r (now (hall .exit)) (now (starts .exit)) components ⌝ }
 {
-    match find_inside(decoded, hall, starts, components, position, node) {
-        InnerMove::Found { rule, at } => {
-            transactions::apply(decoded, hall, starts, components, wide(position), rule, at);
-            Reply::Moved(rule)
-        }
-        InnerMove::Refused(number) => Reply::Refused(number),
+    let p = wide(position);
+    if components <= p {
+        return Reply::Refused(NO_COMPONENT);
+    }
+    let transaction = starts[p];
+    if hall[transaction] != KIND_TRANSACTION {
+        return Reply::Refused(WRONG_COMPONENT);
+    }
+    match stored::node_start(hall, transaction + TRANSACTION_HEAD, node) {
+        Place::Nowhere => Reply::Refused(NO_NODE),
+        Place::At(at) => transactions::move_at(decoded, hall, starts, components, p, at),
     }
 }

@@ -1,13 +1,16 @@
 // One entry of a schedule (document 01's choice) on a configuration (hall) that a run holds: looked at, made, or looked
 // for.
 //
-// A look only reads; what is made is what the look found. A suggestion goes through the looks alone.
+// A look only reads and answers by which rule an entry would move; suggestions and steps look. What is made is made by
+// what stands at the position and at the node, and answers the same.
 mod acts;
 mod inside;
 mod suggests;
 
 use acts::act;
+use acts::look_act;
 use inside::act_inside;
+use inside::look_inside;
 use rules::Reply;
 use schedule::Entry;
 use stored::INDEX_SIZE;
@@ -15,7 +18,7 @@ pub use suggests::Suggestion;
 pub use suggests::first_accepted;
 use terms::DECODED;
 ghost use Rattle.index.specs.Holds.{Running};
-ghost use Rattle.index.specs.Choices.{Chosen};
+ghost use Rattle.index.specs.Choices.{Looked, Chosen};
 ghost use Rattle.schedule.specs.Entries.{entryOf};
 
 // What an entry was answered, and how many components (stations) there are now.
@@ -24,7 +27,28 @@ pub struct Made {
     pub components: usize,
 }
 
-// An entry of either kind made, where it is accepted.
+// What an entry of either kind is answered. Nothing changes.
+pub fn look(
+    decoded: &[u8; DECODED],
+    hall: &[u8],
+    starts: &[usize; INDEX_SIZE],
+    components: usize,
+    entry: Entry,
+) -> Reply
+    requires { ⌜ Running (now decoded) (now hall) (now starts) components ⌝ }
+    ensures { λ r. ⌜ Looked (now (decoded .entry)) (now (hall .entry)) (now (starts .entry)) components (entryOf entry)
+        r ⌝ }
+{
+    match entry {
+        Entry::Act { position } => look_act(decoded, hall, starts, components, position),
+        Entry::Inside { position, node } => {
+            look_inside(decoded, hall, starts, components, position, node)
+        }
+    }
+}
+
+// An entry of either kind made, where it is accepted. A run is its one caller, so that the compiler can make the two one
+// loop.
 pub fn make(
     decoded: &[u8; DECODED],
     hall: &mut [u8],

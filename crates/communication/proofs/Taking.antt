@@ -12,8 +12,8 @@ use lib.Dec.{ltb}
 use borrow.Author.Tests.{eq-eqb, ne-eqb, ltb-true, ltb-false, le-ltb}
 use Rattle.calculus.specs.Syntax.{Name}
 use Rattle.semantics.specs.Definitions.Layout.{maxTerms, maxComponents}
-use Rattle.semantics.specs.Definitions.Terms.{Program, Term, process}
-use Rattle.semantics.specs.Definitions.Table.{repeatK}
+use Rattle.semantics.specs.Definitions.Terms.{Program, nilT, putT, takeT, repeatT, parT, atomT, Term, process, width}
+use Rattle.semantics.specs.Definitions.Table.{repeatK, parK}
 use Rattle.semantics.specs.Definitions.Configuration.{repeating, idle, Configuration, opens}
 use Rattle.semantics.specs.Definitions.Stored.{componentBytes}
 use Rattle.semantics.specs.Definitions.Moves as moves
@@ -21,7 +21,7 @@ use Rattle.semantics.specs.Definitions.Moves.{act, answerTo, replyOf}
 use Rattle.theorems.proofs.Lists.{found-below}
 use Rattle.theorems.proofs.RoundTrip.{width-bounds-opening}
 use Rattle.records.specs.Shapes.{kindByte}
-use Rattle.terms.specs.Decoded.{kindAt, firstAt, secondAt, breadthAt, breadth, Decoded}
+use Rattle.terms.specs.Decoded.{kindAt, firstAt, secondAt, breadthAt, breadth, RecordOf, Decoded}
 use Rattle.buffer.specs.Splice.{written}
 use Rattle.buffer.proofs.Written.{written-length, written-twice}
 use Rattle.stored.specs.Layout.{channels, idleSize, componentBody, waitingKind}
@@ -29,13 +29,12 @@ use Rattle.storedlaws.specs.Positions.{allBytes}
 use Rattle.storedlaws.proofs.Configurations.{all-bytes-append}
 use Rattle.opening.specs.Opening.{componentsBytes, ComponentsFit, ComponentsWritten, ComponentsCounted}
 use Rattle.opening.proofs.Components.{opened-fits}
-use Rattle.opening.proofs.Opening.{process-fits}
 use Rattle.rules.specs.declared.Reply.{Reply}
 use Rattle.rules.specs.declared.Reply.the-variants.{Moved, Refused}
 use Rattle.rules.specs.Replies.{replyIs}
 use Rattle.index.specs.Holds.{Holds, CanReplace, Replaced}
 use Rattle.index.proofs.Holding.{hall-length, few-components, count-here, position-below}
-use Rattle.communication.specs.Tokens.{takeOf, takeTerm, successors, staying, takeNumber, repeats, laidSize, TakeHeld, TakeLooked, ComponentLimitAsked, ComponentLimitTested, CanWriteSuccessors, SuccessorsWritten, CanTake, TokenTaken}
+use Rattle.communication.specs.Tokens.{takeOf, takeTerm, successors, staying, takeNumber, repeats, termOf, laidSize, singleSize, ATake, TakeHeld, TakeLooked, ComponentLimitAsked, ComponentLimitTested, CanWriteSuccessors, SuccessorsWritten, CanTake, TokenTaken}
 use Rattle.communication.proofs.Acting.{TakesHere, takes-there, many-after, empty-refused, crowded-refused, take-accepted, take-number}
 use Rattle.communication.proofs.TokenMoves.{takeKind, TakeIn, take-in, position-inside, body-inside, waits-on, take-body, take-token, take-link}
 use Rattle.index.proofs.Acting.{replacement-can, replacement-held}
@@ -236,10 +235,14 @@ module _ (d : List ℕ) (m i : ℕ) (same : i ≡ m) (s : List ℕ) (x : CanWrit
     pub continuation-fits : ComponentsFit d k s 0
     continuation-fits =
         let y = x .take in
-        let z = x .sized in
-        process-fits d k s 0
-        (record { terms = y .terms; tree = y .continuation; decoded = y .decoded; at = continuation-at })
-        (omega arith)
+        let z = x .room in
+        record {
+          terms = y .terms;
+          tree = y .continuation;
+          decoded = y .decoded;
+          at = continuation-at;
+          fits = omega arith;
+        }
 
     module _ (s₁ : List ℕ) (end : ℕ) (w : ComponentsWritten d k s 0 s₁ end) where
       opened : (ts : List Term) (b : Bool) (a : Name) (P : Program) → Decoded ts d →
@@ -253,9 +256,8 @@ module _ (d : List ℕ) (m i : ℕ) (same : i ≡ m) (s : List ℕ) (x : CanWrit
           let y = x .take in
           let v = componentsBytes (y .continuation) in
           let q = opened (y .terms) (y .repeated) (y .channel) (y .continuation) (y .decoded) (y .at) in
-          let l = y .decoded .good .limits k _ continuation-at in
           let f = opened-fits (y .continuation) in
-          let z = x .sized in
+          let z = x .room in
           let u : length s₁ ≡ length s =
           ap length (q .1) ∙ written-length s 0 v (length v) (omega arith) (omega arith) in
           omega (arith, q .0)
@@ -288,12 +290,21 @@ module _ (d : List ℕ) (m i : ℕ) (same : i ≡ m) (s : List ℕ) (x : CanWrit
               rw (like, staying-bytes m a P, z, all) (refl, written-front s v);
         }
 
+-- a process that is not two side by side is of width 1
+narrow : (P : Program) (i kind l r : ℕ) → RecordOf i kind l r (process P) → (kind ≡ kindByte parK → ⊥) → width P ≡ 1
+unfolding width
+narrow (nilT n) i kind l r e other = refl
+narrow (putT n a) i kind l r e other = refl
+narrow (takeT n a P) i kind l r e other = refl
+narrow (repeatT n a P) i kind l r e other = refl
+narrow (parT n P Q) i kind l r e other = absurd (other (e .0))
+narrow (atomT n M) i kind l r e other = refl
+
 -- ---- the move
 
 module _ (d s starts : List ℕ) (n p : ℕ) where
-  -- the term that the bytes name at the position
   abbrev term : ℕ
-  term = getD s (getD starts p 0 + componentBody) 0
+  term = termOf s starts p
 
   module _ (x : CanTake d s starts n p) where
     taker-here : TakesHere (x .accepts .configuration) p (x .repeated)
@@ -319,18 +330,42 @@ module _ (d s starts : List ℕ) (n p : ℕ) where
         let y = taker-here in
         rw e (take-in (x .accepts .decoded) (x .repeated) term (y .channel) (y .continuation) term-at .inside)
 
-    pub can-write-successors : (buffer : List ℕ) → length buffer ≡ laidSize → CanWriteSuccessors d term buffer
-    can-write-successors buffer l = record {
-      take = record {
-        terms = x .accepts .terms;
-        repeated = x .repeated;
-        channel = taker-here .channel;
-        continuation = taker-here .continuation;
-        decoded = x .accepts .decoded;
-        at = term-at;
-      };
-      sized = l;
+    -- the take there, with its continuation
+    abbrev here : ATake d term
+    here = record {
+      terms = x .accepts .terms;
+      repeated = x .repeated;
+      channel = taker-here .channel;
+      continuation = taker-here .continuation;
+      decoded = x .accepts .decoded;
+      at = term-at;
     }
+
+    module _ (i g k : ℕ) (e : i ≡ term) (o : g ≡ secondAt d i) (t : k ≡ g) where
+      continued-at : getElem? (x .accepts .terms) k ≡ some (process (taker-here .continuation))
+      continued-at =
+          let y = taker-here in
+          let at-second : k ≡ secondAt d term = t ∙ rw e at o in
+          rw at-second
+          (take-in (x .accepts .decoded) (x .repeated) term (y .channel) (y .continuation) term-at .continuation)
+
+      pub continuation-inside : k < maxTerms
+      continuation-inside =
+          let l = found-below (x .accepts .terms) k _ continued-at in
+          let f = x .accepts .decoded .good .few in omega arith
+
+      -- whatever the continuation, there is room for all that a take may lay down
+      pub can-write-many : (buffer : List ℕ) → length buffer ≡ laidSize → CanWriteSuccessors d term buffer
+      can-write-many buffer l =
+          let w = x .accepts .decoded .good .limits k _ continued-at in record { take = here; room = omega arith }
+
+      -- one that is not two side by side is of width 1
+      pub can-write-few : (kind : ℕ) → kind ≡ kindAt d k → (kind ≡ kindByte parK → ⊥) → (buffer : List ℕ) → length buffer ≡ singleSize →
+          CanWriteSuccessors d term buffer
+      can-write-few kind r other buffer l =
+          let w = narrow (taker-here .continuation) k kind (firstAt d k) (secondAt d k)
+          (rw r (x .accepts .decoded .records k _ continued-at)) other in
+          record { take = here; room = omega arith }
 
     module _ (bytes : List ℕ) (size : ℕ) (w : SuccessorsWritten d term bytes size) where
       -- so many bytes are there

@@ -8,18 +8,18 @@ use mathlib.Core.Path.{_≡_}
 use mathlib.Core.Bool.{Bool, true, false}
 use mathlib.Core.Option.{some}
 use mathlib.Core.List.{List, [], _∷_, _++_, map}
-use lib.ListN.{length, take, getElem?}
+use lib.ListN.{length, take, getD, getElem?}
 use lib.Dec.{eqb, ltb}
 use Rattle.calculus.specs.Syntax.{Name}
 use Rattle.calculus.specs.Reduction.{Rule, IN, REP}
 use Rattle.semantics.specs.Definitions.Layout.{maxComponents}
-use Rattle.semantics.specs.Definitions.Terms.{Program, takeT, repeatT, Term, process}
+use Rattle.semantics.specs.Definitions.Terms.{Program, takeT, repeatT, Term, process, width}
 use Rattle.semantics.specs.Definitions.Configuration.{Idle, taking, repeating, output, idle, Configuration, opens}
 use Rattle.semantics.specs.Definitions.Moves.{act, answerTo, replyOf}
 use Rattle.semantics.specs.Definitions.Table.{repeatK}
 use Rattle.records.specs.Shapes.{kindByte}
 use Rattle.terms.specs.Decoded.{Decoded, AProcess}
-use Rattle.stored.specs.Layout.{idleSize}
+use Rattle.stored.specs.Layout.{idleSize, componentBody}
 use Rattle.storedlaws.specs.Positions.{allBytes}
 use Rattle.rules.specs.declared.Reply.{Reply}
 use Rattle.rules.specs.Replies.{replyIs}
@@ -128,13 +128,11 @@ pub record ATake (d : List ℕ) (term : ℕ) : Type 0 where
   pub decoded : Decoded terms d
   pub at : getElem? terms term ≡ some (takeTerm repeated term channel continuation)
 
--- there, and in a buffer for all that a take may lay down: as many components as a process is wide, and the take itself
-abbrev pub laidSize : ℕ
-laidSize = idleSize * (maxComponents + 1)
-
+-- there, and in a buffer for what the continuation opens into, at most as many components as it is wide, and for the
+-- take itself
 pub record CanWriteSuccessors (d : List ℕ) (term : ℕ) (buffer : List ℕ) : Type 0 where
   pub take : ATake d term
-  pub sized : length buffer ≡ laidSize
+  pub room : idleSize * (width (take .continuation) + 1) ≤ length buffer
 
 -- of any table that d decodes, the first so many of these bytes are those of what stands in the take's place afterwards
 pub record SuccessorsWritten (d : List ℕ) (term : ℕ) (bytes : List ℕ) (size : ℕ) : Type 0 where
@@ -142,6 +140,17 @@ pub record SuccessorsWritten (d : List ℕ) (term : ℕ) (bytes : List ℕ) (siz
       getElem? ts term ≡ some (takeTerm b term a P) →
       (size ≡ length (allBytes (map idle (successors b term a P)))) ×
       (take size bytes ≡ allBytes (map idle (successors b term a P)))
+
+-- as many bytes as a take may lay down, and as many where its continuation opens into one component at most
+abbrev pub laidSize : ℕ
+laidSize = idleSize * (maxComponents + 1)
+
+abbrev pub singleSize : ℕ
+singleSize = idleSize * 2
+
+-- the term that the bytes name at position p
+abbrev pub termOf : (s starts : List ℕ) (p : ℕ) → ℕ
+termOf s starts p = getD s (getD starts p 0 + componentBody) 0
 
 -- the entry of kind 1 at position p is accepted by rule 2 or by rule 3
 pub record CanTake (d s starts : List ℕ) (n p : ℕ) : Type 0 where

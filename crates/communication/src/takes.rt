@@ -5,6 +5,7 @@ use index::replace_component;
 use opening::component_count;
 use opening::write_components;
 use opening::write_idle;
+use records::PAR;
 use records::REPEATED_TAKE;
 use rules::EMPTY_CHANNEL;
 use rules::IN;
@@ -18,10 +19,13 @@ use stored::KIND_WAITING;
 use stored::MAX_COMPONENTS;
 use terms::DECODED;
 ghost use mathlib.Core.Path.{_≡_};
-ghost use Rattle.communication.specs.Tokens.{takeNumber, staying, repeats, TakeHeld, TakeLooked, ComponentLimitAsked, ComponentLimitTested, CanWriteSuccessors, SuccessorsWritten, CanTake, TokenTaken};
+ghost use Rattle.communication.specs.Tokens.{takeNumber, staying, repeats, TakeHeld, TakeLooked, ComponentLimitAsked, ComponentLimitTested, termOf, CanWriteSuccessors, SuccessorsWritten, CanTake, TokenTaken};
 
 // What a take may lay down, in bytes: as many components as a process is wide, and the take itself.
 const LAID: usize = IDLE_SIZE * (MAX_COMPONENTS + 1);
+
+// The same where its continuation opens into one component at most.
+const LAID_SINGLE: usize = IDLE_SIZE * 2;
 
 // By the kind of a take's record: its rule, and how many stay of it.
 fn take_rule(kind: u8) -> u8
@@ -71,7 +75,7 @@ pub fn look_take(decoded: &[u8; DECODED], hall: &[u8], components: usize, term: 
 }
 
 // The bytes of what stands in the take's place afterwards: the answer is how many they are.
-fn write_successors(decoded: &[u8; DECODED], term: u8, laid: &mut [u8; LAID]) -> usize
+fn write_successors(decoded: &[u8; DECODED], term: u8, laid: &mut [u8]) -> usize
     requires { ⌜ CanWriteSuccessors (now decoded) term (now laid) ⌝ }
     ensures { λ r. ⌜ SuccessorsWritten (now (decoded .entry)) term (now (laid .exit)) r ⌝ }
 {
@@ -83,7 +87,37 @@ fn write_successors(decoded: &[u8; DECODED], term: u8, laid: &mut [u8; LAID]) ->
     end
 }
 
-// IN or REP at a position. The answer is how many components there are now.
+// IN or REP at a position, by way of a buffer for what is laid down.
+fn take_by(
+    decoded: &[u8; DECODED],
+    hall: &mut [u8],
+    starts: &mut [usize; INDEX_SIZE],
+    components: usize,
+    position: usize,
+    laid: &mut [u8],
+) -> usize
+    requires { ⌜ CanTake (now decoded) (now hall) (now starts) components position ⌝ }
+    requires { ⌜ CanWriteSuccessors (now decoded) (termOf (now hall) (now starts) position) (now laid) ⌝ }
+    ensures { λ r. ⌜ TokenTaken (now (decoded .entry)) (now (hall .entry)) (now (starts .entry)) components position
+        (now (hall .exit)) (now (starts .exit)) r ⌝ }
+{
+    let begin = starts[position];
+    let term = hall[begin + COMPONENT_BODY];
+    let channel = wide(terms::first_of(decoded, wide(term)));
+    hall[channel] = hall[channel] - 1;
+    let end = write_successors(decoded, term, laid);
+    replace_component(
+        hall,
+        starts,
+        components,
+        position,
+        &laid[..end],
+        end / IDLE_SIZE,
+    )
+}
+
+// IN or REP at a position. The answer is how many components there are now. A continuation that is not two side by side
+// opens into one component at most: only the others take a buffer for as many as may be.
 pub fn take(
     decoded: &[u8; DECODED],
     hall: &mut [u8],
@@ -96,17 +130,12 @@ pub fn take(
         (now (hall .exit)) (now (starts .exit)) r ⌝ }
 {
     let begin = starts[position];
-    let term = hall[begin + COMPONENT_BODY];
-    let channel = wide(terms::first_of(decoded, wide(term)));
-    hall[channel] = hall[channel] - 1;
-    let mut laid = [0u8; LAID];
-    let end = write_successors(decoded, term, &mut laid);
-    replace_component(
-        hall,
-        starts,
-        components,
-        position,
-        &laid[..end],
-        end / IDLE_SIZE,
-    )
+    let term = wide(hall[begin + COMPONENT_BODY]);
+    let continuation = wide(terms::second_of(decoded, term));
+    if terms::kind_of(decoded, continuation) == PAR {
+        let mut laid = [0u8; LAID];
+        return take_by(decoded, hall, starts, components, position, &mut laid);
+    }
+    let mut laid = [0u8; LAID_SINGLE];
+    take_by(decoded, hall, starts, components, position, &mut laid)
 }

@@ -1,26 +1,28 @@
 -- What a run, a step and a suggestion give, by the answer of the admission before them and by what was made of the
 -- configuration that it holds.
 -- Assumes nothing.
-use Prim.Native.Nat.{ℕ, _<_}
+use Prim.Native.Nat.{ℕ, _+_, _<_}
 use native.Mathlib.Omega.{arith}
-use mathlib.Core.Path.{_≡_, refl, sym, _∙_}
-use mathlib.Core.List.{List}
+use mathlib.Core.Path.{_≡_, refl, sym, ap, _∙_}
+use mathlib.Core.List.{List, [], _∷_}
+use lib.ListN.{length}
 use Rattle.calculus.specs.Reduction.{Rule}
 use Rattle.semantics.specs.Definitions.Configuration.{Configuration}
 use Rattle.semantics.specs.Definitions.Stored.{bytesOf}
-use Rattle.semantics.specs.Definitions.Moves.{Entry, moved, refused, answerTo, ruleNumber}
-use Rattle.semantics.specs.Definitions.Run.{Counters, counted}
-use Rattle.semantics.specs.Definitions.Calls.{admission, Buffers, runAdmitted, runCall, stepCall, SuggestAdmitted, SuggestAllowed}
+use Rattle.semantics.specs.Definitions.Moves.{Entry, Answer, moved, refused, answerTo, ruleNumber, replyOf}
+use Rattle.semantics.specs.Definitions.Run.{Counters, counted, schedule, continueRun, runFrom, run}
+use Rattle.semantics.specs.Definitions.Calls.{admission, Buffers, runResult, runAdmitted, runCall, stepCall, SuggestAdmitted, SuggestAllowed}
 use Rattle.semantics.specs.Checks.Conditions.{RefusalNumbers}
 use Rattle.semantics.specs.Checks.Steps.{Names, names-act, names-inside}
 use Rattle.theorems.proofs.Theorems.{refusal-numbers}
 use Rattle.theorems.proofs.Steps.{answered, step-turned-down, step-unknown, step-answered}
 use Rattle.rules.specs.declared.Reply.{Reply}
 use Rattle.rules.specs.declared.Reply.the-variants as reply
+use Rattle.rules.specs.Replies.{replyIs}
 use Rattle.counters.specs.declared.Counters as code
 use Rattle.counters.specs.Counted.{countersOf}
 use Rattle.index.specs.Holds.{Running}
-use Rattle.index.specs.Choices.{Chosen}
+use Rattle.index.specs.Choices.{Looked}
 use Rattle.admission.specs.declared.Admission.{Admission}
 use Rattle.admission.specs.declared.Admission.the-variants as admit
 use Rattle.admission.specs.Answers.{AdmissionIs}
@@ -33,11 +35,11 @@ use Rattle.schedule.specs.Entries.{entryOf}
 use Rattle.runs.specs.declared.RunAnswer.{RunAnswer}
 use Rattle.runs.specs.declared.RunAnswer.the-variants as ran
 use Rattle.runs.specs.Answers.{runCallOf, Ran}
-use Rattle.runs.proofs.Entries.{refused-positive, made-moved, made-refused}
+use Rattle.runs.proofs.Entries.{refused-positive}
 use Rattle.engine.specs.declared.steps.StepAnswer.{StepAnswer}
 use Rattle.engine.specs.declared.steps.StepAnswer.the-variants as step
 use Rattle.engine.specs.declared.suggests.SuggestAnswer.the-variants.{Suggested, Still, Refused}
-use Rattle.engine.specs.Answers.{buffersOf, stepCallOf, Stepped, suggestAnswerOf}
+use Rattle.engine.specs.Answers.{buffersOf, stepCallOf, ruleOf, OneEntry, Stepped, suggestAnswerOf}
 use Rattle.engine.proofs.Admitted.{admitted-hall, refused-hall}
 
 -- ---- an entry on a configuration that is held
@@ -56,29 +58,87 @@ refused-said : (h : Configuration) (l : Buffers) (size m : ℕ) (e : Entry) (s�
 unfolding answered
 refused-said h l size m e s′ answer bytes = rw (answer, bytes)
 
-module _ {d s starts : List ℕ} {n : ℕ} {e : Entry} {r : Reply} {s′ starts′ : List ℕ} {n′ : ℕ}
-    (c : Chosen d s starts n e r s′ starts′ n′) where
-  pub step-moved : {rule : ℕ} → r ≡ reply.Moved rule → (size : ℕ) (t u : code.Counters) →
-      ((by : Rule) → ruleNumber by ≡ rule → countersOf u ≡ counted by (countersOf t)) →
-      Stepped d s starts n e size (countersOf t) (step.Moved rule size u) s′
-  step-moved {rule} q size t u counts = record {
-    found = λ ts h y x.
-        let w = made-moved c ts h y x rule q in
-        moved-said h (w .result) (record { hall = s; counters = countersOf t }) size rule e (w .done) s′ (countersOf u)
-        (w .answer) (w .number) (counts (w .done) (w .number)) (w .holds .bytes);
+-- what a run of one entry comes to, by its answer
+run-of-one : (h : Configuration) (t : Counters) (bytes : List ℕ) (e : Entry) (a : Answer) → OneEntry bytes e → answerTo h e ≡ a →
+    run h t bytes
+    ≡ continueRun a (λ n. record { number = n; place = 0; done = 0; configuration = h; counters = t })
+    (λ by g. record {
+      number = 0;
+      place = 0 + length bytes;
+      done = 1;
+      configuration = g;
+      counters = counted by t;
+    })
+unfolding run runFrom continueRun
+run-of-one h t bytes e (moved by g) one q = rw (one .says, q)
+run-of-one h t bytes e (refused n) one q = rw (one .says, q)
+
+-- the rule that a look told
+rule-told : (r : Reply) (by : Rule) (h g : Configuration) (e : Entry) → replyIs r ≡ replyOf (answerTo h e) →
+    answerTo h e ≡ moved by g →
+    ruleNumber by ≡ ruleOf r
+unfolding replyIs replyOf
+rule-told (reply.Moved rule) by h g e l q = let z = rw q at l in cc
+rule-told (reply.Refused n) by h g e l q =
+    let z = rw q at l in absurd (let o : _≡_ {A = ℕ} 0 1 = cc in omega arith)
+
+module _ {d s starts : List ℕ} {n : ℕ} {e : Entry} {bytes : List ℕ} {t : code.Counters} {s′ : List ℕ}
+    (one : OneEntry bytes e) where
+  pub step-moved : {r : Reply} {a : RunAnswer} {place done rule : ℕ} {u : code.Counters} → Looked d s starts n e r →
+      Ran d s starts n bytes (countersOf t) a s′ → a ≡ ran.Completed place done u → rule ≡ ruleOf r →
+      Stepped d s starts n e (length bytes) (countersOf t) (step.Moved rule (length bytes) u) s′
+  unfolding runResult continueRun
+  step-moved {r} {place = place} {done} {rule} {u} l f is told = record {
+    found = λ ts h y x. go h (answerTo h e) refl (l .found ts h y x) ((rw is at f) .found ts h y x);
     decided = tt;
   }
+    where
+      go : (h : Configuration) (a : Answer) → answerTo h e ≡ a → replyIs r ≡ replyOf (answerTo h e) →
+          runCallOf (ran.Completed place done u) s′ ≡ runResult (run h (countersOf t) bytes) →
+          stepCallOf (step.Moved rule (length bytes) u) (record { hall = s′; counters = countersOf t })
+          ≡ answered h (record { hall = s; counters = countersOf t }) (length bytes) (answerTo h e)
+      go h (moved by g) q looked same =
+          let all = same ∙ ap runResult (run-of-one h (countersOf t) bytes e (moved by g) one q) in
+          moved-said h g (record { hall = s; counters = countersOf t }) (length bytes) rule e by s′ (countersOf u) q
+          (rule-told r by h g e looked q ∙ sym told) (ap (λ c. c .buffers .counters) all) (ap (λ c. c .buffers .hall) all)
+      go h (refused m) q looked same =
+          let all = same ∙ ap runResult (run-of-one h (countersOf t) bytes e (refused m) one q) in
+          let none : 0 ≡ m = ap (λ c. c .number) all in
+          let some = refused-positive h e m q in absurd (omega arith)
 
-  pub step-refused : {m : ℕ} → r ≡ reply.Refused m → Running d s starts n → (size : ℕ) (t : code.Counters) →
-      Stepped d s starts n e size (countersOf t) (step.Refused m 0) s′
-  step-refused {m} q x size t = record {
-    found = λ ts h y z.
-        let (b, after) = made-refused c ts h y z m q in
-        refused-said h (record { hall = s; counters = countersOf t }) size m e s′ b (after .bytes);
-    decided =
-        refused-positive (x .configuration) e m
-        (made-refused c (x .terms) (x .configuration) (x .decoded) (x .holds) m q .0);
+  pub step-refused : {a : RunAnswer} {m place done : ℕ} {u : code.Counters} →
+      Ran d s starts n bytes (countersOf t) a s′ → a ≡ ran.Refused m place done u →
+      Stepped d s starts n e (length bytes) (countersOf t) (step.Refused m place) s′
+  unfolding runResult continueRun
+  step-refused {m = m} {place} {done} {u} f is = record {
+    found = λ ts h y x. go h (answerTo h e) refl ((rw is at f) .found ts h y x);
+    decided = (rw is at f) .decided;
   }
+    where
+      go : (h : Configuration) (a : Answer) → answerTo h e ≡ a →
+          runCallOf (ran.Refused m place done u) s′ ≡ runResult (run h (countersOf t) bytes) →
+          stepCallOf (step.Refused m place) (record { hall = s′; counters = countersOf t })
+          ≡ answered h (record { hall = s; counters = countersOf t }) (length bytes) (answerTo h e)
+      go h (moved by g) q same =
+          let all = same ∙ ap runResult (run-of-one h (countersOf t) bytes e (moved by g) one q) in
+          let none : m ≡ 0 = ap (λ c. c .number) all in
+          let some : 0 < m = (rw is at f) .decided in absurd (omega arith)
+      go h (refused k) q same =
+          let all = same ∙ ap runResult (run-of-one h (countersOf t) bytes e (refused k) one q) in
+          let number : m ≡ k = ap (λ c. c .number) all in
+          let begin : place ≡ 0 = ap (λ c. c .place) all in
+          rw begin
+          (refused-said h (record { hall = s; counters = countersOf t }) (length bytes) m e s′ (q ∙ ap refused (sym number))
+          (ap (λ c. c .buffers .hall) all))
+
+-- the bytes of each kind
+pub act-written : (p : ℕ) → OneEntry (1 ∷ p ∷ []) (entryOf (entry.Act p))
+unfolding schedule
+act-written p = record { says = refl }
+
+pub inside-written : (p k : ℕ) → OneEntry (2 ∷ p ∷ k ∷ []) (entryOf (entry.Inside p k))
+unfolding schedule
+inside-written p k = record { says = refl }
 
 -- ---- behind the admission
 

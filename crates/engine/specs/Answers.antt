@@ -2,16 +2,19 @@
 -- Assumes nothing.
 use Prim.Native.Nat.{ℕ, _<_}
 use mathlib.Core.Path.{_≡_}
-use mathlib.Core.List.{List}
+use mathlib.Core.List.{List, [], _∷_}
+use lib.ListN.{length}
 use Rattle.semantics.specs.Definitions.Terms.{Term}
 use Rattle.semantics.specs.Definitions.Configuration.{Configuration}
 use Rattle.semantics.specs.Definitions.Moves.{Entry, answerTo}
-use Rattle.semantics.specs.Definitions.Run.{Counters}
+use Rattle.semantics.specs.Definitions.Run.{Counters, entry, schedule}
 use Rattle.semantics.specs.Definitions.Calls.{Verdict, ok, rejected, Opening, opened, notOpened, Buffers, StepCall, suggested, still, notSuggested}
 use Rattle.semantics.specs.Definitions.Calls as calls
 use Rattle.theorems.proofs.Steps.{answered}
 use Rattle.terms.specs.Decoded.{Decoded}
 use Rattle.index.specs.Holds.{Holds}
+use Rattle.rules.specs.declared.Reply.{Reply}
+use Rattle.rules.specs.declared.Reply.the-variants as reply
 use Rattle.counters.specs.declared.Counters as counters
 use Rattle.counters.specs.Counted.{countersOf}
 use Rattle.schedule.specs.Entries.{entryOf}
@@ -61,6 +64,15 @@ stepCallOf (step.Refused n p) l = record { number = n; place = p; rule = 0; buff
 abbrev pub StepCaseDecided : StepAnswer → Type 0
 StepCaseDecided (step.Moved r p c) = Unit {0}
 StepCaseDecided (step.Refused n p) = 0 < n
+
+-- the rule of a move
+abbrev pub ruleOf : Reply → ℕ
+ruleOf (reply.Moved rule) = rule
+ruleOf (reply.Refused n) = 0
+
+-- these bytes are one entry
+pub record OneEntry (bytes : List ℕ) (e : Entry) : Type 0 where
+  pub says : schedule bytes ≡ entry e (length bytes) ∷ []
 
 -- r is the answer to an entry of so many bytes, and s′ are the bytes afterwards, whichever configuration of whichever
 -- table is held

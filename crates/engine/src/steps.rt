@@ -3,19 +3,19 @@ use admission::Admission;
 use counters::Counters;
 use rules::Reply;
 use rules::UNKNOWN_KIND;
-use schedule::ACT_SIZE;
+use runs::RunAnswer;
 use schedule::Entry;
-use schedule::INSIDE_SIZE;
 use schedule::KIND_ACT;
 use schedule::KIND_INSIDE;
 use stored::INDEX_SIZE;
 use terms::DECODED;
 ghost use mathlib.Core.Path.{_≡_};
+ghost use lib.ListN.{length};
 ghost use Rattle.semantics.specs.Definitions.Calls.{stepCall};
 ghost use Rattle.counters.specs.Counted.{countersOf};
 ghost use Rattle.index.specs.Holds.{Running};
 ghost use Rattle.schedule.specs.Entries.{entryOf};
-ghost use Rattle.engine.specs.Answers.{buffersOf, stepCallOf, StepCaseDecided, Stepped};
+ghost use Rattle.engine.specs.Answers.{ruleOf, OneEntry, buffersOf, stepCallOf, StepCaseDecided, Stepped};
 
 // The rule by which a choice moved, the place behind it and the counters after it; or the refusal's number and place,
 // where the counters stay as they were.
@@ -31,29 +31,49 @@ pub enum StepAnswer {
     },
 }
 
-// A choice of so many bytes, made on a configuration that is held.
+// The rule of a move; 0 for a refusal.
+fn rule_of(reply: Reply) -> u8
+    ensures { λ r. ⌜ r ≡ ruleOf reply ⌝ }
+{
+    match reply {
+        Reply::Moved(rule) => rule,
+        Reply::Refused(_) => 0,
+    }
+}
+
+// The choice that these bytes are, made on a configuration that is held: looked at, which tells its rule, and then run.
+// Nothing but a run makes a choice, so that the compiler can make a run one loop.
 fn step_held(
     decoded: &[u8; DECODED],
     hall: &mut [u8],
     starts: &mut [usize; INDEX_SIZE],
     components: usize,
     entry: Entry,
-    size: usize,
+    bytes: &[u8],
     counters: Counters,
 ) -> StepAnswer
     requires { ⌜ Running (now decoded) (now hall) (now starts) components ⌝ }
+    requires { ⌜ OneEntry (now bytes) (entryOf entry) ⌝ }
     ensures { λ r. ⌜ Stepped (now (decoded .entry)) (now (hall .entry)) (now (starts .entry)) components (entryOf entry)
-        size (countersOf counters) r (now (hall .exit)) ⌝ }
+        (length (now (bytes .entry))) (countersOf counters) r (now (hall .exit)) ⌝ }
 {
-    let made = choices::make(decoded, hall, starts, components, entry);
-    let reply = made.reply;
-    match reply {
-        Reply::Moved(rule) => StepAnswer::Moved {
-            rule,
-            place: size,
-            counters: counters.count(rule),
+    let reply = choices::look(decoded, hall, starts, components, entry);
+    match runs::run_held(decoded, hall, starts, components, bytes, counters) {
+        RunAnswer::Completed {
+            place: _,
+            done: _,
+            counters: tally,
+        } => StepAnswer::Moved {
+            rule: rule_of(reply),
+            place: bytes.len(),
+            counters: tally,
         },
-        Reply::Refused(number) => StepAnswer::Refused { number, place: 0 },
+        RunAnswer::Refused {
+            number,
+            place,
+            done: _,
+            counters: _,
+        } => StepAnswer::Refused { number, place },
     }
 }
 
@@ -75,24 +95,32 @@ pub fn step(
     let mut starts = [0usize; INDEX_SIZE];
     match admission::admit(table, hall, &mut decoded, &mut starts) {
         Admission::Admitted { components } => match kind {
-            KIND_ACT => step_held(
-                &decoded,
-                hall,
-                &mut starts,
-                components,
-                Entry::Act { position },
-                ACT_SIZE,
-                counters,
-            ),
-            KIND_INSIDE => step_held(
-                &decoded,
-                hall,
-                &mut starts,
-                components,
-                Entry::Inside { position, node },
-                INSIDE_SIZE,
-                counters,
-            ),
+            KIND_ACT => {
+                let bytes = [KIND_ACT, position];
+                let entry = Entry::Act { position };
+                step_held(
+                    &decoded,
+                    hall,
+                    &mut starts,
+                    components,
+                    entry,
+                    &bytes,
+                    counters,
+                )
+            }
+            KIND_INSIDE => {
+                let bytes = [KIND_INSIDE, position, node];
+                let entry = Entry::Inside { position, node };
+                step_held(
+                    &decoded,
+                    hall,
+                    &mut starts,
+                    components,
+                    entry,
+                    &bytes,
+                    counters,
+                )
+            }
             _ => StepAnswer::Refused {
                 number: UNKNOWN_KIND,
                 place: 0,

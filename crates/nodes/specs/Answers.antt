@@ -2,7 +2,7 @@
 --
 -- d is a decoded table of n terms, s has the bytes.
 -- Assumes nothing.
-use Prim.Native.Nat.{ℕ, suc, _+_, _≤_}
+use Prim.Native.Nat.{ℕ, suc, _+_, _*_, _-_, _≤_}
 use mathlib.Core.Path.{_≡_}
 use mathlib.Core.Bool.{cond}
 use mathlib.Core.Option.{Option, none, some}
@@ -13,7 +13,7 @@ use Rattle.semantics.specs.Definitions.Terms.{Expression, Term, branches, pathL
 use Rattle.semantics.specs.Definitions.Configuration.{Tree, branchesOf}
 use Rattle.semantics.specs.Definitions.Stored.{leafExpression, leafFrom}
 use Rattle.terms.specs.Decoded.{Decoded}
-use Rattle.stored.specs.Layout.{leafBody, leafTerm}
+use Rattle.stored.specs.Layout.{leafBody, leafTerm, actionBytes, logSize}
 use Rattle.stored.specs.Nodes.{nodeSize}
 use Rattle.storedlaws.specs.Reading.{treesFrom, boundsBehind}
 use Rattle.nodes.specs.declared.Remaining.{Remaining}
@@ -39,9 +39,16 @@ pub record RemainingRead (d : List ℕ) (n byte : ℕ) (r : Remaining) : Type 0 
 
 -- ---- a log's bytes
 
--- 0 for a byte below its limit, and 1 for another
+-- 0 for a byte that is at most its limit, and 1 for another
 unfoldable pub excessOf : (byte limit : ℕ) → ℕ
-excessOf b limit = cond (ltb b limit) 0 1
+excessOf b limit = cond (ltb limit b) 1 0
+
+-- the first place behind a log's actions, and the largest byte that may stand at a place
+abbrev pub zerosPlace : ℕ
+zerosPlace = 2 * logSize
+
+unfoldable pub placeLimit : (place : ℕ) → ℕ
+placeLimit place = cond (ltb place zerosPlace) (actionBytes - 1) 0
 
 -- ---- a leaf
 

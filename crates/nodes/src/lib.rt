@@ -21,44 +21,10 @@ ghost use lib.ListN.{length, take, drop};
 ghost use Rattle.semantics.specs.Definitions.Layout.{maxTerms};
 ghost use Rattle.stored.specs.Layout.{logSize, leafSize};
 ghost use Rattle.storedlaws.specs.Reading.{isLog};
-ghost use Rattle.nodes.specs.Answers.{excessOf, RemainingRead, LeafRead, NodeRead};
+ghost use Rattle.nodes.specs.Answers.{excessOf, placeLimit, RemainingRead, LeafRead, NodeRead};
 
-// What the bytes of a log are below, from the place on where as many action limits follow as it has actions. Behind
-// the log all is zero.
-const LIMITS: [u8; 2 * LOG_SIZE] = [
-    ACTIONS,
-    ACTIONS,
-    ACTIONS,
-    ACTIONS,
-    ACTIONS,
-    ACTIONS,
-    ACTIONS,
-    ACTIONS,
-    ACTIONS,
-    ACTIONS,
-    ACTIONS,
-    ACTIONS,
-    ACTIONS,
-    ACTIONS,
-    ACTIONS,
-    ACTIONS,
-    1,
-    1,
-    1,
-    1,
-    1,
-    1,
-    1,
-    1,
-    1,
-    1,
-    1,
-    1,
-    1,
-    1,
-    1,
-    1,
-];
+// A log's actions have the places below this one, however many they are; the zeros behind it have those from here on.
+const ZEROS: u8 = 2 * LOG_SIZE as u8;
 
 // The measures of what remains at a leaf.
 pub enum Remaining {
@@ -96,25 +62,32 @@ pub fn remaining_at(decoded: &[u8; DECODED], n: usize, byte: u8) -> Remaining
     Remaining::Unknown
 }
 
-// 0 for a byte that is below its limit, and 1 for another.
+// 0 for a byte that is at most its limit, and 1 for another.
 pub fn excess(byte: u8, limit: u8) -> u8
     ensures { λ r. ⌜ r ≡ excessOf byte limit ⌝ }
 {
-    if byte < limit { 0 } else { 1 }
+    if limit < byte { 1 } else { 0 }
+}
+
+// The largest byte that may stand at a place.
+fn limit_at(place: u8) -> u8
+    ensures { λ r. ⌜ r ≡ placeLimit place ⌝ }
+{
+    if place < ZEROS { ACTIONS - 1 } else { 0 }
 }
 
 // Whether the 16 bytes at an offset are a log of `size` actions, with zeros behind them. Each byte is held against
-// its limit with no way out of the loop, so that all are compared at once.
+// its limit with no way out of the loop, so that all are compared at once. The limits are computed: a table of them would
+// be stored for each log, and a load across two stores waits for both.
 pub fn log_at(s: &[u8], at: usize, size: usize) -> bool
     requires { ⌜ (size ≤ logSize) × (at + logSize ≤ length (now s)) ⌝ }
     ensures { λ r. ⌜ r ≡ isLog size (take logSize (drop at (now (s .entry)))) ⌝ }
 {
-    let limits = LIMITS;
-    let first = LOG_SIZE - size;
+    let first = ZEROS - size as u8;
     let mut wrong: u8 = 0;
-    let mut i: usize = 0;
-    while i < LOG_SIZE {
-        wrong = larger(wrong, excess(s[at + i], limits[first + i]));
+    let mut i: u8 = 0;
+    while i < LOG_SIZE as u8 {
+        wrong = larger(wrong, excess(s[at + wide(i)], limit_at(first + i)));
         i += 1;
     }
     wrong == 0

@@ -50,7 +50,7 @@ fn write_single(decoded: &[u8; DECODED], term: usize, hall: &mut [u8], at: usize
 // The components of the process at a term number, from an offset on, the left side's first: the answer is the offset
 // behind them. A side's number is smaller, and a process is at most 64 wide, so the calls are few and not deep; only a
 // left side of two sides takes one.
-pub fn write_components(decoded: &[u8; DECODED], term: usize, hall: &mut [u8], at: usize) -> usize
+fn write_sides(decoded: &[u8; DECODED], term: usize, hall: &mut [u8], at: usize) -> usize
     requires { ⌜ ComponentsFit (now decoded) term (now hall) at ⌝ }
     ensures { λ r. ⌜ ComponentsWritten (now (decoded .entry)) term (now (hall .entry)) at (now (hall .exit)) r ⌝ }
 {
@@ -60,12 +60,23 @@ pub fn write_components(decoded: &[u8; DECODED], term: usize, hall: &mut [u8], a
         let left = wide(terms::first_of(decoded, rest));
         rest = wide(terms::second_of(decoded, rest));
         if terms::kind_of(decoded, left) == PAR {
-            end = write_components(decoded, left, hall, end);
+            end = write_sides(decoded, left, hall, end);
         } else {
             end = write_single(decoded, left, hall, end);
         }
     }
     write_single(decoded, rest, hall, end)
+}
+
+// The same, with no call for a process that is not two side by side.
+pub fn write_components(decoded: &[u8; DECODED], term: usize, hall: &mut [u8], at: usize) -> usize
+    requires { ⌜ ComponentsFit (now decoded) term (now hall) at ⌝ }
+    ensures { λ r. ⌜ ComponentsWritten (now (decoded .entry)) term (now (hall .entry)) at (now (hall .exit)) r ⌝ }
+{
+    if terms::kind_of(decoded, term) == PAR {
+        return write_sides(decoded, term, hall, at);
+    }
+    write_single(decoded, term, hall, at)
 }
 
 // How many components the process at a term number opens into: written into a buffer, and counted there. A process is at

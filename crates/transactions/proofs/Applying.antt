@@ -1,4 +1,4 @@
--- What each arm of `apply` may do, and that the move is made then.
+-- By the rule of a move: what the code may do, and that the move is made then.
 -- Assumes nothing.
 use Prim.Native.Nat.{ℕ, _+_, _≤_, _<_}
 use native.Mathlib.Omega.{arith}

@@ -31,7 +31,7 @@ use Rattle.logs.proofs.StoredLogs.{stored-readable-with}
 use Rattle.leaves.specs.Leaves.{NamesExpression, ExpressionKindRead, kindOfNode, TreeAt, NodePresent, LeafKindRead}
 use Rattle.leaves.proofs.Leaves.{as-fork, as-leaf, leaf-first, leaf-named, left-at, FieldsOf, leaf-fields}
 use Rattle.transactions.specs.Bytes.{termAt, sizeAt}
-use Rattle.transactions.specs.Finding.{innerReply, ReadAt, ReadHeld, ReadTried, leafRule, forkRule, NodeHeld, LeafHeld, RuleRead}
+use Rattle.transactions.specs.Finding.{innerReply, ReadAt, ReadHeld, ReadTested, ReadTried, leafRule, forkRule, NodeHeld, LeafHeld, RuleRead}
 
 -- ---- a leaf
 
@@ -64,21 +64,23 @@ leaf-at {ts} {M} {δ} {d} {s} {at} x =
 
 -- ---- a read
 
--- what the test answers is the rule's number
-module _ (s : List ℕ) (snapshot at a w : ℕ) (r : Bool) (below : a < channels) (size : w ≡ sizeAt s at)
-    (tested : r ≡ withinAt (needsOf (take w (drop (at + leafLog) s) ++ (a ∷ []))) s snapshot) where
-  read-is : (δ : Log) (σ : State) → ReadAt s snapshot at δ σ → r ≡ readable σ (δ ++ (rd a ∷ []))
-  read-is δ σ x =
+pub read-tested : (s : List ℕ) (snapshot at a w : ℕ) (r : Bool) → a < channels → w ≡ sizeAt s at →
+    r ≡ withinAt (needsOf (take w (drop (at + leafLog) s) ++ (a ∷ []))) s snapshot → ReadTested s snapshot at a r
+read-tested s snapshot at a w r below size tested = record {
+  found = λ δ σ x.
       stored-readable-with s (at + leafLog) w δ (x .log) (size ∙ x .size) snapshot σ a _ r
-      (x .counts) below refl tested
+      (x .counts) below refl tested;
+}
 
+-- what the test answers is the rule's number
+module _ (s : List ℕ) (snapshot at a : ℕ) (r : Bool) (tested : ReadTested s snapshot at a r) where
   pub read-allowed : r ≡ true → ReadTried s snapshot at a (Moved 8)
   unfolding reads innerReply replyIs
-  read-allowed e = record { found = λ δ σ M x. rw (sym (read-is δ σ x) ∙ e) }
+  read-allowed e = record { found = λ δ σ M x. rw (sym (tested .found δ σ x) ∙ e) }
 
   pub read-failed : r ≡ false → ReadTried s snapshot at a (Moved 9)
   unfolding reads innerReply replyIs
-  read-failed e = record { found = λ δ σ M x. rw (sym (read-is δ σ x) ∙ e) }
+  read-failed e = record { found = λ δ σ M x. rw (sym (tested .found δ σ x) ∙ e) }
 
 -- ---- the rule for a leaf
 

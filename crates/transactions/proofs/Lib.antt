@@ -5,3 +5,4 @@ pub mod Searching
 pub mod Moving
 pub mod InnerMoves
 pub mod Applying
+pub mod Making

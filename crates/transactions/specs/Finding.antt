@@ -4,12 +4,13 @@
 -- Assumes nothing.
 use Prim.Native.Nat.{ℕ, _+_, _≤_, _<_}
 use mathlib.Core.Path.{_≡_}
-use mathlib.Core.Bool.{cond}
-use mathlib.Core.List.{List}
+use mathlib.Core.Bool.{Bool, cond}
+use mathlib.Core.List.{List, [], _∷_, _++_}
 use lib.ListN.{length}
 use lib.Dec.{eqb}
-use Rattle.calculus.specs.Syntax.{Log, State}
+use Rattle.calculus.specs.Syntax.{rd, Log, State}
 use Rattle.semantics.specs.Definitions.Terms.{Expression, Term}
+use Rattle.semantics.specs.Definitions.Logs.{readable}
 use Rattle.semantics.specs.Definitions.Configuration.{Tree, leaf, Configuration}
 use Rattle.semantics.specs.Definitions.Table.{endK, retryK, wtK, orElseK}
 use Rattle.semantics.specs.Checks.AcceptedTables.{kindByte}
@@ -56,6 +57,10 @@ pub record ReadHeld (s : List ℕ) (snapshot at : ℕ) : Type 0 where
   pub inside : at + leafSize ≤ length s
   pub few : sizeAt s at ≤ logSize
   pub counted : snapshot + channels ≤ length s
+
+-- r tells whether the log with a read of channel a is readable at the counts, whatever they are
+pub record ReadTested (s : List ℕ) (snapshot at a : ℕ) (r : Bool) : Type 0 where
+  pub found : (δ : Log) (σ : State) → ReadAt s snapshot at δ σ → r ≡ readable σ (δ ++ (rd a ∷ []))
 
 -- r tells the rule by which a read of channel a moves, whatever the log, the counts and what follows are
 pub record ReadTried (s : List ℕ) (snapshot at a : ℕ) (r : code.Reply) : Type 0 where

@@ -11,10 +11,14 @@ use Rattle.semantics.specs.Definitions.Configuration.{Configuration}
 use Rattle.semantics.specs.Definitions.Moves.{inside, answerTo, movedBy, replyOf}
 use Rattle.terms.specs.Decoded.{Decoded}
 use Rattle.stored.specs.declared.Place.the-variants.{At}
-use Rattle.stored.specs.Layout.{transactionHead}
+use Rattle.stored.specs.Layout.{idleSize, transactionHead}
 use Rattle.stored.specs.Nodes.{nodeStart}
 use Rattle.index.specs.Holds.{Holds}
 use Rattle.index.specs.Choices.{afterwards}
+use Rattle.rules.specs.declared.Reply.{Reply}
+use Rattle.rules.specs.declared.Reply.the-variants.{Moved, Refused}
+use Rattle.leaves.specs.Leaves.{TransactionAt}
+use Rattle.transactions.specs.Finding.{RuleRead}
 
 -- node number k of the transaction at position p begins at this offset, and moves by the rule of this number
 pub record MoveAt (ts : List Term) (h : Configuration) (d s starts : List ℕ) (n p k rule at : ℕ) : Type 0 where
@@ -33,3 +37,23 @@ pub record CanMove (d s starts : List ℕ) (n p rule at : ℕ) : Type 0 where
 pub record HasMoved (d s starts : List ℕ) (n p rule at : ℕ) (s′ starts′ : List ℕ) : Type 0 where
   pub found : (ts : List Term) (h : Configuration) (k : ℕ) → MoveAt ts h d s starts n p k rule at →
       Holds ts (afterwards (answerTo h (inside p k)) h) s′ starts′ n
+
+-- ---- a node that moves, by what stands there
+
+-- where the snapshot of the transaction at position p begins
+abbrev pub snapshotOf : (starts : List ℕ) (p : ℕ) → ℕ
+snapshotOf starts p = getD starts p 0 + idleSize
+
+-- some node of the transaction at position p begins at this offset
+pub record NodeStands (d s starts : List ℕ) (n p at : ℕ) : Type 0 where
+  pub terms : List Term
+  pub configuration : Configuration
+  pub node : ℕ
+  pub there : TransactionAt terms configuration d s starts n p (getD starts p 0)
+  pub place : nodeStart s (getD starts p 0 + transactionHead) node ≡ At at
+
+-- r is what the node is answered; its move is made, or all is as it was
+pub record NodeMoved (d s starts : List ℕ) (n p at : ℕ) (r : Reply) (s′ starts′ : List ℕ) : Type 0 where
+  pub read : RuleRead d s (snapshotOf starts p) at r
+  pub made : (rule : ℕ) → r ≡ Moved rule → HasMoved d s starts n p rule at s′ starts′
+  pub kept : (m : ℕ) → r ≡ Refused m → (s′ ≡ s) × (starts′ ≡ starts)

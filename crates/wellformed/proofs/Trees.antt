@@ -8,6 +8,7 @@ use mathlib.Core.Option.{Option, none, some}
 use mathlib.Core.List.{List, [], _∷_}
 use lib.ListN.{length, getD, drop}
 use lib.Dec.{eqb}
+use borrow.Author.Tests.{eq-eqb}
 use Rattle.semantics.specs.Definitions.Basics.{All}
 use mathlib.Core.Option.{bind}
 use Rattle.semantics.specs.Definitions.Terms.{Term}
@@ -156,3 +157,18 @@ module _ (d : List ℕ) (n : ℕ) (s : List ℕ) (tree : ℕ) where
         -- the rest of the bytes is shorter
         pub tree-falls : length s - (at + z) < length s - at
         tree-falls = let o = node-inside in let c = size-bounds k z u in omega arith
+
+  -- past the last leaf
+  module _ (p b at : ℕ) (x : TreeSoFar p b at) (m : NodeTest) (r : NodeRead d n s at m) (q : p ≡ 0 → ⊥) (w w′ : ℕ)
+      (h : m ≡ node.Branches w) (v : w′ ≡ w) (k : ℕ) (j : k ≡ getD s at 0) (z : ℕ) (u : z ≡ nodeSize k) (p′ : ℕ)
+      (e : p′ ≡ pendingBehind k p) (last : p′ ≡ 0) where
+    pub tree-ended : b + w′ ≤ maxBranches → TreeRead d n s tree (Next (at + z))
+    tree-ended few = tree-done p′ (b + w′) (at + z) (tree-turn p b at x m r q w w′ h v k j z u p′ e) (omega arith) last
+
+    pub tree-overfull : maxBranches < b + w′ → TreeRead d n s tree Malformed
+    tree-overfull many = tree-crowded p′ (b + w′) (at + z) (tree-turn p b at x m r q w w′ h v k j z u p′ e) (omega arith)
+
+-- behind a fork more is to come
+pub fork-pending : (k p p′ : ℕ) → k ≡ forkKind → p′ ≡ pendingBehind k p → p′ ≡ 0 → ⊥
+unfolding pendingBehind
+fork-pending k p p′ h e z = let f = rw (eq-eqb k forkKind h) at e in omega arith

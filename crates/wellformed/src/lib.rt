@@ -13,6 +13,7 @@ use stored::CHANNELS;
 use stored::COMPONENT_BODY;
 use stored::IDLE_SIZE;
 use stored::INDEX_SIZE;
+use stored::KIND_FORK;
 use stored::KIND_OUTPUT;
 use stored::KIND_TRANSACTION;
 use stored::KIND_WAITING;
@@ -94,7 +95,8 @@ pub fn waits_on(kind: u8) -> bool
 }
 
 // The tree that begins at an offset. `pending` subtrees are still to come, and each has a branch at least, so that a
-// tree of too many branches is given up as soon as it shows: many forks in a row cost no more than few.
+// tree of too many branches is given up as soon as it shows: many forks in a row cost no more than few. A fork and a leaf
+// each have a way of their own through a turn: the numbers on it are known, and only a leaf ends a tree.
 pub fn tree_scan(decoded: &[u8; DECODED], n: usize, s: &[u8], tree: usize) -> Scan
     requires { ⌜ (n ≤ maxTerms) × (tree ≤ length (now s)) ⌝ }
     ensures { λ r. ⌜ TreeRead (now (decoded .entry)) n (now (s .entry)) tree r ⌝ }
@@ -103,16 +105,24 @@ pub fn tree_scan(decoded: &[u8; DECODED], n: usize, s: &[u8], tree: usize) -> Sc
     let mut sum: usize = 0;
     let mut at = tree;
     while sum + pending <= MAX_BRANCHES as usize {
-        if pending == 0 {
-            return Scan::Next(at);
-        }
         let NodeTest::Branches(branches) = node_at(decoded, n, s, at) else {
             return Scan::Malformed;
         };
         let kind = s[at];
-        pending = pending_behind(kind, pending);
         sum += wide(branches);
-        at += node_size(kind);
+        if kind == KIND_FORK {
+            pending = pending_behind(kind, pending);
+            at += node_size(kind);
+        } else {
+            pending = pending_behind(kind, pending);
+            at += node_size(kind);
+            if pending == 0 {
+                if sum <= MAX_BRANCHES as usize {
+                    return Scan::Next(at);
+                }
+                return Scan::Malformed;
+            }
+        }
     }
     Scan::Malformed
 }

@@ -1,4 +1,4 @@
--- `log_at` meets its contract: the bytes so far are below their limits where none exceeded its own. Assumes nothing.
+-- `log_at` meets its contract: the bytes so far are at most their limits where none exceeded its own. Assumes nothing.
 use Prim.Native.Nat.{_-_, _≤_}
 use native.Mathlib.Omega.{arith}
 use Rattle.nodes.proofs.Logs.{LogSoFar, log-begun, log-turn, log-done}
@@ -8,10 +8,13 @@ use Rattle.nodes.proofs.log_at.Tie as tie
 use Rattle.stored.specs.Layout.{logSize}
 
 abbrev Inv-loop : tie.InvT-loop
-Inv-loop s at size limits first wrong₀ i₀ wrong i = (i ≤ logSize) × LogSoFar s at size wrong i
+Inv-loop s at size first wrong₀ i₀ wrong i = (i ≤ logSize) × LogSoFar s at size wrong i
 
 abbrev μ-loop : tie.MeasureT-loop
-μ-loop s at size limits first wrong₀ i₀ wrong i = logSize - i
+μ-loop s at size first wrong₀ i₀ wrong i = logSize - i
+
+cast-first : tie.Need-cast-first Inv-loop μ-loop
+cast-first c = search needs
 
 sub-first : tie.Need-sub-first Inv-loop μ-loop
 sub-first c = search needs
@@ -19,17 +22,23 @@ sub-first c = search needs
 loop-holds : tie.Need-loop-holds Inv-loop μ-loop
 loop-holds c = (omega arith, log-begun _ _ _)
 
+cast-loop : tie.Need-cast-loop Inv-loop μ-loop
+cast-loop c = search needs
+
+wide-requires : tie.Need-wide-requires Inv-loop μ-loop
+wide-requires c κs = search needs
+
 add-excess : tie.Need-add-excess Inv-loop μ-loop
 add-excess c = search needs
 
 shared-slice-read-excess : tie.Need-shared-slice-read-excess Inv-loop μ-loop
 shared-slice-read-excess c = search needs
 
-add-excess-2 : tie.Need-add-excess-2 Inv-loop μ-loop
-add-excess-2 c = search needs
+add-limit-at : tie.Need-add-limit-at Inv-loop μ-loop
+add-limit-at c = search needs
 
-array-read-excess : tie.Need-array-read-excess Inv-loop μ-loop
-array-read-excess c = search needs
+limit-at-requires : tie.Need-limit-at-requires Inv-loop μ-loop
+limit-at-requires c κs = search needs
 
 excess-requires : tie.Need-excess-requires Inv-loop μ-loop
 excess-requires c κs = search needs
@@ -44,11 +53,7 @@ loop-less : tie.Need-loop-less Inv-loop μ-loop
 loop-less c = search needs
 
 loop-again : tie.Need-loop-again Inv-loop μ-loop
-loop-again c = (
-  omega arith,
-  log-turn _ _ _ _ _ _ _ (c .before .before .before .before .loop .inv .1) (c .before .excess .ensures) (c .larger .ensures)
-      (c .before .before .before .before .before .before .pre .0) (omega arith) (omega arith),
-)
+loop-again c = (omega arith, search log-turn)
 
 returns : tie.Need-returns Inv-loop μ-loop
 returns c = search log-done
@@ -59,12 +64,15 @@ log-at-spec =
     (tie.spec
     Inv-loop
     μ-loop
+    cast-first
     sub-first
     loop-holds
+    cast-loop
+    wide-requires
     add-excess
     shared-slice-read-excess
-    add-excess-2
-    array-read-excess
+    add-limit-at
+    limit-at-requires
     excess-requires
     larger-requires
     add-i

@@ -1,46 +1,71 @@
 -- `act_inside` meets its contract. Assumes nothing.
-use Rattle.choices.proofs.Making.{can-move, inside-moved, inside-refused}
+use Rattle.choices.proofs.Looking.{kind-inside}
+use Rattle.choices.proofs.Making.{past-refused, idle-refused, nodes-inside, nodes-fit, node-missing, node-stands, node-chosen}
 use borrow.Author.Needs.{needs}
 use Rattle.choices.proofs.inside.act_inside.Statement.{statement}
 use Rattle.choices.proofs.inside.act_inside.Tie as tie
 
-find-inside-requires : tie.Need-find-inside-requires
-find-inside-requires c κs = search needs
-
-enum-known-rule : tie.Need-enum-known-rule
-enum-known-rule c = search needs
-
 wide-requires : tie.Need-wide-requires
 wide-requires c κs = search needs
 
-apply-requires : tie.Need-apply-requires
-apply-requires c κs = search can-move
+returns : tie.Need-returns
+returns c = search past-refused
 
-enum-known-number : tie.Need-enum-known-number
-enum-known-number c = search needs
+mul-transaction : tie.Need-mul-transaction
+mul-transaction c = search needs
+
+element-copy-out-transaction : tie.Need-element-copy-out-transaction
+element-copy-out-transaction c = search needs
+
+slice-read-if2 : tie.Need-slice-read-if2
+slice-read-if2 c = search kind-inside
+
+returns-2 : tie.Need-returns-2
+returns-2 c = search idle-refused
+
+add-node-start : tie.Need-add-node-start
+add-node-start c = search nodes-fit
+
+node-start-requires : tie.Need-node-start-requires
+node-start-requires c κs = search nodes-inside
+
+enum-told : tie.Need-enum-told
+enum-told c = search needs
+
+enum-known-at : tie.Need-enum-known-at
+enum-known-at c = search needs
+
+move-at-requires : tie.Need-move-at-requires
+move-at-requires c κs = search node-stands
 
 same-length : tie.Need-same-length
 same-length c = search needs
 
-returns : tie.Need-returns
-returns c = search inside-moved
+returns-3 : tie.Need-returns-3
+returns-3 c = search node-missing
 
 same-length-2 : tie.Need-same-length-2
 same-length-2 c = search needs
 
-returns-2 : tie.Need-returns-2
-returns-2 c = search inside-refused
+returns-4 : tie.Need-returns-4
+returns-4 c = search node-chosen
 
 pub act-inside-spec : {M : Type 1} → statement M
 act-inside-spec =
     tie.close
     (tie.spec
-    find-inside-requires
-    enum-known-rule
     wide-requires
-    apply-requires
-    enum-known-number
-    same-length
     returns
+    mul-transaction
+    element-copy-out-transaction
+    slice-read-if2
+    returns-2
+    add-node-start
+    node-start-requires
+    enum-told
+    enum-known-at
+    move-at-requires
+    same-length
+    returns-3
     same-length-2
-    returns-2)
+    returns-4)

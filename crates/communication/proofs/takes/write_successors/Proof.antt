@@ -18,7 +18,7 @@ write-components-requires c κs =
     let wide2 = c .before in
     let second = wide2 .before in
     let wide = second .before in
-    continuation-fits _ _ _ (wide .wide .ensures) _ (wide .before .pre) _ _ (second .second-of .ensures)
+    continuation-fits _ _ _ (wide .wide .ensures) _ (wide .before .before .pre) _ _ (second .second-of .ensures)
     (wide2 .wide2 .ensures)
 
 kind-of-requires : tie.Need-kind-of-requires
@@ -26,15 +26,21 @@ kind-of-requires c κs = search write-successors-inside
 
 write-idle-requires : tie.Need-write-idle-requires
 write-idle-requires c κs =
-    let written = c .before .before .before in
+    let written = c .before .before .before .before .before in
     let wide2 = written .before .before in
     let second = wide2 .before in
     let wide = second .before in
-    behind-fits _ _ _ (wide .wide .ensures) _ (wide .before .pre) _ _ (second .second-of .ensures)
+    behind-fits _ _ _ (wide .wide .ensures) _ (wide .before .before .pre) _ _ (second .second-of .ensures)
     (wide2 .wide2 .ensures) _ _ (written .write-components .ensures)
+
+same-length : tie.Need-same-length
+same-length c = search needs
 
 returns : tie.Need-returns
 returns c = search repeat-laid
+
+same-length-2 : tie.Need-same-length-2
+same-length-2 c = search needs
 
 returns-2 : tie.Need-returns-2
 returns-2 c = search take-laid
@@ -49,5 +55,7 @@ write-successors-spec =
     write-components-requires
     kind-of-requires
     write-idle-requires
+    same-length
     returns
+    same-length-2
     returns-2)

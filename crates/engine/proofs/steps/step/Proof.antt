@@ -1,6 +1,6 @@
 -- `step` meets its contract: by its kind where the hall is admitted, and turned down otherwise. Assumes nothing.
 use native.Mathlib.Omega.{arith}
-use Rattle.engine.proofs.Calls.{number-told, stepped-turned-down, held-running, stepped-unknown, stepped-act, stepped-inside}
+use Rattle.engine.proofs.Calls.{number-told, stepped-turned-down, held-running, stepped-unknown, act-written, inside-written, stepped-act, stepped-inside}
 use borrow.Author.Needs.{needs}
 use Rattle.engine.proofs.steps.step.Statement.{statement}
 use Rattle.engine.proofs.steps.step.Tie as tie
@@ -11,11 +11,17 @@ admit-requires c κs = search needs
 enum-known-components : tie.Need-enum-known-components
 enum-known-components c = search needs
 
+slice-aggregate-step-held : tie.Need-slice-aggregate-step-held
+slice-aggregate-step-held c = search needs
+
 step-held-requires : tie.Need-step-held-requires
-step-held-requires c κs = search held-running
+step-held-requires c κs = (search held-running, search act-written)
+
+slice-aggregate-step-held-2 : tie.Need-slice-aggregate-step-held-2
+slice-aggregate-step-held-2 c = search needs
 
 step-held-requires-2 : tie.Need-step-held-requires-2
-step-held-requires-2 c κs = search held-running
+step-held-requires-2 c κs = (search held-running, search inside-written)
 
 enum-known-number : tie.Need-enum-known-number
 enum-known-number c = search needs
@@ -50,7 +56,9 @@ step-spec =
     (tie.spec
     admit-requires
     enum-known-components
+    slice-aggregate-step-held
     step-held-requires
+    slice-aggregate-step-held-2
     step-held-requires-2
     enum-known-number
     same-length

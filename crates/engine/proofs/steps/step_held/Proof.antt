@@ -1,20 +1,23 @@
--- `step_held` meets its contract: moved, or refused. Assumes nothing.
+-- `step_held` meets its contract: the run did the choice, or it is refused. Assumes nothing.
 use Rattle.engine.proofs.Calls.{step-moved, step-refused}
 use borrow.Author.Needs.{needs}
 use Rattle.engine.proofs.steps.step_held.Statement.{statement}
 use Rattle.engine.proofs.steps.step_held.Tie as tie
 
-make-requires : tie.Need-make-requires
-make-requires c κs = search needs
+look-requires : tie.Need-look-requires
+look-requires c κs = search needs
 
-enum-known-reply : tie.Need-enum-known-reply
-enum-known-reply c = search needs
+run-held-requires : tie.Need-run-held-requires
+run-held-requires c κs = search needs
 
-count-requires : tie.Need-count-requires
-count-requires c κs = search needs
+enum-known-tally : tie.Need-enum-known-tally
+enum-known-tally c = search needs
 
-enum-known-reply-2 : tie.Need-enum-known-reply-2
-enum-known-reply-2 c = search needs
+rule-of-requires : tie.Need-rule-of-requires
+rule-of-requires c κs = search needs
+
+enum-known-number : tie.Need-enum-known-number
+enum-known-number c = search needs
 
 same-length : tie.Need-same-length
 same-length c = search needs
@@ -32,10 +35,11 @@ pub step-held-spec : {M : Type 1} → statement M
 step-held-spec =
     tie.close
     (tie.spec
-    make-requires
-    enum-known-reply
-    count-requires
-    enum-known-reply-2
+    look-requires
+    run-held-requires
+    enum-known-tally
+    rule-of-requires
+    enum-known-number
     same-length
     returns
     same-length-2
