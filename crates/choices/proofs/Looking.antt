@@ -37,7 +37,7 @@ use Rattle.communication.specs.Tokens.{OutputHeld, OutputLooked, takeOf, TakeHe
 use Rattle.blocks.proofs.Beginning.{block-begins}
 use Rattle.blocks.specs.Ends.{CanLookEnd, EndLooked}
 use Rattle.transactions.specs.Finding.{replied, Findable, Searched}
-use Rattle.choices.specs.Entries.{kindOf, bodyOf, LookedInside}
+use Rattle.choices.specs.Entries.{kindHeld, bodyOf, LookedInside}
 
 -- ---- what stands at a position
 
@@ -63,8 +63,8 @@ record Waits (ts : List Term) (h : Configuration) (n p term : ℕ) : Type 0 wher
   waiting : Waiting ts term component
 
 module _ {ts : List Term} {h : Configuration} {s starts : List ℕ} {n p : ℕ} (x : Holds ts h s starts n) (l : p < n)
-    (noTransaction : kindOf s starts p ≡ transactionKind → ⊥) (noOutput : kindOf s starts p ≡ outputKind → ⊥) where
-  waits-kind : (c : Component) → kindOf s starts p ≡ getD (componentBytes c) 0 0 → kindOf s starts p ≡ waitingKind
+    (noTransaction : kindHeld s starts p ≡ transactionKind → ⊥) (noOutput : kindHeld s starts p ≡ outputKind → ⊥) where
+  waits-kind : (c : Component) → kindHeld s starts p ≡ getD (componentBytes c) 0 0 → kindHeld s starts p ≡ waitingKind
   unfolding componentBytes
   waits-kind (idle (taking m a P)) e = e
   waits-kind (idle (repeating m a P)) e = e
@@ -98,7 +98,7 @@ module _ {d s starts : List ℕ} {n : ℕ} where
 
   module _ {p : ℕ} where
     -- a transaction
-    pub end-held : Running d s starts n → p < n → kindOf s starts p ≡ transactionKind →
+    pub end-held : Running d s starts n → p < n → kindHeld s starts p ≡ transactionKind →
         CanLookEnd d s n (getD starts p 0)
     end-held x l k = record {
       terms = x .terms;
@@ -109,14 +109,14 @@ module _ {d s starts : List ℕ} {n : ℕ} where
     }
 
     pub end-looked : {q : ℕ} {r : Reply} → EndLooked d s n (getD starts p 0) r → p < n →
-        kindOf s starts p ≡ transactionKind → p ≡ q →
+        kindHeld s starts p ≡ transactionKind → p ≡ q →
         Looked d s starts n (act q) r
     end-looked f l k e = rw (← e) (record {
       found = λ ts h y x. f .found ts h starts p (record { decoded = y; holds = x; there = l; begins = refl; kind = k });
     })
 
     -- an output
-    pub output-held : Running d s starts n → p < n → kindOf s starts p ≡ outputKind → OutputHeld s (bodyOf s starts p)
+    pub output-held : Running d s starts n → p < n → kindHeld s starts p ≡ outputKind → OutputHeld s (bodyOf s starts p)
     output-held x l k =
         let (c, e) = component-at (x .holds) p l in record {
           terms = x .terms;
@@ -129,7 +129,7 @@ module _ {d s starts : List ℕ} {n : ℕ} where
         }
 
     pub output-looked : {q : ℕ} {r : Reply} → OutputLooked s (bodyOf s starts p) r → p < n →
-        kindOf s starts p ≡ outputKind → p ≡ q →
+        kindHeld s starts p ≡ outputKind → p ≡ q →
         Looked d s starts n (act q) r
     output-looked f l k e = rw (← e) (record {
       found = λ ts h y x.
@@ -137,8 +137,8 @@ module _ {d s starts : List ℕ} {n : ℕ} where
           f .found ts h starts n p x (there ∙ ap some (output-here x p c there k));
     })
 
-    module _ (l : p < n) (noTransaction : kindOf s starts p ≡ transactionKind → ⊥)
-        (noOutput : kindOf s starts p ≡ outputKind → ⊥) where
+    module _ (l : p < n) (noTransaction : kindHeld s starts p ≡ transactionKind → ⊥)
+        (noOutput : kindHeld s starts p ≡ outputKind → ⊥) where
       -- one that waits has the number of a term
       pub waiting-term : {i : ℕ} → Running d s starts n → i ≡ bodyOf s starts p → i < maxTerms
       waiting-term {i} x e = go (waits (x .holds) l noTransaction noOutput .waiting)
@@ -186,8 +186,8 @@ module _ {d s starts : List ℕ} {n : ℕ} where
           })
 
 pub take-held : {d s starts : List ℕ} {n p i k : ℕ} → Running d s starts n → p < n →
-    (kindOf s starts p ≡ transactionKind → ⊥) →
-    (kindOf s starts p ≡ outputKind → ⊥) → i ≡ bodyOf s starts p → k ≡ kindAt d i → (k ≡ kindByte atomK → ⊥) →
+    (kindHeld s starts p ≡ transactionKind → ⊥) →
+    (kindHeld s starts p ≡ outputKind → ⊥) → i ≡ bodyOf s starts p → k ≡ kindAt d i → (k ≡ kindByte atomK → ⊥) →
     TakeHeld d s n (bodyOf s starts p)
 take-held {starts = starts} {p = p} x l noTransaction noOutput named read other =
     let (b, a, P, e) = waits-take l noTransaction noOutput named read other (x .decoded) (x .holds) in record {
@@ -207,7 +207,7 @@ take-held {starts = starts} {p = p} x l noTransaction noOutput named read other 
 
 -- at a transaction
 pub find-held : {d s starts : List ℕ} {n p : ℕ} → Running d s starts n → p < n →
-    kindOf s starts p ≡ transactionKind → Findable d s (getD starts p 0)
+    kindHeld s starts p ≡ transactionKind → Findable d s (getD starts p 0)
 find-held {starts = starts} {n = n} {p = p} x l t = record {
   terms = x .terms;
   configuration = x .configuration;
@@ -227,7 +227,7 @@ module _ {d s starts : List ℕ} {n k : ℕ} where
   }
 
   module _ {p : ℕ} where
-    pub inside-idle : {q : ℕ} → p < n → (kindOf s starts p ≡ transactionKind → ⊥) → p ≡ q →
+    pub inside-idle : {q : ℕ} → p < n → (kindHeld s starts p ≡ transactionKind → ⊥) → p ≡ q →
         LookedInside d s starts n q k (inner.Refused 15)
     unfolding answerTo atPosition applyAt actsInside componentBytes replyOf replyIs replied
     inside-idle l other e = rw (← e) (record {
@@ -242,7 +242,7 @@ module _ {d s starts : List ℕ} {n k : ℕ} where
         go ts h x (transaction m M σ t) there = absurd (other (kind-here x p (transaction m M σ t) there))
 
     pub find-looked : {q : ℕ} {r : InnerMove} → Searched d s (getD starts p 0) k r → p < n →
-        kindOf s starts p ≡ transactionKind → p ≡ q →
+        kindHeld s starts p ≡ transactionKind → p ≡ q →
         LookedInside d s starts n q k r
     find-looked f l t e = rw (← e) (record {
       looked = record {

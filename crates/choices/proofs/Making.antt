@@ -44,7 +44,7 @@ use Rattle.index.proofs.Holding.{hall-length, component-at, kind-here, output-h
 use Rattle.choices.proofs.Looking.{TakeThere, past-components, output-looked, end-looked, block-looked, waits-take, take-looked, inside-past, inside-idle, find-held, find-looked}
 use Rattle.schedule.specs.declared.Entry as choices
 use Rattle.schedule.specs.declared.Entry.the-variants.{Act, Inside}
-use Rattle.choices.specs.Entries.{kindOf, bodyOf, LookedInside}
+use Rattle.choices.specs.Entries.{kindHeld, bodyOf, LookedInside}
 use Rattle.schedule.specs.Entries.{entryOf}
 use Rattle.communication.specs.Tokens.{takeNumber, OutputLooked, CanPut, TokenPut, TakeLooked, CanTake, TokenTaken}
 use Rattle.blocks.specs.Ends.{EndLooked, Restarts, CanRestart, Restarted, CanCommit, Committed}
@@ -143,17 +143,17 @@ module _ {d s starts : List ℕ} {n p rule : ℕ} (x : Accepts d s starts n (act
       numbered-as c (a .component) (ruleNumber (a .rule)) rule same (a .number)
       (rw (a .local) at (acts-numbered (x .configuration .counts) (a .component)))
 
-  output-number : p < n → kindOf s starts p ≡ outputKind → rule ≡ 1
+  output-number : p < n → kindHeld s starts p ≡ outputKind → rule ≡ 1
   output-number l k =
       let (c, f) = component-at (x .holds) p l in
       number-of (idle (output (bodyOf s starts p))) (f ∙ ap some (output-here (x .holds) p c f k))
 
-  end-number : p < n → kindOf s starts p ≡ transactionKind → (4 < rule) × (rule ≤ 7)
+  end-number : p < n → kindHeld s starts p ≡ transactionKind → (4 < rule) × (rule ≤ 7)
   unfolding componentBytes
   end-number l k = let (c, f) = component-at (x .holds) p l in go c f (kind-here (x .holds) p c f)
     where
       go : (c : Component) → getElem? (x .configuration .components) p ≡ some c →
-          kindOf s starts p ≡ getD (componentBytes c) 0 0 → (4 < rule) × (rule ≤ 7)
+          kindHeld s starts p ≡ getD (componentBytes c) 0 0 → (4 < rule) × (rule ≤ 7)
       go (idle (taking m a P)) f b = absurd (omega arith)
       go (idle (repeating m a P)) f b = absurd (omega arith)
       go (idle (block m M)) f b = absurd (omega arith)
@@ -173,7 +173,7 @@ module _ {d s starts : List ℕ} {n p q rule : ℕ} (e : p ≡ q) where
   renamed-back k is x = rw (← e, is) x
 
   -- OUT
-  module _ (l : p < n) (k : kindOf s starts p ≡ outputKind) where
+  module _ (l : p < n) (k : kindHeld s starts p ≡ outputKind) where
     pub can-put : Accepts d s starts n (act q) rule → CanPut s starts n p
     can-put x = record { decoded = d; accepts = renamed 1 (output-number (renamed rule refl x) l k) x }
 
@@ -195,7 +195,7 @@ module _ {d s starts : List ℕ} {n p q rule : ℕ} (e : p ≡ q) where
         let (b, is) = take-number y (t y) in renamed-back (takeNumber b) is (f .applied b)
 
   -- ATOK, ATRE and ATFAIL
-  module _ (l : p < n) (k : kindOf s starts p ≡ transactionKind) where
+  module _ (l : p < n) (k : kindHeld s starts p ≡ transactionKind) where
     pub can-commit : Accepts d s starts n (act q) rule → rule ≡ 7 → CanCommit s starts n p
     can-commit x is = record { decoded = d; accepts = renamed 7 is x }
 
@@ -229,7 +229,7 @@ module _ {d s starts : List ℕ} {n p q : ℕ} where
 
 module _ {d s starts : List ℕ} {n p : ℕ} (x : Running d s starts n) (l : p < n) where
   -- at an output
-  module _ (k : kindOf s starts p ≡ outputKind) {r : Reply} (f : OutputLooked s (bodyOf s starts p) r) {rule : ℕ} (is : r ≡ Moved rule) where
+  module _ (k : kindHeld s starts p ≡ outputKind) {r : Reply} (f : OutputLooked s (bodyOf s starts p) r) {rule : ℕ} (is : r ≡ Moved rule) where
     accepts-put : Accepts d s starts n (act p) rule
     accepts-put = looked-accepts x (output-looked f l k refl) is
 
@@ -241,7 +241,7 @@ module _ {d s starts : List ℕ} {n p : ℕ} (x : Running d s starts n) (l : p <
     act-put t = chosen-moved (output-looked f l k refl) is (put-applied refl l k accepts-put t)
 
   -- at a transaction
-  module _ (k : kindOf s starts p ≡ transactionKind) {r : Reply} (f : EndLooked d s n (getD starts p 0) r) {rule : ℕ} (is : r ≡ Moved rule) where
+  module _ (k : kindHeld s starts p ≡ transactionKind) {r : Reply} (f : EndLooked d s n (getD starts p 0) r) {rule : ℕ} (is : r ≡ Moved rule) where
     accepts-end : Accepts d s starts n (act p) rule
     accepts-end = looked-accepts x (end-looked f l k refl) is
 
@@ -260,7 +260,7 @@ module _ {d s starts : List ℕ} {n p : ℕ} (x : Running d s starts n) (l : p <
     act-restart c t = chosen-moved (end-looked f l k refl) is (restart-applied refl l k accepts-end c t)
 
   -- at a component that waits
-  module _ (noTransaction : kindOf s starts p ≡ transactionKind → ⊥) (noOutput : kindOf s starts p ≡ outputKind → ⊥) {i k : ℕ}
+  module _ (noTransaction : kindHeld s starts p ≡ transactionKind → ⊥) (noOutput : kindHeld s starts p ≡ outputKind → ⊥) {i k : ℕ}
       (named : i ≡ bodyOf s starts p) (read : k ≡ kindAt d i) where
     module _ (atom : k ≡ kindByte atomK) where
       begins : Looked d s starts n (act p) (Moved 4)

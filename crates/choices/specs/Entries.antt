@@ -28,8 +28,8 @@ use Rattle.choices.specs.declared.suggests.Suggestion.the-variants.{Acce
 -- ---- what stands at a position
 
 -- the kind and the body of the component there
-abbrev pub kindOf : (s starts : List ℕ) → ℕ → ℕ
-kindOf s starts p = getD s (getD starts p 0) 0
+abbrev pub kindHeld : (s starts : List ℕ) → ℕ → ℕ
+kindHeld s starts p = getD s (getD starts p 0) 0
 
 abbrev pub bodyOf : (s starts : List ℕ) → ℕ → ℕ
 bodyOf s starts p = getD s (getD starts p 0 + componentBody) 0

@@ -17,7 +17,7 @@ ghost use Rattle.semantics.specs.Definitions.Moves.{act};
 ghost use Rattle.stored.specs.Layout.{transactionKind, outputKind};
 ghost use Rattle.index.specs.Holds.{Running};
 ghost use Rattle.index.specs.Choices.{Looked, Chosen};
-ghost use Rattle.choices.specs.Entries.{kindOf};
+ghost use Rattle.choices.specs.Entries.{kindHeld};
 
 // What the entry is answered, by what stands at its position: an output, a transaction, or a component that waits on a
 // block, a take or a repeated take. Nothing changes.
@@ -60,7 +60,7 @@ fn act_end(
     position: usize,
 ) -> Made
     requires { ⌜ Running (now decoded) (now hall) (now starts) components ⌝ }
-    requires { ⌜ (position < components) × (kindOf (now hall) (now starts) position ≡ transactionKind) ⌝ }
+    requires { ⌜ (position < components) × (kindHeld (now hall) (now starts) position ≡ transactionKind) ⌝ }
     ensures { λ r. ⌜ Chosen (now (decoded .entry)) (now (hall .entry)) (now (starts .entry)) components (act position)
         (r .reply) (now (hall .exit)) (now (starts .exit)) (r .components) ⌝ }
 {
@@ -97,8 +97,8 @@ fn act_waiting(
     position: usize,
 ) -> Made
     requires { ⌜ Running (now decoded) (now hall) (now starts) components ⌝ }
-    requires { ⌜ (position < components) × (kindOf (now hall) (now starts) position ≡ transactionKind → ⊥)
-        × (kindOf (now hall) (now starts) position ≡ outputKind → ⊥) ⌝ }
+    requires { ⌜ (position < components) × (kindHeld (now hall) (now starts) position ≡ transactionKind → ⊥)
+        × (kindHeld (now hall) (now starts) position ≡ outputKind → ⊥) ⌝ }
     ensures { λ r. ⌜ Chosen (now (decoded .entry)) (now (hall .entry)) (now (starts .entry)) components (act position)
         (r .reply) (now (hall .exit)) (now (starts .exit)) (r .components) ⌝ }
 {

@@ -34,7 +34,7 @@ use Rattle.rules.specs.declared.Reply.the-variants.{Moved, Refused}
 use Rattle.rules.specs.Replies.{replyIs}
 use Rattle.index.specs.Holds.{Holds, CanReplace, Replaced}
 use Rattle.index.proofs.Holding.{hall-length, few-components, count-here, position-below}
-use Rattle.communication.specs.Tokens.{takeOf, takeTerm, successors, staying, takeNumber, repeats, termOf, laidSize, singleSize, ATake, TakeHeld, TakeLooked, ComponentLimitAsked, ComponentLimitTested, CanWriteSuccessors, SuccessorsWritten, CanTake, TokenTaken}
+use Rattle.communication.specs.Tokens.{takeOf, takeTerm, successors, staying, takeNumber, repeats, termOf, successorsSize, singleSize, ATake, TakeHeld, TakeLooked, ComponentLimitAsked, ComponentLimitTested, CanWriteSuccessors, SuccessorsWritten, CanTake, TokenTaken}
 use Rattle.communication.proofs.Acting.{TakesHere, takes-there, many-after, empty-refused, crowded-refused, take-accepted, take-number}
 use Rattle.communication.proofs.TokenMoves.{takeKind, TakeIn, take-in, position-inside, body-inside, waits-on, take-body, take-token, take-link}
 use Rattle.index.proofs.Acting.{replacement-can, replacement-held}
@@ -355,7 +355,7 @@ module _ (d s starts : List ℕ) (n p : ℕ) where
           let f = x .accepts .decoded .good .few in omega arith
 
       -- whatever the continuation, there is room for all that a take may lay down
-      pub can-write-many : (buffer : List ℕ) → length buffer ≡ laidSize → CanWriteSuccessors d term buffer
+      pub can-write-many : (buffer : List ℕ) → length buffer ≡ successorsSize → CanWriteSuccessors d term buffer
       can-write-many buffer l =
           let w = x .accepts .decoded .good .limits k _ continued-at in record { take = here; room = omega arith }
 

@@ -142,8 +142,8 @@ pub record SuccessorsWritten (d : List ℕ) (term : ℕ) (bytes : List ℕ) (siz
       (take size bytes ≡ allBytes (map idle (successors b term a P)))
 
 -- as many bytes as a take may lay down, and as many where its continuation opens into one component at most
-abbrev pub laidSize : ℕ
-laidSize = idleSize * (maxComponents + 1)
+abbrev pub successorsSize : ℕ
+successorsSize = idleSize * (maxComponents + 1)
 
 abbrev pub singleSize : ℕ
 singleSize = idleSize * 2

@@ -22,10 +22,10 @@ ghost use mathlib.Core.Path.{_≡_};
 ghost use Rattle.communication.specs.Tokens.{takeNumber, staying, repeats, TakeHeld, TakeLooked, ComponentLimitAsked, ComponentLimitTested, termOf, CanWriteSuccessors, SuccessorsWritten, CanTake, TokenTaken};
 
 // What a take may lay down, in bytes: as many components as a process is wide, and the take itself.
-const LAID: usize = IDLE_SIZE * (MAX_COMPONENTS + 1);
+const SUCCESSORS_SIZE: usize = IDLE_SIZE * (MAX_COMPONENTS + 1);
 
 // The same where its continuation opens into one component at most.
-const LAID_SINGLE: usize = IDLE_SIZE * 2;
+const SUCCESSOR_SIZE: usize = IDLE_SIZE * 2;
 
 // By the kind of a take's record: its rule, and how many stay of it.
 fn take_rule(kind: u8) -> u8
@@ -75,14 +75,14 @@ pub fn look_take(decoded: &[u8; DECODED], hall: &[u8], components: usize, term: 
 }
 
 // The bytes of what stands in the take's place afterwards: the answer is how many they are.
-fn write_successors(decoded: &[u8; DECODED], term: u8, laid: &mut [u8]) -> usize
-    requires { ⌜ CanWriteSuccessors (now decoded) term (now laid) ⌝ }
-    ensures { λ r. ⌜ SuccessorsWritten (now (decoded .entry)) term (now (laid .exit)) r ⌝ }
+fn write_successors(decoded: &[u8; DECODED], term: u8, successors: &mut [u8]) -> usize
+    requires { ⌜ CanWriteSuccessors (now decoded) term (now successors) ⌝ }
+    ensures { λ r. ⌜ SuccessorsWritten (now (decoded .entry)) term (now (successors .exit)) r ⌝ }
 {
     let i = wide(term);
-    let end = write_components(decoded, wide(terms::second_of(decoded, i)), laid, 0);
+    let end = write_components(decoded, wide(terms::second_of(decoded, i)), successors, 0);
     if terms::kind_of(decoded, i) == REPEATED_TAKE {
-        return write_idle(laid, end, KIND_WAITING, term);
+        return write_idle(successors, end, KIND_WAITING, term);
     }
     end
 }
@@ -94,10 +94,10 @@ fn take_by(
     starts: &mut [usize; INDEX_SIZE],
     components: usize,
     position: usize,
-    laid: &mut [u8],
+    successors: &mut [u8],
 ) -> usize
     requires { ⌜ CanTake (now decoded) (now hall) (now starts) components position ⌝ }
-    requires { ⌜ CanWriteSuccessors (now decoded) (termOf (now hall) (now starts) position) (now laid) ⌝ }
+    requires { ⌜ CanWriteSuccessors (now decoded) (termOf (now hall) (now starts) position) (now successors) ⌝ }
     ensures { λ r. ⌜ TokenTaken (now (decoded .entry)) (now (hall .entry)) (now (starts .entry)) components position
         (now (hall .exit)) (now (starts .exit)) r ⌝ }
 {
@@ -105,13 +105,13 @@ fn take_by(
     let term = hall[begin + COMPONENT_BODY];
     let channel = wide(terms::first_of(decoded, wide(term)));
     hall[channel] = hall[channel] - 1;
-    let end = write_successors(decoded, term, laid);
+    let end = write_successors(decoded, term, successors);
     replace_component(
         hall,
         starts,
         components,
         position,
-        &laid[..end],
+        &successors[..end],
         end / IDLE_SIZE,
     )
 }
@@ -133,9 +133,9 @@ pub fn take(
     let term = wide(hall[begin + COMPONENT_BODY]);
     let continuation = wide(terms::second_of(decoded, term));
     if terms::kind_of(decoded, continuation) == PAR {
-        let mut laid = [0u8; LAID];
-        return take_by(decoded, hall, starts, components, position, &mut laid);
+        let mut successors = [0u8; SUCCESSORS_SIZE];
+        return take_by(decoded, hall, starts, components, position, &mut successors);
     }
-    let mut laid = [0u8; LAID_SINGLE];
-    take_by(decoded, hall, starts, components, position, &mut laid)
+    let mut successors = [0u8; SUCCESSOR_SIZE];
+    take_by(decoded, hall, starts, components, position, &mut successors)
 }

@@ -84,13 +84,13 @@ pub fn log_at(s: &[u8], at: usize, size: usize) -> bool
     ensures { λ r. ⌜ r ≡ isLog size (take logSize (drop at (now (s .entry)))) ⌝ }
 {
     let first = ZEROS - size as u8;
-    let mut wrong: u8 = 0;
+    let mut exceeded: u8 = 0;
     let mut i: u8 = 0;
     while i < LOG_SIZE as u8 {
-        wrong = larger(wrong, excess(s[at + wide(i)], limit_at(first + i)));
+        exceeded = larger(exceeded, excess(s[at + wide(i)], limit_at(first + i)));
         i += 1;
     }
-    wrong == 0
+    exceeded == 0
 }
 
 // The leaf whose 19 bytes begin at an offset.
