@@ -64,24 +64,19 @@ module _ (s : List ℕ) where
   passed-on (suc n) zero at h i = absurd (i refl)
   passed-on (suc n) (suc p) at h i = let z : suc n - 1 ≡ n = omega arith in rw z
 
-  -- no node is to be passed, or the walk goes past a fork or a leaf, behind which no subtree may be to come
+  -- no node is to be passed, or the walk goes past one, behind which no subtree may be to come
   module _ (left p at : ℕ) (r : Walk) (e : passed s left p at ≡ r) where
     pub walk-done : left ≤ 0 → record { at = at; pending = p; left = left } ≡ r
     unfolding passed
     walk-done h = let z : left ≡ 0 = omega arith in rw z (rw z at e)
 
     module _ (h : 0 < left) (i : 0 < p) (k : ℕ) (f : k ≡ getD s at 0) where
-      walk-on : (q : ℕ) → q ≡ pendingBehind k p → (z : ℕ) → z ≡ nodeSize k → passed s (left - 1) q (at + z) ≡ r
-      walk-on q g z m = rw (m, g, f) (sym (passed-on left p at h (λ o. omega arith)) ∙ e)
+      module _ (q : ℕ) (g : q ≡ pendingBehind k p) (z : ℕ) (m : z ≡ nodeSize k) where
+        pub walk-on : passed s (left - 1) q (at + z) ≡ r
+        walk-on = rw (m, g, f) (sym (passed-on left p at h (λ o. omega arith)) ∙ e)
 
-      pub walk-fork : k ≡ forkKind → passed s (left - 1) (p + 1) (at + forkSize) ≡ r
-      walk-fork g = walk-on (p + 1) (fork-pending k p g) forkSize (fork-size k g)
-
-      pub walk-leaf : (k ≡ forkKind → ⊥) → passed s (left - 1) (p - 1) (at + leafSize) ≡ r
-      walk-leaf g = walk-on (p - 1) (leaf-pending k p g) leafSize (leaf-size k g)
-
-      pub walk-over : (k ≡ forkKind → ⊥) → p - 1 ≡ 0 → record { at = at + leafSize; pending = p - 1; left = left - 1 } ≡ r
-      walk-over g z = rw z (sym (passed-over (left - 1) (at + leafSize)) ∙ (rw z at (walk-leaf g)))
+        pub walk-over : q ≡ 0 → record { at = at + z; pending = q; left = left - 1 } ≡ r
+        walk-over o = rw o (sym (passed-over (left - 1) (at + z)) ∙ (rw o at walk-on))
 
 -- ---- a node's place, a tree's end
 

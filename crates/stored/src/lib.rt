@@ -119,15 +119,11 @@ pub fn pass_nodes(s: &[u8], tree: usize, nodes: u8) -> Walk
     let mut left = wide(nodes);
     while 0 < left {
         left -= 1;
-        if byte_at(s, at) == KIND_FORK {
-            pending += 1;
-            at += FORK_SIZE;
-        } else {
-            pending -= 1;
-            at += LEAF_SIZE;
-            if pending == 0 {
-                return Walk { at, pending, left };
-            }
+        let kind = byte_at(s, at);
+        pending = pending_behind(kind, pending);
+        at += node_size(kind);
+        if pending == 0 {
+            return Walk { at, pending, left };
         }
     }
     Walk { at, pending, left }
