@@ -17,6 +17,7 @@
 //! | [`replay`] | a way to a situation, made on the library |
 //! | [`labels`] | what the stations of a code are called |
 //! | [`waiting`] | who is left at an end, and why |
+//! | [`groups`], [`start_line`] | every group of stations, and the line that opens it |
 //! | [`engine`] | all halls by the library's own steps |
 
 pub mod dot;
@@ -32,6 +33,7 @@ pub mod question;
 pub mod replay;
 pub mod report;
 pub mod search;
+pub mod start_line;
 pub mod steps;
 pub mod store;
 pub mod waiting;
