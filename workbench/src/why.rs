@@ -39,11 +39,7 @@ pub fn why(table: &Table, program: &Program, now: &Moment, position: usize) -> V
     }];
     let chosen = ways.iter().position(|way| way.readable(counts));
     for (number, way) in ways.iter().enumerate() {
-        let words = match action_words(program, &way.actions) {
-            words if words.is_empty() => "(no steps)".to_owned(),
-            words => words,
-        };
-        lines.push(format!("  {}  {words}", number + 1));
+        lines.push(format!("  {}  {}", number + 1, way_words(program, way)));
         lines.push(format!(
             "       {}",
             verdict(program, way, number, chosen, counts, when)
@@ -52,6 +48,17 @@ pub fn why(table: &Table, program: &Program, now: &Moment, position: usize) -> V
     let chosen = chosen.and_then(|chosen| ways.get(chosen));
     lines.push(format!("  {}", outcome(program, chosen, now, opened)));
     lines
+}
+
+/// A way's steps; where it ends in `retry`, that too.
+fn way_words(program: &Program, way: &Way) -> String {
+    let steps = action_words(program, &way.actions);
+    match (steps.as_str(), way.ends) {
+        ("", true) => "(no steps)".to_owned(),
+        ("", false) => "retry".to_owned(),
+        (_, true) => steps,
+        (_, false) => format!("{steps}, retry"),
+    }
 }
 
 fn about_to_put(program: &Program, now: &Moment, name: &str, tray: u8) -> String {

@@ -23,16 +23,7 @@ pub fn start_line(program: &Program, stations: &[(PartId, usize)]) -> String {
     }
 }
 
-/// What `1 of` stands before is the same without it, however often it does.
-fn plain(program: &Program, mut part: PartId) -> PartId {
-    while let PartKind::Copies(1, of) = program.part(part).kind {
-        part = of;
-    }
-    part
-}
-
 fn process(program: &Program, part: PartId) -> String {
-    let part = plain(program, part);
     let tray = |tray| program.tray_name(tray);
     match program.part(part).kind {
         PartKind::Named(index) => name(program, index),
@@ -46,7 +37,7 @@ fn process(program: &Program, part: PartId) -> String {
             format!("repeatedly take {} then {then}", tray(from))
         }
         PartKind::Beside(left, right) => {
-            let left = match program.part(plain(program, left)).kind {
+            let left = match program.part(left).kind {
                 PartKind::Beside(..) => bracketed_pair(program, left),
                 _ => bracketed_take(program, left),
             };
@@ -61,7 +52,7 @@ fn process(program: &Program, part: PartId) -> String {
 /// With brackets where it is several things side by side.
 fn bracketed_pair(program: &Program, part: PartId) -> String {
     let words = process(program, part);
-    match program.part(plain(program, part)).kind {
+    match program.part(part).kind {
         PartKind::Beside(..) => format!("({words})"),
         _ => words,
     }
@@ -71,7 +62,7 @@ fn bracketed_pair(program: &Program, part: PartId) -> String {
 /// stand behind it.
 fn bracketed_take(program: &Program, part: PartId) -> String {
     let words = process(program, part);
-    let mut last = plain(program, part);
+    let mut last = part;
     while let PartKind::Copies(_, of) = program.part(last).kind {
         last = of;
     }

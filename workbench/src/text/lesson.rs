@@ -256,6 +256,12 @@ impl Reader<'_> {
         let text = self.text();
         let rest = self.called_behind();
         let problem = match (token.kind, text) {
+            (Kind::Comma, _)
+            | (Kind::Sign, ";" | "." | "&" | "+")
+            | (Kind::Word, "then" | "and") => {
+                Problem::error(token.span, "nothing stands between two choices")
+                    .label(format!("leave out '{text}'"))
+            }
             (Kind::Sign | Kind::HalfNumber | Kind::ForeignWord, _) => self.bad_piece(),
             (
                 Kind::Word,

@@ -113,7 +113,9 @@ impl Reader<'_> {
         if self.accept("then") {
             return Ok((tray, span));
         }
-        let problem = if self.peek().kind == Kind::Comma {
+        let problem = if let Some(problem) = self.says_where("take") {
+            problem
+        } else if self.peek().kind == Kind::Comma {
             Problem::error(self.peek().span, "a station's take is followed by 'then'")
                 .label("write 'then'")
                 .help("',' parts the steps of a block: block (take ..., put ..., end)")
@@ -204,10 +206,14 @@ impl Reader<'_> {
     /// What newcomers write behind a station and what can't stand there.
     fn nothing_follows(&mut self, part: PartId) -> Read<()> {
         let span = self.peek().span;
+        let put = matches!(self.program.part(part).kind, PartKind::Put(_));
         let problem = if self.is("then") {
             self.no_then(span, part)
+        } else if let Some(problem) = self.says_where("put").filter(|_| put) {
+            problem
         } else if self.peek().kind == Kind::Comma {
-            Problem::error(span, "',' does not part stations").label("write 'beside'")
+            let label = self.comma_label("write 'beside'");
+            Problem::error(span, "',' does not part stations").label(label)
         } else if self.is("and") {
             Problem::error(span, "'and' does not join stations")
                 .label("write 'beside'")
