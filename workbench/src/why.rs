@@ -114,21 +114,20 @@ fn outcome(program: &Program, chosen: Option<&Way>, now: &Moment, opened: bool) 
         }
         .to_owned();
     };
-    if !opened {
-        return "It could commit by that way at once.".to_owned();
-    }
     let short = shortages(&way.needs(), &now.counts);
-    let standing = now.stations.len() + puts(&way.actions).len();
-    if short.is_empty() && standing > MOST_STATIONS + 1 {
-        "All of it is there now too, but with what it puts more than 64 stations would stand: the \
-         commit is refused until some have gone."
-            .to_owned()
-    } else if short.is_empty() {
-        "All of it is there now too: the commit will succeed, unless that changes first.".to_owned()
-    } else {
-        format!(
+    let full = now.stations.len() + puts(&way.actions).len() > MOST_STATIONS + 1;
+    let too_many =
+        "All of it is there, but what it puts has no room among 64 stations until some go.";
+    match (opened, short.is_empty(), full) {
+        (false, _, false) => "It could commit by that way at once.".to_owned(),
+        (true, true, false) => {
+            "All of it is there now too: the commit will succeed, unless that changes first."
+                .to_owned()
+        }
+        (false, _, true) | (true, true, true) => too_many.to_owned(),
+        (true, false, _) => format!(
             "But now {}: the commit will fail, unless that changes first.",
             shortage_words(program, &short)
-        )
+        ),
     }
 }

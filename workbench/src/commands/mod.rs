@@ -204,7 +204,10 @@ mod tests {
     fn codes() {
         let (code, words) = said(&Failure::Contradiction("names".to_owned()));
         assert_eq!(code, 70);
-        assert!(words.starts_with("hall: this program is at odds with itself: names."));
+        assert_eq!(
+            words,
+            "hall: this program is at odds with itself: names. Nothing it printed counts.\n"
+        );
         assert_eq!(
             said(&Failure::Usage("so".to_owned())),
             (2, "hall: so\n".to_owned())

@@ -57,10 +57,10 @@ impl Report<'_> {
 
     fn head(&self) -> Vec<String> {
         let found = &self.explored.found;
-        let seen = if found.cut.is_none() {
+        let seen = if self.complete() {
             "all of them seen"
         } else {
-            "and there are more"
+            "and there may be more"
         };
         let mut head = wrapped(
             "",

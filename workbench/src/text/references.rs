@@ -54,6 +54,7 @@ impl Reader<'_> {
     }
 
     /// What is wrong where words behind a tray say where it stands.
+    #[must_use]
     pub fn says_where(&self, verb: &str) -> Option<Problem> {
         let word = self.text();
         if self.peek().kind != Kind::Word || !words::says_where(word) || self.on_new_line() {

@@ -162,7 +162,7 @@ fn text(
             if found.cut.is_none() {
                 "all of them seen"
             } else {
-                "cut short, there are more"
+                "cut short, there may be more"
             }
         ),
     );

@@ -272,3 +272,40 @@ fn group_lines(group: &Group, style: Style) -> Vec<String> {
         ),
     )
 }
+
+#[cfg(test)]
+mod tests {
+    use super::Told;
+    use crate::explore::groups::{Group, Groups, LeftOut};
+    use crate::style::Style;
+
+    /// The time may be over anywhere; what was tried by then is said.
+    #[test]
+    fn the_time_is_over_among_larger_groups() {
+        let group = |size| Group {
+            start: String::new(),
+            size,
+            situations: 1,
+            answers: Vec::new(),
+        };
+        let told = Told {
+            groups: Groups {
+                stations: 3,
+                all: 7,
+                tried: vec![group(1), group(1), group(1), group(2)],
+                up_to: 1,
+                left_out: Some(LeftOut::Time),
+            },
+            shown: false,
+            style: Style::PLAIN,
+        };
+        assert_eq!(
+            told.head("count.hall"),
+            [
+                "count.hall: 7 groups of the 3 stations at its opening",
+                "Tried: 4, all groups of up to 1 station among them, then the time was over."
+            ]
+        );
+        assert!(!told.all_hold());
+    }
+}
