@@ -69,16 +69,6 @@ pub struct Way {
     pub puts: Vec<u8>,
 }
 
-impl Way {
-    /// Whether the counts have all that it takes.
-    #[must_use]
-    pub fn readable(&self, counts: &[u8]) -> bool {
-        self.needs
-            .iter()
-            .all(|(slot, need)| counts.get(*slot).is_some_and(|count| count >= need))
-    }
-}
-
 /// A table as the exploration sees it.
 #[derive(Clone, Debug, PartialEq, Eq)]
 pub struct Model {

@@ -180,7 +180,7 @@ pub fn search(
     };
     let mut opening = Batch::default();
     opening.add(model.opening(), 0);
-    search.keep(&opening);
+    search.keep(&mut opening);
     search.go_through(limits, progress);
     search.found
 }
@@ -213,7 +213,7 @@ impl Search<'_> {
                 self.found.cut = Some(Cut::Memory);
                 return;
             }
-            self.keep(&batch);
+            self.keep(&mut batch);
         }
     }
 
@@ -249,7 +249,7 @@ impl Search<'_> {
         }
     }
 
-    fn keep(&mut self, batch: &Batch) {
+    fn keep(&mut self, batch: &mut Batch) {
         let Search {
             model,
             found,

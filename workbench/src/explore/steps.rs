@@ -64,130 +64,178 @@ pub enum Tried<'a> {
 #[derive(Clone, Debug)]
 pub struct Stepper<'m> {
     model: &'m Model,
+    /// For each code what its stations may do: the first of it that the counts
+    /// allow.
+    tries: Vec<Vec<Try>>,
     next: Vec<u8>,
+}
+
+/// Something that a station may do, laid out so that one look tells most of
+/// those that can't be done.
+#[derive(Clone, Debug)]
+struct Try {
+    deed: Deed,
+    /// The slots that it takes from, a bit for each.
+    slots: u16,
+    /// Whether one token of each of them is enough.
+    single: bool,
+    /// How many tokens it takes from which slots.
+    needs: Vec<(usize, u8)>,
+    /// The slot that it puts a token into.
+    puts: Option<usize>,
+    /// The codes of what stands there afterwards, sorted, without the station
+    /// itself.
+    opens: Vec<u8>,
+    /// Whether the station itself stays.
+    stays: bool,
+    /// The code of the same station with a note of this way.
+    noted: Option<u8>,
+}
+
+impl Try {
+    fn of(deed: Deed, needs: &[(usize, u8)], opens: &[u8]) -> Try {
+        Try {
+            deed,
+            slots: needs.iter().fold(0, |slots, (slot, _)| slots | 1 << slot),
+            single: needs.iter().all(|(_, need)| *need == 1),
+            needs: needs.to_vec(),
+            puts: None,
+            opens: opens.to_vec(),
+            stays: false,
+            noted: None,
+        }
+    }
+
+    /// All that the stations of a code may do, the first one first.
+    fn all(model: &Model, code: u8) -> Vec<Try> {
+        let commit =
+            |(index, way): (usize, &Way)| Try::of(Deed::Commit(index), &way.needs, &way.puts);
+        match model.kind(code) {
+            None => Vec::new(),
+            Some(Kind::Put { slot }) => vec![Try {
+                puts: Some(*slot),
+                ..Try::of(Deed::Put, &[], &[])
+            }],
+            Some(Kind::Take {
+                slot, opens, stays, ..
+            }) => {
+                let mut opens = opens.clone();
+                if *stays {
+                    // It stands there before and after.
+                    let itself = opens.iter().position(|other| *other == code);
+                    itself.map(|at| opens.remove(at));
+                }
+                let deed = if *stays { Deed::Repeat } else { Deed::Take };
+                vec![Try {
+                    stays: *stays,
+                    ..Try::of(deed, &[(*slot, 1)], &opens)
+                }]
+            }
+            Some(Kind::Block { ways, noted, .. }) => {
+                let ways = ways.iter().enumerate().map(commit);
+                let noted = std::iter::once(None).chain(noted.iter().copied().map(Some));
+                let noted = noted.chain(std::iter::repeat(None));
+                ways.zip(noted)
+                    .map(|(one, noted)| Try { noted, ..one })
+                    .collect()
+            }
+            Some(Kind::Noted { way, .. }) => {
+                let ways = model.ways(code).iter().enumerate();
+                ways.skip(*way).take(1).map(commit).collect()
+            }
+        }
+    }
+
+    /// Whether the counts have all that it takes; `present` has a bit for each
+    /// slot with a token.
+    fn allowed(&self, counts: &[u8], present: u16) -> bool {
+        let enough = |(slot, need): &(usize, u8)| counts.get(*slot).is_some_and(|it| it >= need);
+        self.slots & !present == 0 && (self.single || self.needs.iter().all(enough))
+    }
+
+    /// The limit that forbids it.
+    fn barred(&self, counts: &[u8], stations: usize) -> Option<Limit> {
+        let full = |slot| counts.get(slot) == Some(&u8::MAX);
+        if self.puts.is_some_and(full) {
+            return Some(Limit::Tray);
+        }
+        let after = stations + self.opens.len() - usize::from(!self.stays);
+        (after > MOST_STATIONS).then_some(Limit::Stations)
+    }
+
+    /// Changes the situation to what it is afterwards, where `trays` counts
+    /// stand before the stations and the station that acts is at a place.
+    fn make(&self, next: &mut Vec<u8>, trays: usize, place: usize) {
+        for (slot, need) in &self.needs {
+            if let Some(count) = next.get_mut(*slot) {
+                *count = count.saturating_sub(*need);
+            }
+        }
+        if let Some(count) = self.puts.and_then(|slot| next.get_mut(slot)) {
+            *count = count.saturating_add(1);
+        }
+        if !self.stays && place < next.len() {
+            next.remove(place);
+        }
+        for code in &self.opens {
+            open(next, trays, *code);
+        }
+    }
+}
+
+/// Puts a code among the sorted ones behind the counts.
+fn open(next: &mut Vec<u8>, trays: usize, code: u8) {
+    let standing = next.get(trays..).unwrap_or(&[]);
+    let at = trays + standing.partition_point(|other| *other < code);
+    next.insert(at, code);
 }
 
 impl<'m> Stepper<'m> {
     /// Makes steps of this model.
     #[must_use]
     pub fn new(model: &'m Model) -> Stepper<'m> {
+        let codes = 0..=u8::MAX;
+        let codes = codes.take(model.kinds().len());
         Stepper {
             model,
-            next: Vec::with_capacity(model.trays().len() + MOST_STATIONS),
+            tries: codes.map(|code| Try::all(model, code)).collect(),
+            next: Vec::with_capacity(model.trays().len() + MOST_STATIONS + 1),
         }
     }
 
     /// Shows every step from a situation, and every one that a limit forbids.
     /// Of equal stations one is tried.
     pub fn each(&mut self, situation: &[u8], mut show: impl FnMut(Step, Tried<'_>)) {
-        let (counts, stations) = self.model.split(situation);
+        let Stepper { model, tries, next } = self;
+        let (counts, stations) = model.split(situation);
+        let bit = |present: u16, count: &u8| present << 1 | u16::from(*count > 0);
+        let present = counts.iter().rev().fold(0, bit);
         let mut last = None;
-        for (position, &code) in stations.iter().enumerate() {
+        for (place, &code) in (counts.len()..).zip(stations) {
             if last == Some(code) {
                 continue;
             }
             last = Some(code);
-            let Some(kind) = self.model.kind(code) else {
+            let tries = tries.get(usize::from(code)).map_or(&[][..], Vec::as_slice);
+            let Some(one) = tries.iter().find(|one| one.allowed(counts, present)) else {
                 continue;
             };
-            self.each_of(counts, stations, (position, code), kind, &mut show);
-        }
-    }
-
-    fn each_of(
-        &mut self,
-        counts: &[u8],
-        stations: &[u8],
-        (position, code): (usize, u8),
-        kind: &Kind,
-        show: &mut impl FnMut(Step, Tried<'_>),
-    ) {
-        let mut shown = |deed, tried: Tried<'_>| show(Step { code, deed }, tried);
-        match kind {
-            Kind::Put { slot } => match counts.get(*slot) {
-                Some(255) => shown(Deed::Put, Tried::Barred(Limit::Tray)),
-                _ => shown(Deed::Put, self.put(counts, stations, position, *slot)),
-            },
-            Kind::Take {
-                slot, opens, stays, ..
-            } => {
-                if counts.get(*slot).is_some_and(|count| *count > 0) {
-                    let deed = if *stays { Deed::Repeat } else { Deed::Take };
-                    let needs = [(*slot, 1)];
-                    shown(deed, self.act(counts, stations, position, &needs, opens));
-                }
+            let mut shown = |deed, tried: Tried<'_>| show(Step { code, deed }, tried);
+            if let Some(limit) = one.barred(counts, stations.len()) {
+                shown(one.deed, Tried::Barred(limit));
+            } else {
+                next.clear();
+                next.extend_from_slice(situation);
+                one.make(next, counts.len(), place);
+                shown(one.deed, Tried::To(next));
             }
-            Kind::Block { ways, noted, .. } => {
-                let Some((index, way)) = first_readable(ways, counts) else {
-                    return;
-                };
-                let tried = self.act(counts, stations, position, &way.needs, &way.puts);
-                shown(Deed::Commit(index), tried);
-                let code = index.checked_sub(1).and_then(|at| noted.get(at));
-                if let Some(code) = code {
-                    let tried = self.act(counts, stations, position, &[], &[*code]);
-                    shown(Deed::Note(index), tried);
-                }
-            }
-            Kind::Noted { way: index, .. } => {
-                let way = self.model.ways(code).get(*index);
-                if let Some(way) = way.filter(|way| way.readable(counts)) {
-                    let tried = self.act(counts, stations, position, &way.needs, &way.puts);
-                    shown(Deed::Commit(*index), tried);
-                }
+            if let (Some(noted), Deed::Commit(way)) = (one.noted, one.deed) {
+                next.clear();
+                next.extend_from_slice(situation);
+                next.remove(place);
+                open(next, counts.len(), noted);
+                shown(Deed::Note(way), Tried::To(next));
             }
         }
     }
-
-    fn put(&mut self, counts: &[u8], stations: &[u8], position: usize, slot: usize) -> Tried<'_> {
-        self.without(counts, stations, position);
-        if let Some(count) = self.next.get_mut(slot) {
-            *count = count.saturating_add(1);
-        }
-        Tried::To(&self.next)
-    }
-
-    /// Takes what is needed and puts stations in the place of this one.
-    fn act(
-        &mut self,
-        counts: &[u8],
-        stations: &[u8],
-        position: usize,
-        needs: &[(usize, u8)],
-        opens: &[u8],
-    ) -> Tried<'_> {
-        if stations.len() - 1 + opens.len() > MOST_STATIONS {
-            return Tried::Barred(Limit::Stations);
-        }
-        self.without(counts, stations, position);
-        for (slot, need) in needs {
-            if let Some(count) = self.next.get_mut(*slot) {
-                *count = count.saturating_sub(*need);
-            }
-        }
-        for code in opens {
-            let standing = self.next.get(counts.len()..).unwrap_or(&[]);
-            let at = counts.len() + standing.partition_point(|other| other < code);
-            self.next.insert(at, *code);
-        }
-        Tried::To(&self.next)
-    }
-
-    /// The situation without the station at a position.
-    fn without(&mut self, counts: &[u8], stations: &[u8], position: usize) {
-        self.next.clear();
-        self.next.extend_from_slice(counts);
-        self.next
-            .extend_from_slice(stations.get(..position).unwrap_or(&[]));
-        self.next
-            .extend_from_slice(stations.get(position + 1..).unwrap_or(&[]));
-    }
-}
-
-/// The first way that the counts have all for, with its index.
-#[must_use]
-pub fn first_readable<'a>(ways: &'a [Way], counts: &[u8]) -> Option<(usize, &'a Way)> {
-    ways.iter()
-        .enumerate()
-        .find(|(_, way)| way.readable(counts))
 }
