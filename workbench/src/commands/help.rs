@@ -18,6 +18,9 @@ Exit: 0 accepted, or as expected; 1 refused, or an expectation missed;
 itself.
 ";
 
+/// Their words.
+pub const COMMANDS: [&str; 6] = ["check", "build", "show", "run", "play", "explore"];
+
 /// The page of a command.
 #[must_use]
 pub fn page(command: &str) -> Option<&'static str> {

@@ -170,8 +170,9 @@ fn said(streams: &mut Streams<'_>, words: &str) -> Outcome {
 }
 
 fn no_command(command: &str) -> Failure {
+    let near = args::did_you_mean(command, help::COMMANDS.into_iter());
     Failure::Usage(format!(
-        "there is no command '{command}'; hall help lists them"
+        "there is no command '{command}'{near}\nhall help lists all commands"
     ))
 }
 

@@ -86,6 +86,8 @@ pub struct Answer {
     pub question: String,
     /// What was found.
     pub verdict: Verdict,
+    /// Whether it is about ends, and there is none.
+    pub no_end: bool,
 }
 
 /// What was found.
@@ -316,6 +318,7 @@ impl Collector<'_> {
                     asked,
                     question: question.text.clone(),
                     verdict: self.verdict(asked, *broken)?,
+                    no_end: asked == Asked::Ends && found.ends.is_empty(),
                 })
             })
             .collect()
@@ -344,6 +347,18 @@ impl Answer {
         match self.asked {
             Asked::Never => format!("never {}", self.question),
             Asked::Ends => format!("every end has {}", self.question),
+        }
+    }
+}
+
+impl Answer {
+    /// How it is told that it holds.
+    #[must_use]
+    pub fn holds(&self) -> &'static str {
+        if self.no_end {
+            "holds, since there is no end"
+        } else {
+            "holds"
         }
     }
 }

@@ -260,7 +260,7 @@ impl Report<'_> {
 
     fn answer(&self, answer: &Answer) -> Vec<String> {
         let (verdict, witness, left) = match &answer.verdict {
-            Verdict::Holds => (self.style.good("holds"), None, None),
+            Verdict::Holds => (self.style.good(answer.holds()), None, None),
             Verdict::Open => (
                 "not known; nothing that was seen breaks it".to_owned(),
                 None,

@@ -5,6 +5,7 @@ use super::problems::Problem;
 use super::reader::{Read, Reader};
 use super::source::Span;
 use super::tree::{Class, PartId, PartKind};
+use super::words;
 
 /// Most stations that `n of` may name; the engine has the last word on how
 /// many may stand.
@@ -90,9 +91,19 @@ impl Reader<'_> {
     fn copies(&mut self, count: u32) -> Read<Prefix> {
         let span = self.advance().span;
         if !self.accept("of") {
-            let problem = Problem::error(self.here(), "a number of stations is followed by 'of'")
-                .label("as '3 of put batch'");
-            return self.fail(problem);
+            let label = match self.peek().kind {
+                Kind::Word if !self.at_item() && !self.on_new_line() => {
+                    let more = if words::reserved(self.text()) {
+                        " ..."
+                    } else {
+                        ""
+                    };
+                    format!("write '{count} of {}{more}'", self.text())
+                }
+                _ => "as '3 of put batch'".to_owned(),
+            };
+            let message = "a number of stations is followed by 'of'";
+            return self.fail(Problem::error(self.here(), message).label(label));
         }
         match u8::try_from(count) {
             Ok(few) if (1..=MOST_COPIES).contains(&count) => Ok(Prefix::Copies(few, span)),
