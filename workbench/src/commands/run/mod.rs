@@ -84,7 +84,11 @@ pub(super) fn run(args: &Args, streams: &mut Streams<'_>) -> Outcome {
     };
     let lesson = Lesson::open(&loaded.table, &loaded.program)?;
     let Some(script) = script.filter(|it| !it.lines.is_empty() || !it.leftover.is_empty()) else {
-        return no_choices(name, args.file(1), &lesson, told, streams);
+        let note = match args.file(1) {
+            Some(file) => format!("{}: note: there are no choices in it", shown_name(file)),
+            None => no_choices_in(name, loaded.source.is_some()),
+        };
+        return no_choices(&note, &lesson, told, streams);
     };
     Run {
         lesson,
@@ -99,13 +103,22 @@ pub(super) fn run(args: &Args, streams: &mut Streams<'_>) -> Outcome {
     .all(&script)
 }
 
-fn no_choices(
-    name: &str,
-    choices: Option<&str>,
-    lesson: &Lesson<'_>,
-    told: Told,
-    streams: &mut Streams<'_>,
-) -> Outcome {
+/// What to do about a text or a table without choices.
+fn no_choices_in(name: &str, text: bool) -> String {
+    let play = match name {
+        "-" => String::new(),
+        _ => format!("try hall play {name}, or "),
+    };
+    let add = if text {
+        "write 'choices' behind 'start'"
+    } else {
+        "name a file of choices"
+    };
+    let name = shown_name(name);
+    format!("{name}: note: there are no choices to make: {play}{add}")
+}
+
+fn no_choices(note: &str, lesson: &Lesson<'_>, told: Told, streams: &mut Streams<'_>) -> Outcome {
     if told == Told::Json {
         let last = last_object(lesson)?;
         writeln!(streams.out, "{last}")?;
@@ -115,14 +128,7 @@ fn no_choices(
         writeln!(streams.out, "{line}")?;
     }
     streams.out.flush()?;
-    let words = match choices {
-        Some(file) => format!("{}: note: there are no choices in it", shown_name(file)),
-        None => format!(
-            "{}: note: there are no choices to make: try hall play {name}, or write 'choices' behind 'start'",
-            shown_name(name)
-        ),
-    };
-    writeln!(streams.err, "{words}")?;
+    writeln!(streams.err, "{note}")?;
     Ok(Exit::Good)
 }
 
