@@ -8,8 +8,9 @@ use std::mem::size_of;
 
 use super::model::{Kind, Model};
 use super::search::{Cut, Found, Limits};
+use super::situations::Situations;
 use super::steps::{Deed, Stepper, Tried};
-use super::store::{Index, Store};
+use super::store::Index;
 
 /// Whether there is a run without end.
 #[derive(Clone, Debug, PartialEq, Eq)]
@@ -133,7 +134,10 @@ struct Frame {
 
 struct Walk<'a> {
     stepper: Stepper<'a>,
-    store: &'a Store,
+    store: &'a Situations,
+    /// The situation that is gone on from, and one that is looked for.
+    situation: Vec<u8>,
+    packed: Vec<u8>,
     allowed: Allowed,
     states: Vec<State>,
     frames: Vec<Frame>,
@@ -145,10 +149,12 @@ struct Walk<'a> {
 const BETWEEN_LOOKS: u32 = 1 << 12;
 
 impl<'a> Walk<'a> {
-    fn new(model: &'a Model, store: &'a Store, allowed: Allowed) -> Walk<'a> {
+    fn new(model: &'a Model, store: &'a Situations, allowed: Allowed) -> Walk<'a> {
         Walk {
             stepper: Stepper::new(model),
             store,
+            situation: Vec::new(),
+            packed: Vec::new(),
             allowed,
             states: vec![State::New; store.len()],
             frames: Vec::new(),
@@ -211,18 +217,21 @@ impl<'a> Walk<'a> {
         let Walk {
             stepper,
             store,
+            situation,
+            packed,
             allowed,
             followers,
             ..
         } = self;
-        stepper.each(store.get(index), |step, tried| {
+        store.read(index, situation);
+        stepper.each(situation, |step, tried| {
             let commit = matches!(step.deed, Deed::Commit(_));
             if commit && *allowed == Allowed::NoCommit {
                 return;
             }
             if let Tried::To(next) = tried {
                 // Only where the search was cut short is one not kept.
-                followers.extend(store.find(next));
+                followers.extend(store.find_with(next, packed));
             }
         });
     }

@@ -170,10 +170,11 @@ impl Collector<'_> {
     fn ends(&self) -> Result<(Vec<End>, usize), Contradiction> {
         let Explored { model, found, .. } = self.explored;
         let mut sorts: Vec<(Index, usize)> = Vec::new();
-        let mut of_counts: HashMap<&[u8], usize> = HashMap::new();
+        let mut of_counts: HashMap<Vec<u8>, usize> = HashMap::new();
         for index in &found.ends {
-            let (counts, _) = model.split(found.store.get(*index));
-            let sort = *of_counts.entry(counts).or_insert(sorts.len());
+            let situation = found.store.get(*index);
+            let (counts, _) = model.split(&situation);
+            let sort = *of_counts.entry(counts.to_vec()).or_insert(sorts.len());
             match sorts.get_mut(sort) {
                 Some((_, situations)) => *situations += 1,
                 None => sorts.push((*index, 1)),
@@ -184,7 +185,8 @@ impl Collector<'_> {
             .take(self.most_ends)
             .map(|(index, situations)| {
                 let witness = self.way_to(*index)?;
-                let (counts, _) = model.split(found.store.get(*index));
+                let situation = found.store.get(*index);
+                let (counts, _) = model.split(&situation);
                 Ok(End {
                     counts: counts.to_vec(),
                     situations: *situations,

@@ -9,7 +9,7 @@
 //! |---|---|
 //! | [`model`] | stations as codes, situations as bytes |
 //! | [`steps`] | what can happen next |
-//! | [`store`] | situations, each kept once |
+//! | [`store`], [`situations`] | records, each kept once; situations in few bytes |
 //! | [`question`] | what is asked of them |
 //! | [`search`] | all of them, breadth first |
 //! | [`investigate`] | whether that was exact; once more with notes where not |
@@ -33,6 +33,7 @@ pub mod question;
 pub mod replay;
 pub mod report;
 pub mod search;
+pub mod situations;
 pub mod start_line;
 pub mod steps;
 pub mod store;

@@ -159,6 +159,12 @@ impl Model {
             .map_or(true, |code| usize::from(*code) < self.first_noted)
     }
 
+    /// The first code of a block with a note; all from there on are such.
+    #[must_use]
+    pub fn first_noted(&self) -> usize {
+        self.first_noted
+    }
+
     /// Whether some block has two ways or more.
     #[must_use]
     pub fn has_alternatives(&self) -> bool {

@@ -73,7 +73,8 @@ pub struct Stepper<'m> {
 /// Something that a station may do, laid out so that one look tells most of
 /// those that can't be done.
 #[derive(Clone, Debug)]
-struct Try {
+pub struct Try {
+    code: u8,
     deed: Deed,
     /// The slots that it takes from, a bit for each.
     slots: u16,
@@ -88,13 +89,14 @@ struct Try {
     opens: Vec<u8>,
     /// Whether the station itself stays.
     stays: bool,
-    /// The code of the same station with a note of this way.
-    noted: Option<u8>,
+    /// The note of this way that it may take instead.
+    note: Option<Box<Try>>,
 }
 
 impl Try {
-    fn of(deed: Deed, needs: &[(usize, u8)], opens: &[u8]) -> Try {
+    fn of(code: u8, deed: Deed, needs: &[(usize, u8)], opens: &[u8]) -> Try {
         Try {
+            code,
             deed,
             slots: needs.iter().fold(0, |slots, (slot, _)| slots | 1 << slot),
             single: needs.iter().all(|(_, need)| *need == 1),
@@ -102,19 +104,19 @@ impl Try {
             puts: None,
             opens: opens.to_vec(),
             stays: false,
-            noted: None,
+            note: None,
         }
     }
 
     /// All that the stations of a code may do, the first one first.
     fn all(model: &Model, code: u8) -> Vec<Try> {
         let commit =
-            |(index, way): (usize, &Way)| Try::of(Deed::Commit(index), &way.needs, &way.puts);
+            |(index, way): (usize, &Way)| Try::of(code, Deed::Commit(index), &way.needs, &way.puts);
         match model.kind(code) {
             None => Vec::new(),
             Some(Kind::Put { slot }) => vec![Try {
                 puts: Some(*slot),
-                ..Try::of(Deed::Put, &[], &[])
+                ..Try::of(code, Deed::Put, &[], &[])
             }],
             Some(Kind::Take {
                 slot, opens, stays, ..
@@ -128,21 +130,31 @@ impl Try {
                 let deed = if *stays { Deed::Repeat } else { Deed::Take };
                 vec![Try {
                     stays: *stays,
-                    ..Try::of(deed, &[(*slot, 1)], &opens)
+                    ..Try::of(code, deed, &[(*slot, 1)], &opens)
                 }]
             }
             Some(Kind::Block { ways, noted, .. }) => {
-                let ways = ways.iter().enumerate().map(commit);
-                let noted = std::iter::once(None).chain(noted.iter().copied().map(Some));
-                let noted = noted.chain(std::iter::repeat(None));
-                ways.zip(noted)
-                    .map(|(one, noted)| Try { noted, ..one })
-                    .collect()
+                let mut tries: Vec<Try> = ways.iter().enumerate().map(commit).collect();
+                // The first way needs no note.
+                for ((way, one), noted) in tries.iter_mut().enumerate().skip(1).zip(noted) {
+                    let note = Try::of(code, Deed::Note(way), &[], &[*noted]);
+                    one.note = Some(Box::new(note));
+                }
+                tries
             }
             Some(Kind::Noted { way, .. }) => {
                 let ways = model.ways(code).iter().enumerate();
                 ways.skip(*way).take(1).map(commit).collect()
             }
+        }
+    }
+
+    /// The station, and what it does.
+    #[must_use]
+    pub fn step(&self) -> Step {
+        Step {
+            code: self.code,
+            deed: self.deed,
         }
     }
 
@@ -164,21 +176,43 @@ impl Try {
     }
 
     /// Changes the situation to what it is afterwards, where `trays` counts
-    /// stand before the stations and the station that acts is at a place.
-    fn make(&self, next: &mut Vec<u8>, trays: usize, place: usize) {
-        for (slot, need) in &self.needs {
-            if let Some(count) = next.get_mut(*slot) {
-                *count = count.saturating_sub(*need);
-            }
-        }
-        if let Some(count) = self.puts.and_then(|slot| next.get_mut(slot)) {
-            *count = count.saturating_add(1);
-        }
+    /// stand before the stations.
+    fn make(&self, next: &mut Vec<u8>, trays: usize) {
+        self.make_counts(next);
+        let standing = next.get(trays..).unwrap_or(&[]);
+        let place = trays + standing.partition_point(|other| *other < self.code);
         if !self.stays && place < next.len() {
             next.remove(place);
         }
         for code in &self.opens {
             open(next, trays, *code);
+        }
+    }
+
+    /// The same where behind the counts stands how many stations there are of
+    /// each code.
+    pub fn make_numbers(&self, numbers: &mut [u8], trays: usize) {
+        self.make_counts(numbers);
+        if !self.stays {
+            if let Some(number) = numbers.get_mut(trays + usize::from(self.code)) {
+                *number = number.saturating_sub(1);
+            }
+        }
+        for code in &self.opens {
+            if let Some(number) = numbers.get_mut(trays + usize::from(*code)) {
+                *number = number.saturating_add(1);
+            }
+        }
+    }
+
+    fn make_counts(&self, counts: &mut [u8]) {
+        for (slot, need) in &self.needs {
+            if let Some(count) = counts.get_mut(*slot) {
+                *count = count.saturating_sub(*need);
+            }
+        }
+        if let Some(count) = self.puts.and_then(|slot| counts.get_mut(slot)) {
+            *count = count.saturating_add(1);
         }
     }
 }
@@ -206,35 +240,44 @@ impl<'m> Stepper<'m> {
     /// Shows every step from a situation, and every one that a limit forbids.
     /// Of equal stations one is tried.
     pub fn each(&mut self, situation: &[u8], mut show: impl FnMut(Step, Tried<'_>)) {
-        let Stepper { model, tries, next } = self;
-        let (counts, stations) = model.split(situation);
+        let (counts, stations) = self.model.split(situation);
+        let mut next = std::mem::take(&mut self.next);
+        let mut last = None;
+        let codes = stations.iter().copied();
+        let codes = codes.filter(|code| last.replace(*code) != Some(*code));
+        self.each_try(counts, codes, stations.len(), |one, barred| {
+            if let Some(limit) = barred {
+                return show(one.step(), Tried::Barred(limit));
+            }
+            next.clear();
+            next.extend_from_slice(situation);
+            one.make(&mut next, counts.len());
+            show(one.step(), Tried::To(&next));
+        });
+        self.next = next;
+    }
+
+    /// Shows what can be done with these counts by stations of these codes, each
+    /// given once, so many stations standing there; and the limit that forbids
+    /// it.
+    pub fn each_try(
+        &self,
+        counts: &[u8],
+        codes: impl Iterator<Item = u8>,
+        stations: usize,
+        mut show: impl FnMut(&Try, Option<Limit>),
+    ) {
         let bit = |present: u16, count: &u8| present << 1 | u16::from(*count > 0);
         let present = counts.iter().rev().fold(0, bit);
-        let mut last = None;
-        for (place, &code) in (counts.len()..).zip(stations) {
-            if last == Some(code) {
-                continue;
-            }
-            last = Some(code);
-            let tries = tries.get(usize::from(code)).map_or(&[][..], Vec::as_slice);
-            let Some(one) = tries.iter().find(|one| one.allowed(counts, present)) else {
+        for code in codes {
+            let tries = self.tries.get(usize::from(code));
+            let mut tries = tries.map_or(&[][..], Vec::as_slice).iter();
+            let Some(one) = tries.find(|one| one.allowed(counts, present)) else {
                 continue;
             };
-            let mut shown = |deed, tried: Tried<'_>| show(Step { code, deed }, tried);
-            if let Some(limit) = one.barred(counts, stations.len()) {
-                shown(one.deed, Tried::Barred(limit));
-            } else {
-                next.clear();
-                next.extend_from_slice(situation);
-                one.make(next, counts.len(), place);
-                shown(one.deed, Tried::To(next));
-            }
-            if let (Some(noted), Deed::Commit(way)) = (one.noted, one.deed) {
-                next.clear();
-                next.extend_from_slice(situation);
-                next.remove(place);
-                open(next, counts.len(), noted);
-                shown(Deed::Note(way), Tried::To(next));
+            show(one, one.barred(counts, stations));
+            if let Some(note) = &one.note {
+                show(note, None);
             }
         }
     }

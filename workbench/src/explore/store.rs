@@ -55,11 +55,24 @@ struct Item {
 impl Batch {
     /// Adds a record.
     pub fn add(&mut self, record: &[u8], parent: Index) {
-        self.bytes.extend_from_slice(record);
+        self.add_written(parent, |bytes| {
+            bytes.extend_from_slice(record);
+            true
+        });
+    }
+
+    /// Adds the record that is written behind the bytes given; none where that
+    /// says no.
+    pub fn add_written(&mut self, parent: Index, write: impl FnOnce(&mut Vec<u8>) -> bool) {
+        let start = self.bytes.len();
+        if !write(&mut self.bytes) {
+            self.bytes.truncate(start);
+            return;
+        }
         self.items.push(Item {
             end: self.bytes.len(),
             parent,
-            hash: hash(record),
+            hash: hash(self.bytes.get(start..).unwrap_or(&[])),
             from: 0,
         });
     }
@@ -338,7 +351,7 @@ impl Store {
     /// then every slot is taken for a free one.
     fn first_slot(&self, hash: u64) -> usize {
         let slots = u128::try_from(self.slots.len()).unwrap_or(0);
-        usize::try_from(u128::from(hash) * slots >> 64).unwrap_or(0)
+        usize::try_from((u128::from(hash) * slots) >> 64).unwrap_or(0)
     }
 
     fn next_slot(&self, at: usize) -> usize {

@@ -144,7 +144,7 @@ impl Met {
         }
         let graph = graph(bytes, &model);
         let store = &found.store;
-        let all: BTreeSet<Situation> = store.indexes().map(|it| store.get(it).to_vec()).collect();
+        let all: BTreeSet<Situation> = store.indexes().map(|it| store.get(it)).collect();
         let same: BTreeSet<Situation> = graph.steps.keys().cloned().collect();
         assert_eq!(all, same, "{bytes:?}");
         let steps: usize = graph.steps.values().map(BTreeSet::len).sum();
