@@ -10,7 +10,7 @@
 use crate::table::TRAYS;
 
 use super::model::Model;
-use super::steps::{Limit, Step, Stepper, Tried};
+use super::steps::{Limit, Step, Stepper, Tried, Try};
 use super::store::{Batch, Index, Kept, NoRoom, Store};
 
 /// A number from here on takes three halves.
@@ -163,7 +163,18 @@ impl Situations {
         glance: impl FnOnce(Glance<'_>),
     ) {
         let packed = self.store.get(index);
-        let Packing::Numbers { trays, codes } = self.packing else {
+        if let Packing::Numbers { trays, codes } = self.packing {
+            let mut numbers = [0; MOST_NUMBERS];
+            let numbers = read_numbers(packed, &mut numbers, trays + codes);
+            let seen = Glance::of(numbers, trays, self.first_noted);
+            each_next(stepper, numbers, seen, |one, barred, next| {
+                show(one.step(), barred);
+                if let Some(next) = next {
+                    batch.add_written(index, |packed| write_numbers(next, packed));
+                }
+            });
+            glance(seen);
+        } else {
             stepper.each(packed, |step, tried| match tried {
                 Tried::To(next) => {
                     show(step, None);
@@ -171,28 +182,8 @@ impl Situations {
                 }
                 Tried::Barred(limit) => show(step, Some(limit)),
             });
-            return self.packing.glance(packed, self.first_noted, glance);
-        };
-        let mut numbers = [0; MOST_NUMBERS];
-        let numbers = read_numbers(packed, &mut numbers, trays + codes);
-        let seen = Glance::of(numbers, trays, self.first_noted);
-        let standing = (0..=u8::MAX).zip(numbers.iter().skip(trays));
-        let standing = standing.filter(|(_, number)| **number > 0);
-        let standing = standing.map(|(code, _)| code);
-        stepper.each_try(seen.counts, standing, seen.stations, |one, barred| {
-            show(one.step(), barred);
-            if barred.is_none() {
-                let mut next = [0; MOST_NUMBERS];
-                let next = next.get_mut(..numbers.len()).unwrap_or(&mut []);
-                next.copy_from_slice(numbers);
-                one.make_numbers(next, trays);
-                batch.add_written(index, |packed| {
-                    write_numbers(next, packed);
-                    true
-                });
-            }
-        });
-        glance(seen);
+            self.packing.glance(packed, self.first_noted, glance);
+        }
     }
 
     /// Keeps the situations of a batch, and shows those that are new.
@@ -254,8 +245,7 @@ impl Packing {
             };
             *number = number.saturating_add(1);
         }
-        write_numbers(numbers, packed);
-        true
+        write_numbers(numbers, packed)
     }
 
     /// Writes the situation behind what is there.
@@ -299,8 +289,32 @@ impl Packing {
     }
 }
 
-/// Packs numbers behind what is there.
-fn write_numbers(numbers: &[u8], packed: &mut Vec<u8>) {
+/// Shows what can be done in a situation of numbers, and the numbers afterwards;
+/// none where a limit forbids it.
+fn each_next(
+    stepper: &Stepper<'_>,
+    numbers: &[u8],
+    seen: Glance<'_>,
+    mut show: impl FnMut(&Try, Option<Limit>, Option<&[u8]>),
+) {
+    let trays = seen.counts.len();
+    let standing = (0..=u8::MAX).zip(numbers.iter().skip(trays));
+    let standing = standing.filter(|(_, number)| **number > 0);
+    let codes = standing.map(|(code, _)| code);
+    stepper.each_try(seen.counts, codes, seen.stations, |one, barred| {
+        if barred.is_some() {
+            return show(one, barred, None);
+        }
+        let mut next = [0; MOST_NUMBERS];
+        let next = next.get_mut(..numbers.len()).unwrap_or(&mut []);
+        next.copy_from_slice(numbers);
+        one.make_numbers(next, trays);
+        show(one, None, Some(next));
+    });
+}
+
+/// Packs numbers behind what is there, which can always be done.
+fn write_numbers(numbers: &[u8], packed: &mut Vec<u8>) -> bool {
     let first = packed.len();
     if numbers.iter().fold(0, |most, number| (*number).max(most)) < LARGE {
         let pairs = numbers.chunks_exact(2);
@@ -320,6 +334,7 @@ fn write_numbers(numbers: &[u8], packed: &mut Vec<u8>) {
     while packed.len() > first && packed.last() == Some(&0) {
         packed.pop();
     }
+    true
 }
 
 /// The numbers that were packed, so many of them.
