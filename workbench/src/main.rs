@@ -7,10 +7,6 @@ use workbench::commands::{self, Streams};
 use workbench::style::Style;
 
 fn main() -> ExitCode {
-    let arguments: Vec<String> = std::env::args_os()
-        .skip(1)
-        .map(|argument| argument.to_string_lossy().into_owned())
-        .collect();
     let mut streams = Streams {
         input: &mut io::stdin().lock(),
         out: &mut BufWriter::new(io::stdout().lock()),
@@ -20,5 +16,6 @@ fn main() -> ExitCode {
         out_is_terminal: io::stdout().is_terminal(),
         input_is_terminal: io::stdin().is_terminal(),
     };
-    ExitCode::from(commands::main(&arguments, &mut streams))
+    let arguments = std::env::args_os().skip(1);
+    ExitCode::from(commands::main_with(arguments, &mut streams))
 }

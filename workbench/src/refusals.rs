@@ -20,18 +20,15 @@ pub fn reason(hall: &Rehearsal<'_>, choice: Choice, refusal: Refusal) -> String 
         Refusal::CHOICE_KIND => "a choice begins with 1 or 2".to_owned(),
         Refusal::CHOICE_CUT_SHORT => "the choice is cut short".to_owned(),
         Refusal::NO_STATION => format!("no station stands at position {position}"),
-        Refusal::WRONG_STATION => match station {
+        Refusal::WRONG_STATION | Refusal::NO_NODE => match station {
+            Some(Station::Attempt(attempt)) if refusal.number == Refusal::NO_NODE => {
+                let last = attempt.nodes.len().saturating_sub(1);
+                format!("the attempt of {name} has nodes 0 to {last}")
+            }
             Some(Station::Attempt(_)) => {
                 format!("{name} is in the middle of its block: its moves are steps")
             }
             _ => format!("{name} has no open attempt"),
-        },
-        Refusal::NO_NODE => match station {
-            Some(Station::Attempt(attempt)) => {
-                let last = attempt.nodes.len().saturating_sub(1);
-                format!("the attempt of {name} has nodes 0 to {last}")
-            }
-            _ => "the attempt has no such node".to_owned(),
         },
         Refusal::NO_RULE => format!("{name} has nothing to do at this node"),
         Refusal::EMPTY_TRAY => format!("{name} is about to {doing}, and the tray is empty"),

@@ -188,25 +188,41 @@ impl<'a> Teller<'a> {
 
     /// A fork that is resolved.
     fn at_fork(&self, rule: u8, attempt: &Attempt, left: usize, right: usize, who: &str) -> String {
-        let log = |node: usize| match attempt.nodes.get(node) {
-            Some(Node::Leaf(leaf)) => Some(notes(self.program, &leaf.log)),
+        let leaf = |node: usize| match attempt.nodes.get(node) {
+            Some(Node::Leaf(leaf)) => Some(leaf),
             _ => None,
         };
-        let first = log(left).unwrap_or_default();
+        let log = |leaf: &Leaf| notes(self.program, &leaf.log);
+        let first = leaf(left).map(log).unwrap_or_default();
+        let others = leaf(right).map(|leaf| (self.ways_left(leaf), log(leaf)));
         if rule == Moved::AOE {
-            let others = log(right).map_or_else(
-                || "The other ways are dropped with all their notes.".to_owned(),
-                |notes| format!("The other way is dropped with its notes ({notes})."),
-            );
+            let others = match others {
+                None => "The other ways are dropped with all their notes.".to_owned(),
+                Some((1, notes)) => format!("The other way is dropped with its notes ({notes})."),
+                Some((ways, notes)) => {
+                    format!("The other {ways} ways are dropped with their notes ({notes}).")
+                }
+            };
             return format!(
                 "{who} settles on its first way, which is finished ({first}). {others}"
             );
         }
-        let others = log(right).map_or_else(
-            || "The other ways go on with their own notes.".to_owned(),
-            |notes| format!("The other way goes on with its own notes ({notes})."),
-        );
+        let others = match others {
+            None => "The other ways go on with their own notes.".to_owned(),
+            Some((1, notes)) => format!("The other way goes on with its own notes ({notes})."),
+            Some((ways, notes)) => {
+                format!("The other {ways} ways go on with their own notes ({notes}).")
+            }
+        };
         format!("{who} drops its first way, which gave up, with its notes ({first}). {others}")
+    }
+
+    /// How many ways a leaf still has before it.
+    fn ways_left(&self, leaf: &Leaf) -> u64 {
+        let rest = leaf.rest.map(usize::from);
+        let measures = measures(self.table.terms());
+        rest.and_then(|rest| measures.get(rest).map(|it| it.branches))
+            .unwrap_or(1)
     }
 
     /// The end of an attempt.

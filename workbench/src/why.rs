@@ -39,11 +39,7 @@ pub fn why(table: &Table, program: &Program, now: &Moment, position: usize) -> V
     }];
     let chosen = ways.iter().position(|way| way.readable(counts));
     for (number, way) in ways.iter().enumerate() {
-        let words = match action_words(program, &way.actions) {
-            words if words.is_empty() => "(no steps)".to_owned(),
-            words => words,
-        };
-        lines.push(format!("  {}  {words}", number + 1));
+        lines.push(format!("  {}  {}", number + 1, way_words(program, way)));
         lines.push(format!(
             "       {}",
             verdict(program, way, number, chosen, counts, when)
@@ -52,6 +48,17 @@ pub fn why(table: &Table, program: &Program, now: &Moment, position: usize) -> V
     let chosen = chosen.and_then(|chosen| ways.get(chosen));
     lines.push(format!("  {}", outcome(program, chosen, now, opened)));
     lines
+}
+
+/// A way's steps; where it ends in `retry`, that too.
+fn way_words(program: &Program, way: &Way) -> String {
+    let steps = action_words(program, &way.actions);
+    match (steps.as_str(), way.ends) {
+        ("", true) => "(no steps)".to_owned(),
+        ("", false) => "retry".to_owned(),
+        (_, true) => steps,
+        (_, false) => format!("{steps}, retry"),
+    }
 }
 
 fn about_to_put(program: &Program, now: &Moment, name: &str, tray: u8) -> String {
@@ -107,21 +114,20 @@ fn outcome(program: &Program, chosen: Option<&Way>, now: &Moment, opened: bool) 
         }
         .to_owned();
     };
-    if !opened {
-        return "It could commit by that way at once.".to_owned();
-    }
     let short = shortages(&way.needs(), &now.counts);
-    let standing = now.stations.len() + puts(&way.actions).len();
-    if short.is_empty() && standing > MOST_STATIONS + 1 {
-        "All of it is there now too, but with what it puts more than 64 stations would stand: the \
-         commit is refused until some have gone."
-            .to_owned()
-    } else if short.is_empty() {
-        "All of it is there now too: the commit will succeed, unless that changes first.".to_owned()
-    } else {
-        format!(
+    let full = now.stations.len() + puts(&way.actions).len() > MOST_STATIONS + 1;
+    let too_many =
+        "All of it is there, but what it puts has no room among 64 stations until some go.";
+    match (opened, short.is_empty(), full) {
+        (false, _, false) => "It could commit by that way at once.".to_owned(),
+        (true, true, false) => {
+            "All of it is there now too: the commit will succeed, unless that changes first."
+                .to_owned()
+        }
+        (false, _, true) | (true, true, true) => too_many.to_owned(),
+        (true, false, _) => format!(
             "But now {}: the commit will fail, unless that changes first.",
             shortage_words(program, &short)
-        )
+        ),
     }
 }

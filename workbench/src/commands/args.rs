@@ -1,6 +1,7 @@
 //! The arguments of a command.
 
 use super::{help, Failure};
+use crate::text::words::nearest;
 
 /// Files and options.
 #[derive(Clone, Debug, Default, PartialEq, Eq)]
@@ -72,7 +73,10 @@ impl Args {
                     args.options.push(option.to_owned());
                 }
                 option if is_option => {
-                    return Err(usage(command, &format!("there is no option '{option}'")));
+                    let known = options.iter().chain(with_value(command)).copied();
+                    let near = did_you_mean(option, known);
+                    let words = format!("there is no option '{option}'{near}");
+                    return Err(usage(command, &words));
                 }
                 file => args.files.push(file.to_owned()),
             }
@@ -108,6 +112,12 @@ impl Args {
     pub fn file(&self, index: usize) -> Option<&str> {
         self.files.get(index).map(String::as_str)
     }
+}
+
+/// The nearest of some words, as a question behind an error.
+#[must_use]
+pub fn did_you_mean<'a>(word: &str, known: impl Iterator<Item = &'a str>) -> String {
+    nearest(word, known).map_or(String::new(), |near| format!("; did you mean '{near}'?"))
 }
 
 fn usage(command: &str, words: &str) -> Failure {

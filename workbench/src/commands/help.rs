@@ -18,6 +18,9 @@ Exit: 0 accepted, or as expected; 1 refused, or an expectation missed;
 itself.
 ";
 
+/// Their words.
+pub const COMMANDS: [&str; 6] = ["check", "build", "show", "run", "play", "explore"];
+
 /// The page of a command.
 #[must_use]
 pub fn page(command: &str) -> Option<&'static str> {
@@ -110,7 +113,7 @@ and a limit is met. Ways are choices for 'hall run', made on the engine before.
                            Quotes keep < and > from the shell. There are = != <
                            <= > >= + - and or not ( ), trays, numbers, and
                            'stations' for how many stand there.
-  --groups         asks it of every group of the parts behind 'start', and names
+  --groups         asks it of every group of the opening's stations, and names
                    the smallest that shows the fault
   --engine         by the engine's own steps, and compares: for small halls
   --all            every sort of end; else the nearest 12, with --json 1000

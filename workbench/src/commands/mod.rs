@@ -10,6 +10,7 @@ mod play;
 mod run;
 mod show;
 
+use std::ffi::OsString;
 use std::io::{self, BufRead, Write};
 
 use crate::style::Style;
@@ -28,6 +29,8 @@ pub enum Exit {
 /// Why a command could not do its work.
 #[derive(Debug)]
 pub enum Failure {
+    /// It was called without a command.
+    NoCommand,
     /// It was called in another way than its help says.
     Usage(String),
     /// A file can't be read or written.
@@ -71,6 +74,23 @@ impl std::fmt::Debug for Streams<'_> {
     }
 }
 
+/// Runs the program with these arguments as the system hands them over.
+pub fn main_with(arguments: impl IntoIterator<Item = OsString>, streams: &mut Streams<'_>) -> u8 {
+    let arguments: Result<Vec<String>, OsString> =
+        arguments.into_iter().map(OsString::into_string).collect();
+    match arguments {
+        Ok(arguments) => main(&arguments, streams),
+        Err(argument) => {
+            let shown = argument.to_string_lossy();
+            let words = format!(
+                "'{shown}' is not written in UTF-8: give the file another name, or hand it over \
+                 as standard input, which is called -"
+            );
+            failed(&Failure::Usage(words), streams)
+        }
+    }
+}
+
 /// Runs the program with these arguments, the program's own name left out, and
 /// gives its exit code.
 pub fn main(arguments: &[String], streams: &mut Streams<'_>) -> u8 {
@@ -90,6 +110,7 @@ fn failed(failure: &Failure, streams: &mut Streams<'_>) -> u8 {
     // What was written before the failure belongs before its words.
     let _ = streams.out.flush();
     let (code, words) = match failure {
+        Failure::NoCommand => (2, help::OVERVIEW.to_owned()),
         Failure::Usage(words) => (2, format!("hall: {words}\n")),
         Failure::File(words) => (3, format!("hall: {words}\n")),
         Failure::Contradiction(words) => (
@@ -107,7 +128,7 @@ fn failed(failure: &Failure, streams: &mut Streams<'_>) -> u8 {
 
 fn dispatch(arguments: &[String], streams: &mut Streams<'_>) -> Outcome {
     let Some((command, rest)) = arguments.split_first() else {
-        return Err(Failure::Usage(help::OVERVIEW.trim_end().to_owned()));
+        return Err(Failure::NoCommand);
     };
     match command.as_str() {
         "help" | "--help" | "-h" => {
@@ -149,8 +170,9 @@ fn said(streams: &mut Streams<'_>, words: &str) -> Outcome {
 }
 
 fn no_command(command: &str) -> Failure {
+    let near = args::did_you_mean(command, help::COMMANDS.into_iter());
     Failure::Usage(format!(
-        "there is no command '{command}'; hall help lists them"
+        "there is no command '{command}'{near}\nhall help lists all commands"
     ))
 }
 
@@ -183,7 +205,10 @@ mod tests {
     fn codes() {
         let (code, words) = said(&Failure::Contradiction("names".to_owned()));
         assert_eq!(code, 70);
-        assert!(words.starts_with("hall: this program is at odds with itself: names."));
+        assert_eq!(
+            words,
+            "hall: this program is at odds with itself: names. Nothing it printed counts.\n"
+        );
         assert_eq!(
             said(&Failure::Usage("so".to_owned())),
             (2, "hall: so\n".to_owned())

@@ -7,6 +7,7 @@ use ruonfidd::Choice;
 use super::build::{not_over, write_whole};
 use super::check::refused;
 use super::load;
+use super::run::counted;
 use super::run::problems::{lost_problem, missed, unexpected};
 use super::run::script::script;
 use super::{Args, Exit, Failure, Outcome, Streams};
@@ -310,8 +311,9 @@ impl Playing<'_, '_, '_> {
         match over.and_then(|()| write_whole(file, text.as_bytes())) {
             Ok(()) => writeln!(
                 self.streams.out,
-                "      {} written to {file}: hall run FILE {file} makes them again",
-                self.said.len()
+                "      {} written to {file}: hall run {} {file} makes them again",
+                counted(&self.said.len(), "choice"),
+                self.file
             )?,
             // One plays on: the choices are not lost.
             Err(Failure::File(words) | Failure::Usage(words)) => {

@@ -27,7 +27,7 @@ pub fn picture(program: &Program, explored: &Explored, labels: &Labels) -> Optio
         let frame = if end { ", peripheries=2" } else { "" };
         let words = situation_words(program, explored, labels, index);
         let _ = writeln!(text, "  s{index} [label=\"{words}\"{frame}];");
-        stepper.each(store.get(index), |step, tried| {
+        stepper.each(&store.get(index), |step, tried| {
             if let Tried::To(next) = tried {
                 if let Some(to) = store.find(next) {
                     let words = escaped(&step_words(explored, labels, step));
@@ -47,7 +47,8 @@ fn situation_words(
     index: Index,
 ) -> String {
     let model = &explored.model;
-    let (counts, stations) = model.split(explored.found.store.get(index));
+    let situation = explored.found.store.get(index);
+    let (counts, stations) = model.split(&situation);
     let trays = model.trays().iter().zip(counts);
     let trays: Vec<String> = trays
         .filter(|(_, count)| **count > 0)

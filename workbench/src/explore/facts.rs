@@ -86,6 +86,8 @@ pub struct Answer {
     pub question: String,
     /// What was found.
     pub verdict: Verdict,
+    /// Whether it is about ends, and there is none.
+    pub no_end: bool,
 }
 
 /// What was found.
@@ -168,10 +170,11 @@ impl Collector<'_> {
     fn ends(&self) -> Result<(Vec<End>, usize), Contradiction> {
         let Explored { model, found, .. } = self.explored;
         let mut sorts: Vec<(Index, usize)> = Vec::new();
-        let mut of_counts: HashMap<&[u8], usize> = HashMap::new();
+        let mut of_counts: HashMap<Vec<u8>, usize> = HashMap::new();
         for index in &found.ends {
-            let (counts, _) = model.split(found.store.get(*index));
-            let sort = *of_counts.entry(counts).or_insert(sorts.len());
+            let situation = found.store.get(*index);
+            let (counts, _) = model.split(&situation);
+            let sort = *of_counts.entry(counts.to_vec()).or_insert(sorts.len());
             match sorts.get_mut(sort) {
                 Some((_, situations)) => *situations += 1,
                 None => sorts.push((*index, 1)),
@@ -182,7 +185,8 @@ impl Collector<'_> {
             .take(self.most_ends)
             .map(|(index, situations)| {
                 let witness = self.way_to(*index)?;
-                let (counts, _) = model.split(found.store.get(*index));
+                let situation = found.store.get(*index);
+                let (counts, _) = model.split(&situation);
                 Ok(End {
                     counts: counts.to_vec(),
                     situations: *situations,
@@ -316,6 +320,7 @@ impl Collector<'_> {
                     asked,
                     question: question.text.clone(),
                     verdict: self.verdict(asked, *broken)?,
+                    no_end: asked == Asked::Ends && found.ends.is_empty(),
                 })
             })
             .collect()
@@ -344,6 +349,18 @@ impl Answer {
         match self.asked {
             Asked::Never => format!("never {}", self.question),
             Asked::Ends => format!("every end has {}", self.question),
+        }
+    }
+}
+
+impl Answer {
+    /// How it is told that it holds.
+    #[must_use]
+    pub fn holds(&self) -> &'static str {
+        if self.no_end {
+            "holds, since there is no end"
+        } else {
+            "holds"
         }
     }
 }

@@ -1,21 +1,24 @@
 //! Every group of a hall's stations: which is the smallest that shows a fault?
 //!
-//! A group is some of the parts that stand side by side behind `start`. A rule
-//! stays whole; of `3 of clerk` one, two or three may be in it.
+//! The stations are those that stand in the hall when it opens, whichever rule
+//! put them there: a rule that opens several is several stations here. Equal
+//! ones are not told apart, only counted.
 
-use crate::table::Table;
+use crate::stations::Station;
+use crate::table::{Table, Term};
 use crate::text::assembly::assemble;
 use crate::text::compare::means;
 use crate::text::source::Span;
 use crate::text::tree::{PartId, PartKind, Program};
-use crate::ways::action_words;
 
 use super::facts::{Answer, Collector};
-use super::investigate::{investigate, Explored};
-use super::model::Model;
+use super::investigate::investigate;
+use super::labels::opened_parts;
+use super::model::{opened_terms, Model};
 use super::question::Question;
 use super::replay::Contradiction;
-use super::search::{Limits, Progress, Questions};
+use super::search::{Cut, Limits, Progress, Questions};
+use super::start_line::start_line;
 
 /// More groups are not gone through.
 pub const MOST_GROUPS: usize = 4096;
@@ -25,7 +28,7 @@ pub const MOST_GROUPS: usize = 4096;
 pub struct Group {
     /// The line that opens it: `start clerk beside runner`.
     pub start: String,
-    /// How many parts it has.
+    /// How many stations it has.
     pub size: usize,
     /// How many situations it has.
     pub situations: u64,
@@ -33,101 +36,162 @@ pub struct Group {
     pub answers: Vec<Answer>,
 }
 
-/// Why groups were not gone through.
-#[derive(Clone, Debug, PartialEq, Eq)]
-pub enum Ungrouped {
-    /// There are so many.
-    TooMany(usize),
-    /// Exploration and engine are at odds.
-    Contradiction(Contradiction),
+/// The groups that were gone through.
+#[derive(Clone, Debug)]
+pub struct Groups {
+    /// How many stations stand there at the opening.
+    pub stations: usize,
+    /// How many groups they make.
+    pub all: u64,
+    /// Those gone through, small ones first.
+    pub tried: Vec<Group>,
+    /// Every group of up to so many stations is among them.
+    pub up_to: usize,
+    /// Why some were left out.
+    pub left_out: Option<LeftOut>,
 }
 
-/// The parts behind `start`, equal ones counted.
-fn parts(program: &Program) -> Vec<(PartId, usize)> {
-    let mut start = program.start;
-    // A start that is nothing but a name stands for what the name does.
-    while let PartKind::Named(index) = program.part(start).kind {
-        match program.definitions.get(index) {
-            Some(definition) => start = definition.body,
-            None => break,
-        }
-    }
-    let mut parts: Vec<(PartId, usize)> = Vec::new();
-    let mut to_see = vec![(start, 1)];
-    while let Some((part, copies)) = to_see.pop() {
-        let kind = program.part(part).kind;
-        match kind {
-            PartKind::Beside(left, right) => {
-                to_see.push((right, copies));
-                to_see.push((left, copies));
-            }
-            PartKind::Copies(count, of) => to_see.push((of, copies * usize::from(count))),
-            PartKind::Nothing => {}
-            _ => {
-                let alike = |other: &&mut (PartId, usize)| program.part(other.0).kind == kind;
-                match parts.iter_mut().find(alike) {
-                    Some((_, number)) => *number += copies,
-                    None => parts.push((part, copies)),
-                }
-            }
-        }
-    }
-    parts
+/// Why groups were left out.
+#[derive(Clone, Copy, Debug, PartialEq, Eq)]
+pub enum LeftOut {
+    /// Those of the next size would have been too many.
+    TooMany,
+    /// The time was over.
+    Time,
 }
 
-/// All groups but the empty one, small ones first: of each part how many.
-fn choose(parts: &[(PartId, usize)]) -> Result<Vec<Vec<usize>>, Ungrouped> {
-    let groups = parts
-        .iter()
-        .try_fold(1_usize, |groups, (_, copies)| {
-            groups.checked_mul(copies + 1)
-        })
-        .unwrap_or(usize::MAX);
-    if groups - 1 > MOST_GROUPS {
-        return Err(Ungrouped::TooMany(groups - 1));
-    }
-    let mut chosen: Vec<Vec<usize>> = vec![Vec::new()];
-    for (_, copies) in parts {
-        chosen = chosen
-            .into_iter()
-            .flat_map(|group| {
-                (0..=*copies).rev().map(move |number| {
-                    let mut group = group.clone();
-                    group.push(number);
-                    group
-                })
-            })
-            .collect();
-    }
-    chosen.retain(|group| group.iter().sum::<usize>() > 0);
-    chosen.sort_by_key(|group| group.iter().sum::<usize>());
-    Ok(chosen)
+/// Equal stations of the opening.
+#[derive(Clone, Copy, Debug, PartialEq, Eq)]
+struct Sort {
+    /// What a start line has for one of them.
+    part: PartId,
+    code: u8,
+    copies: usize,
 }
 
-/// Explores every group.
+/// Explores every group, small ones first, as far as the limits allow.
 ///
 /// # Errors
 ///
-/// Where there are too many, or the engine does not do what was foretold.
+/// Where the engine does not do what was foretold.
 pub fn groups(
+    table: &Table,
     program: &Program,
     questions: &Questions,
     limits: Limits,
     progress: &mut Progress<'_>,
-) -> Result<Vec<Group>, Ungrouped> {
-    let parts = parts(program);
-    choose(&parts)?
-        .into_iter()
-        .map(|chosen| {
-            let chosen: Vec<(PartId, usize)> = parts
-                .iter()
-                .zip(chosen)
-                .map(|((part, _), number)| (*part, number))
-                .filter(|(_, number)| *number > 0)
-                .collect();
-            explore(program, &chosen, questions, limits, progress).map_err(Ungrouped::Contradiction)
-        })
-        .collect()
+) -> Result<Groups, Contradiction> {
+    let mut program = program.clone();
+    program.choices = None;
+    let sorts = sorts(table, &mut program);
+    let sizes = sizes(&sorts);
+    let mut groups = Groups {
+        stations: sorts.iter().map(|sort| sort.copies).sum(),
+        all: all_but_the_empty(&sizes),
+        tried: Vec::new(),
+        up_to: 0,
+        left_out: None,
+    };
+    for (size, number) in sizes.into_iter().enumerate() {
+        // The empty group is one only where there is no other.
+        if size == 0 && groups.stations > 0 {
+            continue;
+        }
+        let so_far = u128::try_from(groups.tried.len()).unwrap_or(u128::MAX);
+        if number.saturating_add(so_far) > u128::try_from(MOST_GROUPS).unwrap_or(0) {
+            groups.left_out = Some(LeftOut::TooMany);
+            return Ok(groups);
+        }
+        for chosen in of_size(&sorts, size) {
+            if limits.met(0) == Some(Cut::Time) {
+                groups.left_out = Some(LeftOut::Time);
+                return Ok(groups);
+            }
+            let group = explore(&program, &chosen, questions, limits, progress)?;
+            groups.tried.push(group);
+        }
+        groups.up_to = size;
+    }
+    Ok(groups)
+}
+
+/// The stations of the opening, equal ones together, in the order in which the
+/// first of them stands. One that is all of a rule is called by that rule.
+fn sorts(table: &Table, program: &mut Program) -> Vec<Sort> {
+    let model = Model::of(table);
+    let parts = opened_parts(program, program.start);
+    let terms = opened_terms(table, table.start());
+    let mut sorts: Vec<Sort> = Vec::new();
+    for ((part, rule), term) in parts.into_iter().zip(terms) {
+        let station = match table.term(term) {
+            Term::Put { tray } => Station::Putting(tray),
+            _ => Station::Waiting(term),
+        };
+        let Some(code) = model.code(&station) else {
+            continue;
+        };
+        if let Some(sort) = sorts.iter_mut().find(|sort| sort.code == code) {
+            sort.copies += 1;
+            continue;
+        }
+        let part = match rule.filter(|rule| opens_one(program, *rule)) {
+            Some(rule) => program.add(PartKind::Named(rule), Span::default()),
+            None => part,
+        };
+        sorts.push(Sort {
+            part,
+            code,
+            copies: 1,
+        });
+    }
+    sorts
+}
+
+fn opens_one(program: &Program, rule: usize) -> bool {
+    let body = program.definitions.get(rule).map(|it| it.body);
+    body.is_some_and(|body| opened_parts(program, body).len() == 1)
+}
+
+/// How many groups there are of each size, that of no station first. All of 64
+/// stations make 2^64 groups.
+fn sizes(sorts: &[Sort]) -> Vec<u128> {
+    let mut sizes = vec![1];
+    for sort in sorts {
+        let mut with = vec![0; sizes.len() + sort.copies];
+        for (size, number) in sizes.iter().enumerate() {
+            for sum in with.iter_mut().skip(size).take(sort.copies + 1) {
+                *sum += number;
+            }
+        }
+        sizes = with;
+    }
+    sizes
+}
+
+fn all_but_the_empty(sizes: &[u128]) -> u64 {
+    let all: u128 = sizes.iter().skip(1).sum();
+    u64::try_from(all).unwrap_or(u64::MAX).max(1)
+}
+
+/// The groups of a size: the stations that are in it, and how many of each.
+fn of_size(sorts: &[Sort], size: usize) -> Vec<Vec<(PartId, usize)>> {
+    let room: usize = sorts.iter().map(|sort| sort.copies).sum();
+    let Some((first, rest)) = sorts.split_first().filter(|_| size > 0) else {
+        return if size == 0 { vec![vec![]] } else { vec![] };
+    };
+    if room < size {
+        return Vec::new();
+    }
+    let mut groups = Vec::new();
+    for number in (0..=first.copies.min(size)).rev() {
+        for others in of_size(rest, size - number) {
+            let mut group = vec![(first.part, number)];
+            group.retain(|(_, number)| *number > 0);
+            group.extend(others);
+            groups.push(group);
+        }
+    }
+    groups
 }
 
 fn explore(
@@ -158,15 +222,11 @@ fn explore(
         most_ends: 0,
     };
     Ok(Group {
-        start: format!("start {}", chosen_words(&program, chosen)),
+        start: start_line(&program, chosen),
         size: chosen.iter().map(|(_, number)| number).sum(),
-        situations: situations(&explored),
+        situations: explored.found.situations,
         answers: facts.answers()?,
     })
-}
-
-fn situations(explored: &Explored) -> u64 {
-    explored.found.situations
 }
 
 /// Slots are those of a table, so that each group's questions are read anew.
@@ -187,7 +247,6 @@ fn asked_of(questions: &Questions, program: &Program, table: &Table) -> Option<Q
 /// The same text with another start.
 fn started_with(program: &Program, chosen: &[(PartId, usize)]) -> Program {
     let mut program = program.clone();
-    program.choices = None;
     let mut start = None;
     for (part, number) in chosen.iter().rev() {
         let number = u8::try_from(*number).unwrap_or(u8::MAX);
@@ -200,93 +259,53 @@ fn started_with(program: &Program, chosen: &[(PartId, usize)]) -> Program {
             Some(rest) => program.add(PartKind::Beside(part, rest), Span::default()),
         });
     }
-    program.start = start.unwrap_or(program.start);
+    program.start = match start {
+        Some(start) => start,
+        None => program.add(PartKind::Nothing, Span::default()),
+    };
     program
 }
 
-fn chosen_words(program: &Program, chosen: &[(PartId, usize)]) -> String {
-    let words: Vec<String> = chosen
-        .iter()
-        .map(|(part, number)| {
-            let words = process_words(program, *part);
-            let words = match program.part(*part).kind {
-                PartKind::Take(..) | PartKind::Repeatedly(..) => format!("({words})"),
-                _ => words,
-            };
-            match number {
-                1 => words,
-                _ => format!("{number} of {words}"),
-            }
-        })
-        .collect();
-    words.join(" beside ")
-}
+#[cfg(test)]
+mod tests {
+    use super::{of_size, sizes, Sort};
 
-/// A process in the words of a text. A table was made of it, so it is no more
-/// than 200 parts deep.
-fn process_words(program: &Program, part: PartId) -> String {
-    let inner = |part: PartId| {
-        let words = process_words(program, part);
-        match program.part(part).kind {
-            PartKind::Beside(..) => format!("({words})"),
-            _ => words,
-        }
-    };
-    match program.part(part).kind {
-        PartKind::Named(index) => program
-            .definitions
-            .get(index)
-            .map_or(String::new(), |definition| definition.name.clone()),
-        PartKind::Put(tray) => format!("put {}", program.tray_name(tray)),
-        PartKind::Take(tray, then) => {
-            format!("take {} then {}", program.tray_name(tray), inner(then))
-        }
-        PartKind::Repeatedly(tray, then) => format!(
-            "repeatedly take {} then {}",
-            program.tray_name(tray),
-            inner(then)
-        ),
-        PartKind::Beside(left, right) => {
-            let left_words = match program.part(left).kind {
-                PartKind::Take(..) | PartKind::Repeatedly(..) => {
-                    format!("({})", process_words(program, left))
+    fn sorts(copies: &[usize]) -> Vec<Sort> {
+        let sort = |(part, copies): (usize, &usize)| Sort {
+            part,
+            code: 0,
+            copies: *copies,
+        };
+        copies.iter().enumerate().map(sort).collect()
+    }
+
+    /// As many are made as were counted, no two alike, each of its size.
+    #[test]
+    fn groups_of_each_size() {
+        for copies in [vec![], vec![1], vec![3, 1, 2], vec![1; 7], vec![64]] {
+            let sorts = sorts(&copies);
+            let sizes = sizes(&sorts);
+            assert_eq!(sizes.len(), copies.iter().sum::<usize>() + 1);
+            for (size, number) in sizes.into_iter().enumerate() {
+                let mut groups = of_size(&sorts, size);
+                for group in &groups {
+                    let stations: usize = group.iter().map(|(_, number)| number).sum();
+                    assert_eq!(stations, size);
+                    assert!(group.iter().all(|(part, number)| *number > 0
+                        && copies.get(*part).is_some_and(|copies| number <= copies)));
                 }
-                _ => inner(left),
-            };
-            format!("{left_words} beside {}", process_words(program, right))
+                groups.sort();
+                groups.dedup();
+                assert_eq!(u128::try_from(groups.len()), Ok(number));
+            }
+            assert!(of_size(&sorts, copies.iter().sum::<usize>() + 1).is_empty());
         }
-        PartKind::Copies(count, of) => format!("{count} of {}", inner(of)),
-        PartKind::Block(ways) => format!("block ({})", ways_words(program, ways)),
-        _ => "nothing".to_owned(),
     }
-}
 
-fn ways_words(program: &Program, part: PartId) -> String {
-    use crate::stations::Action;
-    match program.part(part).kind {
-        PartKind::Named(index) => program
-            .definitions
-            .get(index)
-            .map_or(String::new(), |definition| definition.name.clone()),
-        PartKind::NoteTake(tray, rest) => step_words(program, Action::Take(tray), rest),
-        PartKind::NotePut(tray, rest) => step_words(program, Action::Put(tray), rest),
-        PartKind::OrElse(left, right) => {
-            let first = match program.part(left).kind {
-                PartKind::OrElse(..) => format!("({})", ways_words(program, left)),
-                _ => ways_words(program, left),
-            };
-            format!("{first} or else {}", ways_words(program, right))
-        }
-        PartKind::Retry => "retry".to_owned(),
-        _ => "end".to_owned(),
+    #[test]
+    fn so_many_that_they_are_not_made() {
+        let sizes = sizes(&sorts(&[1; 64]));
+        assert_eq!(sizes.iter().sum::<u128>(), 1 << 64);
+        assert_eq!(sizes.get(2), Some(&2016));
     }
-}
-
-fn step_words(program: &Program, action: crate::stations::Action, rest: PartId) -> String {
-    let words = ways_words(program, rest);
-    let words = match program.part(rest).kind {
-        PartKind::OrElse(..) => format!("({words})"),
-        _ => words,
-    };
-    format!("{}, {words}", action_words(program, &[action]))
 }

@@ -190,7 +190,7 @@ impl Walk<'_> {
 
 /// The stations that a part opens, left to right, each with the innermost rule
 /// around it. The table was accepted: there are at most 64.
-fn opened_parts(program: &Program, part: PartId) -> Vec<(PartId, Option<usize>)> {
+pub(super) fn opened_parts(program: &Program, part: PartId) -> Vec<(PartId, Option<usize>)> {
     let mut opened = Vec::new();
     let mut to_open = vec![(part, None)];
     while let Some((part, rule)) = to_open.pop() {

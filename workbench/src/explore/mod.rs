@@ -9,7 +9,7 @@
 //! |---|---|
 //! | [`model`] | stations as codes, situations as bytes |
 //! | [`steps`] | what can happen next |
-//! | [`store`] | situations, each kept once |
+//! | [`store`], [`situations`] | records, each kept once; situations in few bytes |
 //! | [`question`] | what is asked of them |
 //! | [`search`] | all of them, breadth first |
 //! | [`investigate`] | whether that was exact; once more with notes where not |
@@ -17,6 +17,7 @@
 //! | [`replay`] | a way to a situation, made on the library |
 //! | [`labels`] | what the stations of a code are called |
 //! | [`waiting`] | who is left at an end, and why |
+//! | [`groups`], [`start_line`] | every group of stations, and the line that opens it |
 //! | [`engine`] | all halls by the library's own steps |
 
 pub mod dot;
@@ -32,6 +33,8 @@ pub mod question;
 pub mod replay;
 pub mod report;
 pub mod search;
+pub mod situations;
+pub mod start_line;
 pub mod steps;
 pub mod store;
 pub mod waiting;

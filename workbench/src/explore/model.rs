@@ -69,16 +69,6 @@ pub struct Way {
     pub puts: Vec<u8>,
 }
 
-impl Way {
-    /// Whether the counts have all that it takes.
-    #[must_use]
-    pub fn readable(&self, counts: &[u8]) -> bool {
-        self.needs
-            .iter()
-            .all(|(slot, need)| counts.get(*slot).is_some_and(|count| count >= need))
-    }
-}
-
 /// A table as the exploration sees it.
 #[derive(Clone, Debug, PartialEq, Eq)]
 pub struct Model {
@@ -167,6 +157,12 @@ impl Model {
         stations
             .last()
             .map_or(true, |code| usize::from(*code) < self.first_noted)
+    }
+
+    /// The first code of a block with a note; all from there on are such.
+    #[must_use]
+    pub fn first_noted(&self) -> usize {
+        self.first_noted
     }
 
     /// Whether some block has two ways or more.

@@ -88,6 +88,7 @@ pub fn answer(answer: &Answer) -> String {
         .string("asked", answer.asked.word())
         .string("question", &answer.question);
     match &answer.verdict {
+        Verdict::Holds if answer.no_end => object.string("verdict", "holds").truth("no_end", true),
         Verdict::Holds => object.string("verdict", "holds"),
         Verdict::Open => object.string("verdict", "not known"),
         Verdict::Broken(witness, stations) => with_witness(

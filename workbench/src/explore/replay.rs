@@ -14,8 +14,9 @@ use crate::table::Table;
 use crate::text::tree::Program;
 
 use super::model::{Kind, Model};
+use super::situations::Situations;
 use super::steps::{Deed, Step, Stepper, Tried};
-use super::store::{Index, Store};
+use super::store::Index;
 
 /// Exploration and engine are at odds.
 #[derive(Clone, Debug, PartialEq, Eq)]
@@ -104,7 +105,7 @@ pub fn replay(
     table: &Table,
     program: &Program,
     model: &Model,
-    store: &Store,
+    store: &Situations,
     to: Index,
 ) -> Result<Witness, Contradiction> {
     let mut replay = Replay::open(table, program, model)?;
@@ -141,10 +142,10 @@ impl<'a> Replay<'a> {
     /// # Errors
     ///
     /// Where the engine does not do what was foretold.
-    pub fn follow(&mut self, store: &Store, way: &[Index]) -> Result<(), Contradiction> {
+    pub fn follow(&mut self, store: &Situations, way: &[Index]) -> Result<(), Contradiction> {
         for pair in way.windows(2) {
             if let [from, to] = *pair {
-                self.step(store.get(from), store.get(to))?;
+                self.step(&store.get(from), &store.get(to))?;
             }
         }
         Ok(())

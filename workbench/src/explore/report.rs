@@ -57,10 +57,10 @@ impl Report<'_> {
 
     fn head(&self) -> Vec<String> {
         let found = &self.explored.found;
-        let seen = if found.cut.is_none() {
+        let seen = if self.complete() {
             "all of them seen"
         } else {
-            "and there are more"
+            "and there may be more"
         };
         let mut head = wrapped(
             "",
@@ -260,7 +260,7 @@ impl Report<'_> {
 
     fn answer(&self, answer: &Answer) -> Vec<String> {
         let (verdict, witness, left) = match &answer.verdict {
-            Verdict::Holds => (self.style.good("holds"), None, None),
+            Verdict::Holds => (self.style.good(answer.holds()), None, None),
             Verdict::Open => (
                 "not known; nothing that was seen breaks it".to_owned(),
                 None,

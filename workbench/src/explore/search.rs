@@ -4,8 +4,9 @@ use std::time::Instant;
 
 use super::model::{Kind, Model};
 use super::question::Question;
-use super::steps::{Deed, Limit, Step, Stepper, Tried};
-use super::store::{Batch, Index, Store};
+use super::situations::{Glance, Situations};
+use super::steps::{Deed, Limit, Step, Stepper};
+use super::store::{Batch, Index};
 
 /// How far an exploration may go.
 #[derive(Clone, Copy, Debug)]
@@ -138,7 +139,7 @@ impl Marks {
 pub struct Found {
     /// The situations, and from which each was first reached. Those with notes
     /// are among them.
-    pub store: Store,
+    pub store: Situations,
     /// How many situations there are, those with notes left out.
     pub situations: u64,
     /// The situations from which no step is left, in the order in which they
@@ -179,8 +180,8 @@ pub fn search(
         found: Found::of_opening(model, questions),
     };
     let mut opening = Batch::default();
-    opening.add(model.opening(), 0);
-    search.keep(&opening);
+    search.found.store.add(&mut opening, model.opening(), 0);
+    search.keep(&mut opening);
     search.go_through(limits, progress);
     search.found
 }
@@ -213,7 +214,7 @@ impl Search<'_> {
                 self.found.cut = Some(Cut::Memory);
                 return;
             }
-            self.keep(&batch);
+            self.keep(&mut batch);
         }
     }
 
@@ -227,33 +228,40 @@ impl Search<'_> {
             found,
             questions,
         } = self;
-        let situation = found.store.get(index);
-        let marks = &mut found.marks;
-        let mut ended = true;
-        stepper.each(situation, |step, tried| match tried {
-            Tried::To(next) => {
-                ended &= matches!(step.deed, Deed::Note(_));
+        let Found {
+            store,
+            marks,
+            ends,
+            broken_ends,
+            ..
+        } = found;
+        let ended = std::cell::Cell::new(true);
+        let show = |step: Step, barred| match barred {
+            None => {
+                ended.set(ended.get() && matches!(step.deed, Deed::Note(_)));
                 marks.mark(model, step);
-                batch.add(next, index);
             }
-            Tried::Barred(limit) => marks.meet(limit, index, step.code),
-        });
-        if ended && model.without_notes(situation) {
-            found.ends.push(index);
-            let (counts, stations) = model.split(situation);
-            for (first, question) in found.broken_ends.iter_mut().zip(&questions.ends) {
-                if first.is_none() && !question.holds(counts, stations.len()) {
+            Some(limit) => marks.meet(limit, index, step.code),
+        };
+        store.go_on(stepper, index, batch, show, |situation| {
+            if !ended.get() || situation.noted {
+                return;
+            }
+            ends.push(index);
+            let Glance {
+                counts, stations, ..
+            } = situation;
+            for (first, question) in broken_ends.iter_mut().zip(&questions.ends) {
+                if first.is_none() && !question.holds(counts, stations) {
                     *first = Some(index);
                 }
             }
-        }
+        });
     }
 
-    fn keep(&mut self, batch: &Batch) {
+    fn keep(&mut self, batch: &mut Batch) {
         let Search {
-            model,
-            found,
-            questions,
+            found, questions, ..
         } = self;
         let Found {
             store,
@@ -264,17 +272,19 @@ impl Search<'_> {
         } = found;
         let kept = store.keep_batch(batch, |index, situation| {
             // With notes each situation is there without them too.
-            if !model.without_notes(situation) {
+            if situation.noted {
                 return;
             }
             *situations += 1;
-            let (counts, stations) = model.split(situation);
+            let Glance {
+                counts, stations, ..
+            } = situation;
             for ((least, most), count) in extremes.iter_mut().zip(counts) {
                 *least = (*least).min(*count);
                 *most = (*most).max(*count);
             }
             for (first, question) in never.iter_mut().zip(&questions.never) {
-                if first.is_none() && question.holds(counts, stations.len()) {
+                if first.is_none() && question.holds(counts, stations) {
                     *first = Some(index);
                 }
             }
@@ -289,7 +299,7 @@ impl Found {
     fn of_opening(model: &Model, questions: &Questions) -> Found {
         let (counts, _) = model.split(model.opening());
         Found {
-            store: Store::new(),
+            store: Situations::of(model),
             situations: 0,
             ends: Vec::new(),
             extremes: counts.iter().map(|count| (*count, *count)).collect(),

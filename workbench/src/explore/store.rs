@@ -33,11 +33,14 @@ const FREE: Slot = [0; 5];
 ///
 /// One record alone is waited for several times, since its slot and what the
 /// slot leads to stand anywhere in a large memory. For many at once the memory
-/// is asked together: an exploration of millions takes two thirds of the time.
+/// is asked together, and most of the waiting is saved.
 #[derive(Clone, Debug, Default)]
 pub struct Batch {
     bytes: Vec<u8>,
     items: Vec<Item>,
+    /// The records that the items may be equal to, and where they end.
+    likely: Vec<Index>,
+    places: Vec<usize>,
 }
 
 #[derive(Clone, Copy, Debug)]
@@ -45,16 +48,32 @@ struct Item {
     end: usize,
     parent: Index,
     hash: u64,
+    /// From which slot on it is to be looked for.
+    from: usize,
 }
 
 impl Batch {
     /// Adds a record.
     pub fn add(&mut self, record: &[u8], parent: Index) {
-        self.bytes.extend_from_slice(record);
+        self.add_written(parent, |bytes| {
+            bytes.extend_from_slice(record);
+            true
+        });
+    }
+
+    /// Adds the record that is written behind the bytes given; none where that
+    /// says no.
+    pub fn add_written(&mut self, parent: Index, write: impl FnOnce(&mut Vec<u8>) -> bool) {
+        let start = self.bytes.len();
+        if !write(&mut self.bytes) {
+            self.bytes.truncate(start);
+            return;
+        }
         self.items.push(Item {
             end: self.bytes.len(),
             parent,
-            hash: hash(record),
+            hash: hash(self.bytes.get(start..).unwrap_or(&[])),
+            from: 0,
         });
     }
 
@@ -87,6 +106,9 @@ impl Batch {
 }
 
 const FEWEST_SLOTS: usize = 1 << 10;
+
+/// So many records get their slots together where slots are made anew.
+const TOGETHER: usize = 256;
 
 /// How much of an end is kept with each record; the rest of it is the same for
 /// very many. Tests keep less, so that they see it change.
@@ -142,7 +164,7 @@ impl Store {
     pub fn memory_with(&self, more: usize) -> usize {
         let mut slots = self.slots.len();
         while too_full(self.len() + more, slots) {
-            slots *= 2;
+            slots = more_slots(slots);
         }
         self.memory() + size_of::<Slot>() * (slots - self.slots.len())
     }
@@ -150,11 +172,8 @@ impl Store {
     /// The record of a number, empty for one that there is not.
     #[must_use]
     pub fn get(&self, index: Index) -> &[u8] {
-        let start = match index.checked_sub(1) {
-            None => 0,
-            Some(before) => self.end(before),
-        };
-        self.bytes.get(start..self.end(index)).unwrap_or(&[])
+        let record = self.start(index)..self.end(index);
+        self.bytes.get(record).unwrap_or(&[])
     }
 
     /// From which record this one was first reached; the first one from itself.
@@ -185,7 +204,8 @@ impl Store {
     /// The number of a record that is kept.
     #[must_use]
     pub fn find(&self, record: &[u8]) -> Option<Index> {
-        self.look_up(record, hash(record)).ok()
+        let hash = hash(record);
+        self.look_up(record, hash, self.first_slot(hash)).ok()
     }
 
     /// Keeps a record, reached from that of the number `parent`.
@@ -205,12 +225,17 @@ impl Store {
     /// As for a single record; those before it are kept.
     pub fn keep_batch(
         &mut self,
-        batch: &Batch,
+        batch: &mut Batch,
         mut show: impl FnMut(Index, &[u8]),
     ) -> Result<(), NoRoom> {
+        // All slots that the batch may take, so that none changes its place.
+        while too_full(self.len() + batch.len(), self.slots.len()) {
+            self.grow()?;
+        }
         self.touch(batch);
         for (item, record) in batch.records() {
-            if let Kept::New(index) = self.keep_hashed(record, item.parent, item.hash)? {
+            if let Err(slot) = self.look_up(record, item.hash, item.from) {
+                let index = self.append(record, item.parent, item.hash, slot)?;
                 show(index, record);
             }
         }
@@ -219,22 +244,35 @@ impl Store {
 
     /// Reads what the records of a batch will be compared with, for all of them
     /// slot by slot, then end by end, then byte by byte: the reads of one kind
-    /// do not wait for each other. Nothing is done with them.
-    fn touch(&self, batch: &Batch) {
-        let likely: Vec<Option<Index>> = batch
-            .items
-            .iter()
-            .map(|item| self.slots.get(self.first_slot(item.hash)))
-            .map(|slot| index_in(slot.copied().unwrap_or(FREE)))
-            .collect();
-        let ends: Vec<usize> = likely
-            .iter()
-            .map(|index| index.map_or(0, |index| self.end(index)))
-            .collect();
-        let sum = ends
-            .iter()
-            .filter_map(|end| self.bytes.get(end.checked_sub(1)?))
-            .fold(0, |sum, byte| sum ^ byte);
+    /// do not wait for each other. What is kept of it is the first slot that is
+    /// free or has the record's tag; those before it stay what they are.
+    fn touch(&self, batch: &mut Batch) {
+        let mut sum = 0;
+        for item in &mut batch.items {
+            item.from = self.first_slot(item.hash);
+            let [first, ..] = self.slots.get(item.from).copied().unwrap_or(FREE);
+            sum ^= first;
+        }
+        batch.likely.clear();
+        for item in &mut batch.items {
+            let tag = tag_of(item.hash);
+            let index = loop {
+                let slot = self.slots.get(item.from).copied().unwrap_or(FREE);
+                let [.., other] = slot;
+                match index_in(slot) {
+                    Some(_) if other != tag => item.from = self.next_slot(item.from),
+                    index => break index,
+                }
+            };
+            batch.likely.extend(index);
+        }
+        batch.places.clear();
+        for index in &batch.likely {
+            batch.places.push(self.end(*index).saturating_sub(1));
+        }
+        for place in &batch.places {
+            sum ^= self.bytes.get(*place).copied().unwrap_or(0);
+        }
         std::hint::black_box(sum);
     }
 
@@ -242,7 +280,7 @@ impl Store {
         if too_full(self.len() + 1, self.slots.len()) {
             self.grow()?;
         }
-        match self.look_up(record, hash) {
+        match self.look_up(record, hash, self.first_slot(hash)) {
             Ok(index) => Ok(Kept::Known(index)),
             Err(slot) => self.append(record, parent, hash, slot).map(Kept::New),
         }
@@ -273,6 +311,10 @@ impl Store {
         Ok(index)
     }
 
+    fn start(&self, index: Index) -> usize {
+        index.checked_sub(1).map_or(0, |before| self.end(before))
+    }
+
     fn end(&self, index: Index) -> usize {
         let Some(low) = self.ends.get(place(index)) else {
             return 0;
@@ -281,9 +323,9 @@ impl Store {
         (higher << LOW_BITS) + place(*low)
     }
 
-    /// The record's number, or the free slot for it.
-    fn look_up(&self, record: &[u8], hash: u64) -> Result<Index, usize> {
-        let mut at = self.first_slot(hash);
+    /// The record's number, or the free slot for it, looked for from a slot on.
+    fn look_up(&self, record: &[u8], hash: u64, from: usize) -> Result<Index, usize> {
+        let mut at = from;
         loop {
             let slot = self.slots.get(at).copied().unwrap_or(FREE);
             let Some(index) = index_in(slot) else {
@@ -304,24 +346,32 @@ impl Store {
         }
     }
 
-    /// The number of slots is a power of two; it is 0 only where memory ran out
-    /// while they were made anew, and then every slot is taken for a free one.
+    /// The slot that lies among the slots where the hash lies among all numbers.
+    /// There is none only where memory ran out while they were made anew, and
+    /// then every slot is taken for a free one.
     fn first_slot(&self, hash: u64) -> usize {
-        usize::try_from(hash).unwrap_or(0) & self.slots.len().wrapping_sub(1)
+        let slots = u128::try_from(self.slots.len()).unwrap_or(0);
+        usize::try_from((u128::from(hash) * slots) >> 64).unwrap_or(0)
     }
 
     fn next_slot(&self, at: usize) -> usize {
-        at.wrapping_add(1) & self.slots.len().wrapping_sub(1)
+        let next = at + 1;
+        if next < self.slots.len() {
+            next
+        } else {
+            0
+        }
     }
 
-    /// Twice as many slots. The old ones are let go first, since all that they
-    /// say can be found again from the records.
+    /// More slots. The old ones are let go first, since all that they say can be
+    /// found again from the records.
     fn grow(&mut self) -> Result<(), NoRoom> {
-        let more = self.slots.len() * 2;
+        let before = self.slots.len();
+        let more = more_slots(before);
         self.slots = Vec::new();
         if self.slots.try_reserve_exact(more).is_err() {
-            self.slots.try_reserve_exact(more / 2).map_err(|_| NoRoom)?;
-            self.slots.resize(more / 2, FREE);
+            self.slots.try_reserve_exact(before).map_err(|_| NoRoom)?;
+            self.slots.resize(before, FREE);
             self.fill_slots();
             return Err(NoRoom);
         }
@@ -330,14 +380,25 @@ impl Store {
         Ok(())
     }
 
+    /// Gives every record a slot. As for a batch the slots of many are read
+    /// before one of them is taken.
     fn fill_slots(&mut self) {
-        for index in self.indexes() {
-            let hash = hash(self.get(index));
-            let mut at = self.first_slot(hash);
-            while self.slots.get(at).is_some_and(|slot| *slot != FREE) {
-                at = self.next_slot(at);
+        let mut hashes = Vec::with_capacity(TOGETHER);
+        let mut indexes = self.indexes().peekable();
+        while let Some(first) = indexes.peek().copied() {
+            hashes.clear();
+            let some = indexes.by_ref().take(TOGETHER);
+            hashes.extend(some.map(|index| hash(self.get(index))));
+            let slots = hashes.iter().map(|hash| self.first_slot(*hash));
+            let slots = slots.filter_map(|at| self.slots.get(at)?.first());
+            std::hint::black_box(slots.fold(0, |sum, byte| sum ^ byte));
+            for (number, hash) in (first + 1..).zip(&hashes) {
+                let mut at = self.first_slot(*hash);
+                while self.slots.get(at).is_some_and(|slot| *slot != FREE) {
+                    at = self.next_slot(at);
+                }
+                self.take_slot(at, number, *hash);
             }
-            self.take_slot(at, index + 1, hash);
         }
     }
 }
@@ -346,6 +407,11 @@ impl Default for Store {
     fn default() -> Store {
         Store::new()
     }
+}
+
+/// Half as many slots more: twice as many would often leave most of them free.
+fn more_slots(slots: usize) -> usize {
+    slots + slots / 2
 }
 
 /// Whether more than four slots in five would be taken.
@@ -366,28 +432,28 @@ fn lower_part(length: usize) -> u32 {
     u32::try_from(length & ((1 << LOW_BITS) - 1)).unwrap_or(0)
 }
 
-/// A byte of the hash from above those that choose the slot.
+/// The lowest byte of the hash: the upper ones choose the slot.
 fn tag_of(hash: u64) -> u8 {
-    let [.., tag] = hash.to_le_bytes();
+    let [tag, ..] = hash.to_le_bytes();
     tag
 }
 
-/// Mixes a record's bytes, eight at a time, and its length.
+/// Mixes a record's bytes, eight at a time, and its length. The last eight may
+/// overlap those before.
 fn hash(record: &[u8]) -> u64 {
     const FACTOR: u64 = 0x9E37_79B9_7F4A_7C15;
     let mix = |hash: u64, word: u64| (hash.rotate_left(23) ^ word).wrapping_mul(FACTOR);
-    let words = record.chunks_exact(8);
-    let mut last = [0; 8];
-    for (to, from) in last.iter_mut().zip(words.remainder()) {
-        *to = *from;
-    }
+    let word = |bytes: &[u8]| <[u8; 8]>::try_from(bytes).map_or(0, u64::from_le_bytes);
     let length = u64::try_from(record.len()).unwrap_or(0);
-    let mut hash = mix(length, u64::from_le_bytes(last));
-    for word in words {
-        hash = mix(
-            hash,
-            <[u8; 8]>::try_from(word).map_or(0, u64::from_le_bytes),
-        );
+    let last = match record.len().checked_sub(8) {
+        Some(from) => word(record.get(from..).unwrap_or(&[])),
+        None => record
+            .iter()
+            .fold(0, |last, byte| last << 8 | u64::from(*byte)),
+    };
+    let mut hash = mix(length, last);
+    for bytes in record.chunks_exact(8) {
+        hash = mix(hash, word(bytes));
     }
     hash ^= hash >> 32;
     hash = hash.wrapping_mul(FACTOR);
@@ -397,7 +463,7 @@ fn hash(record: &[u8]) -> u64 {
 #[cfg(test)]
 #[allow(clippy::unwrap_used)]
 mod tests {
-    use super::{Kept, Store};
+    use super::{Batch, Kept, Store};
 
     /// Records of many lengths, alike in most of their bytes: each is kept once
     /// and found again, through several changes of size.
@@ -418,16 +484,50 @@ mod tests {
             assert_eq!(store.keep(&record(number), 0), Ok(Kept::Known(number)));
             assert_eq!(store.get(number), record(number));
         }
-        // 65,536 slots are enough for 52,428 records.
+        // 88,573 slots are enough for 70,858 records.
         let now = store.memory();
-        assert_eq!(store.memory_with(2_428), now);
-        assert_eq!(store.memory_with(2_429), now + 5 * 65_536);
+        assert_eq!(store.memory_with(20_858), now);
+        assert_eq!(store.memory_with(20_859), now + 5 * 44_286);
         assert_eq!(store.find(&record(50_000)), None);
         assert_eq!(store.len(), 50_000);
         assert!(store.higher.len() > 5);
         assert_eq!(store.way_to(7), [0, 1, 4, 7]);
         assert_eq!(store.way_to(0), [0]);
         assert!(store.get(50_000).is_empty());
+    }
+
+    /// Batches keep what one record after the other would, though some are in a
+    /// batch twice and slots are made anew between them.
+    #[test]
+    fn batches_keep_the_same() {
+        let mut together = Store::new();
+        let mut one_by_one = Store::new();
+        let mut batch = Batch::default();
+        let mut number = 1_u32;
+        for _ in 0..300 {
+            batch.clear();
+            let mut new = Vec::new();
+            for parent in 0..100 {
+                number = number.wrapping_mul(1_664_525).wrapping_add(1_013_904_223);
+                let record = (number >> 18).to_le_bytes();
+                let record = record.get(..(1 + parent % 4) as usize).unwrap();
+                batch.add(record, parent);
+                if let Kept::New(index) = one_by_one.keep(record, parent).unwrap() {
+                    new.push((index, record.to_vec()));
+                }
+            }
+            let mut shown = Vec::new();
+            let show = |index, record: &[u8]| shown.push((index, record.to_vec()));
+            together.keep_batch(&mut batch, show).unwrap();
+            assert_eq!(shown, new);
+        }
+        assert_eq!(together.len(), one_by_one.len());
+        for index in together.indexes() {
+            assert_eq!(together.get(index), one_by_one.get(index));
+            assert_eq!(together.parent(index), one_by_one.parent(index));
+            assert_eq!(together.find(one_by_one.get(index)), Some(index));
+        }
+        assert!(together.len() > 5_000, "{}", together.len());
     }
 
     #[test]

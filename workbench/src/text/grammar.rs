@@ -2,7 +2,7 @@
 
 use super::exact;
 use super::lexer::{Kind, Token};
-use super::problems::{Level, Problem};
+use super::problems::{Level, Problem, MOST_PROBLEMS};
 use super::reader::{Read, Reader};
 use super::source::{Source, Span};
 use super::tree::{Class, Definition, PartId, PartKind, Program, Tray};
@@ -61,6 +61,11 @@ impl Reader<'_> {
     fn done(mut self) -> Result<Program, Vec<Problem>> {
         self.problems.sort_by_key(|problem| problem.span.start);
         if self.problems.iter().any(|it| it.level == Level::Error) {
+            if let Some(more) = self.problems.get(MOST_PROBLEMS).map(|it| it.span) {
+                self.problems.truncate(MOST_PROBLEMS);
+                let message = format!("here is one more error: {MOST_PROBLEMS} at most are told");
+                self.problems.push(Problem::note(more, message));
+            }
             Err(self.problems)
         } else {
             Ok(self.program)
@@ -68,6 +73,16 @@ impl Reader<'_> {
     }
 
     fn items(&mut self) {
+        if self.only_choices() {
+            let name = &self.source.name;
+            let problem = Problem::error(
+                self.peek().span,
+                "these are choices, and there are no rules",
+            )
+            .label("choices in a file of their own go with the file of the rules")
+            .help(format!("as 'hall run RULES {name}'"));
+            return self.report(problem);
+        }
         let mut start = None;
         while self.peek().kind != Kind::End && !self.full() {
             let first = self.peek().span;
@@ -84,6 +99,14 @@ impl Reader<'_> {
                 .would_be(9);
             self.report(problem);
         }
+    }
+
+    /// Whether the text has lines of a lesson and nothing else.
+    fn only_choices(&self) -> bool {
+        let first = self.text();
+        let lesson =
+            self.peek().kind == Kind::Word && (first == "choices" || words::begins_line(first));
+        lesson && !self.has_another_item()
     }
 
     /// One item; the start that came before it, if one did.
@@ -174,7 +197,7 @@ impl Reader<'_> {
                 Problem::error(token.span, "')' closes nothing").label("no bracket is open here")
             }
             Kind::Sign | Kind::HalfNumber | Kind::ForeignWord => self.bad_piece(),
-            Kind::Word if text == "or" => {
+            Kind::Word if matches!(text, "or" | "else") => {
                 Problem::error(token.span, "'or else' parts the ways of a block")
                     .label("stations have no 'or else': use block ( ... or else ... )")
             }

@@ -158,6 +158,10 @@ impl Reader<'_> {
                 Problem::error(span, format!("'{name}' is a tray"))
                     .label(format!("a station is 'put {name}' or 'take {name}'"))
             }
+            None if self.definition(&self.joined(name)).is_some() => {
+                Problem::error(span, "a name has no space in it")
+                    .label(format!("write '{}'", self.joined(name)))
+            }
             None => {
                 let rules = self.program.definitions.iter();
                 let names = rules
@@ -171,6 +175,11 @@ impl Reader<'_> {
             }
         };
         self.fail(problem)
+    }
+
+    /// A name with the word behind it, as one.
+    fn joined(&self, name: &str) -> String {
+        format!("{name}-{}", self.source.piece(self.ahead(1).span))
     }
 
     /// What stands behind `=>`.
@@ -256,6 +265,12 @@ impl Reader<'_> {
         let text = self.text();
         let rest = self.called_behind();
         let problem = match (token.kind, text) {
+            (Kind::Comma, _)
+            | (Kind::Sign, ";" | "." | "&" | "+")
+            | (Kind::Word, "then" | "and") => {
+                Problem::error(token.span, "nothing stands between two choices")
+                    .label(format!("leave out '{text}'"))
+            }
             (Kind::Sign | Kind::HalfNumber | Kind::ForeignWord, _) => self.bad_piece(),
             (
                 Kind::Word,
@@ -271,6 +286,10 @@ impl Reader<'_> {
                 token.span,
                 "'deliver' is kept for a later version of the engine",
             ),
+            (Kind::Word, word) if self.definition(word).is_some() => {
+                Problem::error(token.span, format!("'{text}' begins no line of a lesson"))
+                    .label(format!("write 'act {text}' or 'step {text}'"))
+            }
             _ => Problem::error(token.span, format!("'{text}' begins no line of a lesson"))
                 .label("'act', 'step', 'board' or 'why'"),
         };

@@ -5,6 +5,7 @@ use super::problems::Problem;
 use super::reader::{Read, Reader};
 use super::source::Span;
 use super::tree::{Class, PartId, PartKind};
+use super::words;
 
 /// Most stations that `n of` may name; the engine has the last word on how
 /// many may stand.
@@ -90,9 +91,19 @@ impl Reader<'_> {
     fn copies(&mut self, count: u32) -> Read<Prefix> {
         let span = self.advance().span;
         if !self.accept("of") {
-            let problem = Problem::error(self.here(), "a number of stations is followed by 'of'")
-                .label("as '3 of put batch'");
-            return self.fail(problem);
+            let label = match self.peek().kind {
+                Kind::Word if !self.at_item() && !self.on_new_line() => {
+                    let more = if words::reserved(self.text()) {
+                        " ..."
+                    } else {
+                        ""
+                    };
+                    format!("write '{count} of {}{more}'", self.text())
+                }
+                _ => "as '3 of put batch'".to_owned(),
+            };
+            let message = "a number of stations is followed by 'of'";
+            return self.fail(Problem::error(self.here(), message).label(label));
         }
         match u8::try_from(count) {
             Ok(few) if (1..=MOST_COPIES).contains(&count) => Ok(Prefix::Copies(few, span)),
@@ -113,7 +124,9 @@ impl Reader<'_> {
         if self.accept("then") {
             return Ok((tray, span));
         }
-        let problem = if self.peek().kind == Kind::Comma {
+        let problem = if let Some(problem) = self.says_where("take") {
+            problem
+        } else if self.peek().kind == Kind::Comma {
             Problem::error(self.peek().span, "a station's take is followed by 'then'")
                 .label("write 'then'")
                 .help("',' parts the steps of a block: block (take ..., put ..., end)")
@@ -204,10 +217,14 @@ impl Reader<'_> {
     /// What newcomers write behind a station and what can't stand there.
     fn nothing_follows(&mut self, part: PartId) -> Read<()> {
         let span = self.peek().span;
+        let put = matches!(self.program.part(part).kind, PartKind::Put(_));
         let problem = if self.is("then") {
             self.no_then(span, part)
+        } else if let Some(problem) = self.says_where("put").filter(|_| put) {
+            problem
         } else if self.peek().kind == Kind::Comma {
-            Problem::error(span, "',' does not part stations").label("write 'beside'")
+            let label = self.comma_label("write 'beside'");
+            Problem::error(span, "',' does not part stations").label(label)
         } else if self.is("and") {
             Problem::error(span, "'and' does not join stations")
                 .label("write 'beside'")

@@ -183,6 +183,14 @@ impl<'a> Reader<'a> {
         }
     }
 
+    /// Whether an item begins anywhere behind the next piece.
+    #[must_use]
+    pub fn has_another_item(&self) -> bool {
+        let behind = self.tokens.iter().skip(self.at + 1);
+        let mut words = behind.filter(|token| token.kind == Kind::Word);
+        words.any(|token| words::begins_item(self.source.piece(token.span)))
+    }
+
     /// Goes on to the next item.
     pub fn skip_to_item(&mut self) {
         while !self.at_item() {
@@ -190,10 +198,11 @@ impl<'a> Reader<'a> {
         }
     }
 
-    /// Whether no more problems are to be told.
+    /// Whether no more problems are to be looked for: one more than are told is
+    /// enough to say that there are more.
     #[must_use]
     pub fn full(&self) -> bool {
-        self.problems.len() >= MOST_PROBLEMS
+        self.problems.len() > MOST_PROBLEMS
     }
 
     /// Tells a problem and gives the item up.
@@ -301,6 +310,19 @@ impl<'a> Reader<'a> {
         }
     }
 
+    /// What to do about a comma that stands here: a last one is one too many.
+    #[must_use]
+    pub fn comma_label(&self, otherwise: &str) -> String {
+        let behind = self.ahead(1);
+        let word = self.source.piece(behind.span);
+        let last = match behind.kind {
+            Kind::Close | Kind::End => true,
+            Kind::Word => word == "or" || words::begins_item(word),
+            _ => false,
+        };
+        if last { "leave it out" } else { otherwise }.to_owned()
+    }
+
     /// Opens a bracket; gives its place.
     ///
     /// # Errors
@@ -308,6 +330,9 @@ impl<'a> Reader<'a> {
     /// Where brackets nest too deep, or there is none.
     pub fn open_bracket(&mut self) -> Read<Span> {
         let token = self.peek();
+        if token.kind == Kind::Sign {
+            return self.fail(self.bad_piece());
+        }
         if token.kind != Kind::Open {
             let problem = Problem::error(self.here(), "'(' is missing here")
                 .label("the ways of a block stand in brackets");
@@ -340,6 +365,11 @@ impl<'a> Reader<'a> {
             Kind::Sign | Kind::HalfNumber | Kind::ForeignWord
         ) {
             return self.fail(self.bad_piece());
+        }
+        if self.is("else") {
+            let problem = Problem::error(self.peek().span, "one way comes after the other")
+                .label("write 'or else'");
+            return self.fail(problem);
         }
         let at = self.source.position(opened.start);
         let which = format!("for the bracket at {}:{}", at.line, at.column);

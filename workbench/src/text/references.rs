@@ -25,12 +25,53 @@ impl Reader<'_> {
         }
         let problem = match token.kind {
             Kind::Number(_) => self.several_at_once(after, part_with),
-            Kind::Word if !words::reserved(name) => self.no_tray(token.span, name),
+            Kind::Word if words::counts_several(name) && self.tray_behind().is_some() => {
+                self.several_at_once(after, part_with)
+            }
+            Kind::Word if !words::reserved(name) => match self.tray_behind() {
+                Some(tray) => {
+                    Problem::error(token.span, "tokens go one at a time, without 'a' or 'one'")
+                        .label(format!("write '{after} {tray}'"))
+                }
+                None => self.no_tray(token.span, name),
+            },
             Kind::Sign | Kind::HalfNumber | Kind::ForeignWord => self.bad_piece(),
             _ => Problem::error(self.here(), format!("'{after}' wants a tray"))
                 .label("the name of a tray that stands above"),
         };
         self.fail(problem)
+    }
+
+    /// The tray that is named behind the next word, on the same line.
+    fn tray_behind(&self) -> Option<&str> {
+        let behind = self.ahead(1).span;
+        let between = Span::new(self.peek().span.end, behind.start);
+        if self.source.piece(between).contains('\n') {
+            return None;
+        }
+        let tray = self.tray_named(self.source.piece(behind))?;
+        Some(tray.name.as_str())
+    }
+
+    /// What is wrong where words behind a tray say where it stands.
+    #[must_use]
+    pub fn says_where(&self, verb: &str) -> Option<Problem> {
+        let word = self.text();
+        if self.peek().kind != Kind::Word || !words::says_where(word) || self.on_new_line() {
+            return None;
+        }
+        let behind = self.ahead(1);
+        let rest = match behind.kind {
+            Kind::Word if !words::reserved(self.source.piece(behind.span)) => {
+                self.peek().span.to(behind.span)
+            }
+            _ => self.peek().span,
+        };
+        Some(
+            Problem::error(rest, format!("a {verb} names its tray and nothing else"))
+                .label(format!("leave out '{}'", self.source.piece(rest)))
+                .help("a token lies in its tray and nowhere else"),
+        )
     }
 
     fn several_at_once(&self, after: &str, part_with: &str) -> Problem {
@@ -118,6 +159,13 @@ impl Reader<'_> {
         if let Some(instead) = words::instead_of(name) {
             return Problem::error(span, format!("'{name}' is not a word of this language"))
                 .label(format!("write '{instead}'"));
+        }
+        let advice = words::advice_for(name);
+        if !advice.is_empty() {
+            let problem = Problem::error(span, format!("'{name}' is not a word of this language"));
+            return advice
+                .iter()
+                .fold(problem, |problem, line| problem.help(*line));
         }
         let names = self.program.definitions.iter();
         let alike = names

@@ -64,7 +64,9 @@ impl Reader<'_> {
             return Ok(Step { takes, tray, span });
         }
         let here = self.peek().span;
-        let problem = if self.is("then") {
+        let problem = if let Some(problem) = self.says_where(word) {
+            problem
+        } else if self.is("then") {
             Problem::error(here, "inside a block the steps are parted by ','").label("write ','")
         } else if self.is("and") {
             Problem::error(here, "the steps of a block are parted by ','")
@@ -117,8 +119,8 @@ impl Reader<'_> {
         if self.peek().kind == Kind::Comma {
             let closer = self.source.piece(token.span);
             let message = format!("'{closer}' closes a way: nothing follows it");
-            let problem = Problem::error(self.peek().span, message)
-                .label(format!("move '{closer}' to the end of the way"));
+            let label = self.comma_label(&format!("move '{closer}' to the end of the way"));
+            let problem = Problem::error(self.peek().span, message).label(label);
             return self.fail(problem);
         }
         Ok(part)

@@ -73,6 +73,49 @@ pub fn instead_of(word: &str) -> Option<&'static str> {
     })
 }
 
+/// What to do where other languages have a word for which there is none here.
+#[must_use]
+pub fn advice_for(word: &str) -> &'static [&'static str] {
+    match word {
+        "if" | "when" | "unless" | "case" => &[
+            "a take waits for its token; a block tries its ways in order:",
+            "block (take batch, put done, end or else put missed, end)",
+        ],
+        "while" | "until" => &["what goes on for ever is 'repeatedly take ... then ...'"],
+        _ => &[],
+    }
+}
+
+/// Whether a word counts tokens: more than one, or all of them.
+#[must_use]
+pub fn counts_several(word: &str) -> bool {
+    matches!(
+        word,
+        "two"
+            | "three"
+            | "four"
+            | "five"
+            | "six"
+            | "seven"
+            | "eight"
+            | "nine"
+            | "ten"
+            | "both"
+            | "all"
+            | "several"
+            | "some"
+    )
+}
+
+/// Whether a word says where something comes from or goes to.
+#[must_use]
+pub fn says_where(word: &str) -> bool {
+    matches!(
+        word,
+        "from" | "into" | "in" | "to" | "at" | "on" | "onto" | "off" | "of" | "with"
+    )
+}
+
 /// The name that is nearest to a word, if one is near: at most two letters
 /// apart, and at most a third of the word.
 #[must_use]

@@ -203,65 +203,6 @@ fn a_question_holds_or_is_broken() {
 }
 
 #[test]
-fn the_smallest_group() {
-    let (code, out, err) = explore(BALLOTS, &["--groups", "--never", "aside > 0"]);
-    assert_eq!((code, err.as_str()), (1, ""));
-    assert!(out.contains("7 groups"), "{out}");
-    assert_eq!(out.matches("never aside > 0: holds").count(), 6, "{out}");
-    assert!(out.contains("shows the fault has 3 parts"), "{out}");
-    assert_eq!(all_replay(BALLOTS, &out), 1);
-    let (code, out, _) = explore(BALLOTS, &["--groups", "--never", "aside > 1", "--json"]);
-    assert_eq!(code, 0);
-    assert!(out.ends_with("\"smallest\": null}\n"), "{out}");
-    assert_eq!(out.matches("\"verdict\": \"holds\"").count(), 7);
-}
-
-/// What is missing makes an end too early, which is said where ends are asked
-/// about.
-#[test]
-fn ends_of_groups() {
-    let early = "\n\nMind that a hall from which somebody is missing often ends too early";
-    let (code, out, _) = explore(BALLOTS, &["--groups", "--ends", "counted = 1"]);
-    assert_eq!(code, 1, "{out}");
-    assert!(out.contains("shows the fault has 1 part."), "{out}");
-    assert!(out.contains(early), "{out}");
-    let (_, out, _) = explore(BALLOTS, &["--groups", "--never", "counted > 1"]);
-    assert!(!out.contains("Mind"), "{out}");
-}
-
-/// Of `n of` each number is a group; the start line printed opens that group.
-#[test]
-fn groups_of_copies() {
-    let text = "tray a has 2\ntray b\nrule one is block (take a, put b, end)\n\
-        start 3 of one beside (take b then take b then nothing)\n";
-    let (code, out, _) = explore(text, &["--groups", "--never", "b > 1"]);
-    assert_eq!(code, 1);
-    assert!(out.contains("7 groups"), "{out}");
-    let line = "  start 2 of one\n";
-    assert!(out.contains(line), "{out}");
-    let rules = text.lines().take(3).collect::<Vec<_>>().join("\n");
-    let group = format!("{rules}\n{line}");
-    assert_eq!(all_replay(&group, &out), 1);
-}
-
-#[test]
-fn groups_want_a_fault_and_few_parts() {
-    let (code, _, err) = explore(BALLOTS, &["--groups"]);
-    assert_eq!(code, 2);
-    assert!(err.contains("--never or --ends"), "{err}");
-    let mut text = String::from("tray a\n");
-    let mut start = Vec::new();
-    for number in 0..13 {
-        text += &format!("rule r{number} is put a\n");
-        start.push(format!("r{number}"));
-    }
-    text += &format!("start {}\n", start.join(" beside "));
-    let (code, _, err) = explore(&text, &["--groups", "--never", "a > 20"]);
-    assert_eq!(code, 2);
-    assert!(err.contains("8191 groups"), "{err}");
-}
-
-#[test]
 fn wrong_calls() {
     for (options, words) in [
         (vec!["--never"], "--never wants something behind it"),

@@ -6,7 +6,7 @@ use workbench::explore::investigate::{Exact, Explored};
 use workbench::explore::model::Model;
 use workbench::explore::replay::{replay, Contradiction, Replay};
 use workbench::explore::search::{search, Limits, Questions};
-use workbench::explore::store::Store;
+use workbench::explore::situations::Situations;
 use workbench::table::Table;
 use workbench::text::tree::Program;
 
@@ -78,7 +78,7 @@ fn situations_that_no_step_joins() {
     let table = Table::read(&[2, 0, 13, 0]).unwrap();
     let program = Program::of_table(&table);
     let model = Model::of(&table);
-    let mut store = Store::new();
+    let mut store = Situations::of(&model);
     store.keep(model.opening(), 0).unwrap();
     store.keep(&[7], 0).unwrap();
     let what = replay(&table, &program, &model, &store, 1)

@@ -86,6 +86,9 @@ fn notes_that_are_cut_short() {
         met += 1;
         assert_eq!(explored.exact, Exact::No(Doubt::NotesCut(Cut::Memory)));
         assert_eq!(explored.found.situations, plain.situations);
+        let words = "\nexact: no (the limit of 64 stations was met, and exploring with notes was \
+            cut short by --memory)\n";
+        assert!(text.contains(words), "{text}");
         nothing_holds(&explored, &facts, &text);
         // With more room it is known after all.
         let (explored, facts, _) = asked(&table, 100_000_000);
@@ -130,6 +133,27 @@ fn too_many_sorts_of_notes() {
     nothing_holds(&explored, &facts, &text);
 }
 
+/// A round was found, and the look for one without a commit was cut short.
+#[test]
+fn a_round_of_which_not_all_is_known() {
+    // A repeated take and its put.
+    let table = Table::read(&[2, 0, 4, 0, 0, 12, 0, 1, 13, 1]).unwrap();
+    let (explored, mut facts, _) = asked(&table, 100_000_000);
+    assert!(matches!(facts.for_ever_no_commit, ForEver::Yes(..)));
+    facts.for_ever_no_commit = ForEver::Unknown;
+    let report = Report {
+        name: "hall",
+        program: &Program::of_table(&table),
+        explored: &explored,
+        facts: &facts,
+        seconds: 0.0,
+        style: Style::PLAIN,
+    };
+    let words = "runs that go on for ever: yes, whether without a commit is not known; the last 2 \
+        choices can be\nmade again and again:\n";
+    assert!(report.text().contains(words), "{}", report.text());
+}
+
 /// Time and memory are looked at before anything is done.
 #[test]
 fn no_room_at_all() {
@@ -156,7 +180,7 @@ fn a_cut_run_never_says_that_something_holds() {
                 .count(),
             2
         );
-        assert!(out.contains("and there are more"), "{out}");
+        assert!(out.contains("and there may be more"), "{out}");
         assert!(out.contains("runs that go on for ever: not known"), "{out}");
         assert!(!out.contains("always follow"), "{out}");
         arguments.push("--json");
@@ -181,12 +205,12 @@ fn a_cut_run_never_says_that_something_holds() {
         let (code, out, _) = explore(text, &["--engine", options[0], options[1]]);
         assert_eq!(code, 1, "{out}");
         assert!(out.contains("not compared"), "{out}");
-        arguments.pop();
-        arguments.push("--groups");
-        let (code, out, _) = explore(text, &["--groups", "--seconds", "0", "--never", "d > 300"]);
+        // Of a small group it may well hold, but not of all of them.
+        let asked = ["--groups", options[0], options[1], "--never", "d > 300"];
+        let (code, out, _) = explore(text, &asked);
         assert_eq!(code, 1);
-        assert!(!out.contains("holds"), "{out}");
-        assert!(out.contains("not all is known"), "{out}");
+        assert!(!out.contains("No group shows the fault."), "{out}");
+        assert!(out.contains(" known"), "{out}");
     }
 }
 

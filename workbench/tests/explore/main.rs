@@ -11,6 +11,7 @@ mod command;
 mod common;
 mod contradictions;
 mod doubts;
+mod grouped;
 mod halls;
 mod questions;
 mod random;

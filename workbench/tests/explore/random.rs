@@ -33,13 +33,10 @@ fn sets(explored: &Explored) -> [BTreeSet<Vec<u8>>; 2] {
     let store = &explored.found.store;
     let all = store
         .indexes()
-        .map(|index| store.get(index).to_vec())
+        .map(|index| store.get(index))
         .filter(|situation| explored.model.without_notes(situation));
     let ends = explored.found.ends.iter();
-    [
-        all.collect(),
-        ends.map(|end| store.get(*end).to_vec()).collect(),
-    ]
+    [all.collect(), ends.map(|end| store.get(*end)).collect()]
 }
 
 fn engine_sets(found: &EngineFound) -> [BTreeSet<Vec<u8>>; 2] {
@@ -104,6 +101,7 @@ struct Met {
     broken: usize,
     ends: usize,
     rounds: usize,
+    kept_as_numbers: usize,
 }
 
 /// One question of each sort, about a tray by chance.
@@ -193,6 +191,7 @@ impl Met {
         assert_eq!(explored.found.situations, sets[0].len() as u64, "{what}");
         self.replay(&table, &program, &explored, &questions, &sets);
         self.halls += 1;
+        self.kept_as_numbers += usize::from(explored.found.store.are_numbers());
         self.full_hall += usize::from(engine.full_hall);
         self.full_tray += usize::from(engine.full_tray);
         match explored.exact {
@@ -226,6 +225,8 @@ fn any_small_halls() {
         met.compare(&table, &format!("any {seed}"));
     }
     assert!(met.halls > 1_200 && met.full_tray > 10, "{met:?}");
+    let as_they_are = met.halls - met.kept_as_numbers;
+    assert!(met.kept_as_numbers > 500 && as_they_are > 20, "{met:?}");
     assert!(
         met.broken > 500 && met.ends > 1_000 && met.rounds > 20,
         "{met:?}"

@@ -7,7 +7,7 @@ use reference::atomic::{possible_steps, start, take_step, NotPossible, OneStep, 
 use reference::generator::{contended_table, Random};
 use reference::run::Tally;
 use reference::table::{read_table, Term};
-use workbench::explore::endless::{endless, Allowed, Endless};
+use workbench::explore::endless::{endless, feeds_nothing_round, Allowed, Endless};
 use workbench::explore::model::Model;
 use workbench::explore::search::{search, Found, Limits, Questions};
 use workbench::stations::Station;
@@ -131,6 +131,8 @@ struct Met {
     for_ever: usize,
     no_commit: usize,
     full_hall: usize,
+    /// No walk was needed to see that every run ends: with commits, without.
+    fed_nothing: [usize; 2],
 }
 
 impl Met {
@@ -142,7 +144,7 @@ impl Met {
         }
         let graph = graph(bytes, &model);
         let store = &found.store;
-        let all: BTreeSet<Situation> = store.indexes().map(|it| store.get(it).to_vec()).collect();
+        let all: BTreeSet<Situation> = store.indexes().map(|it| store.get(it)).collect();
         let same: BTreeSet<Situation> = graph.steps.keys().cloned().collect();
         assert_eq!(all, same, "{bytes:?}");
         let steps: usize = graph.steps.values().map(BTreeSet::len).sum();
@@ -170,6 +172,13 @@ impl Met {
             endless_by_walk(&model, &found, Allowed::NoCommit),
             no_commit
         );
+        for (met, allowed) in self
+            .fed_nothing
+            .iter_mut()
+            .zip([Allowed::Any, Allowed::NoCommit])
+        {
+            *met += usize::from(found.marks.repeats && feeds_nothing_round(&model, allowed));
+        }
         self.halls += 1;
         self.for_ever += usize::from(for_ever);
         self.no_commit += usize::from(no_commit);
@@ -188,6 +197,8 @@ fn contended_halls() {
         met.for_ever > met.no_commit && met.no_commit > 20,
         "{met:?}"
     );
+    let [any, no_commit] = met.fed_nothing;
+    assert!(any > 20 && no_commit > any, "{met:?}");
 }
 
 #[test]

@@ -521,3 +521,61 @@ fn runs_as_they_are_told() {
     }
     assert_eq!(fs::read_dir(Path::new(&told)).unwrap().count(), 6);
 }
+
+/// The system hands over names in any bytes; files are called by letters here.
+#[cfg(unix)]
+#[test]
+fn a_name_that_is_not_written_in_utf_8() {
+    use std::os::unix::ffi::OsStrExt as _;
+    let folder = folder("other-letters");
+    let name = std::ffi::OsStr::from_bytes(b"caf\xe9.hall");
+    fs::write(folder.join(name), TEXT).unwrap();
+    let output = Command::new(env!("CARGO_BIN_EXE_hall"))
+        .args(["check".as_ref(), name])
+        .current_dir(&folder)
+        .output()
+        .unwrap();
+    assert_eq!(output.status.code(), Some(2));
+    assert_eq!(
+        String::from_utf8(output.stderr).unwrap(),
+        "hall: 'caf\u{fffd}.hall' is not written in UTF-8: give the file another name, or hand it \
+         over as standard input, which is called -\n"
+    );
+}
+
+/// A full disk, and a folder where choices are to be read from.
+#[cfg(target_os = "linux")]
+#[test]
+fn streams_that_fail() {
+    let folder = folder("streams");
+    let called = |arguments: &[&str], input: fs::File, out: Stdio| {
+        let output = Command::new(env!("CARGO_BIN_EXE_hall"))
+            .args(arguments)
+            .current_dir(&folder)
+            .stdin(input)
+            .stdout(out)
+            .stderr(Stdio::piped())
+            .spawn()
+            .unwrap()
+            .wait_with_output()
+            .unwrap();
+        let words = String::from_utf8(output.stderr).unwrap();
+        (output.status.code(), words)
+    };
+    let nothing = || fs::File::open("/dev/null").unwrap();
+    let full = || fs::File::create("/dev/full").unwrap();
+    let (code, words) = called(&["show", "a.table"], nothing(), full().into());
+    assert_eq!(
+        (code, words.as_str()),
+        (
+            Some(3),
+            "hall: cannot write: No space left on device (os error 28)\n"
+        )
+    );
+    let here = || fs::File::open(&folder).unwrap();
+    let (code, words) = called(&["play", "a.hall"], here(), Stdio::null());
+    assert_eq!(
+        (code, words.as_str()),
+        (Some(3), "hall: cannot read: Is a directory (os error 21)\n")
+    );
+}

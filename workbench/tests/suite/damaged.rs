@@ -140,7 +140,8 @@ fn damaged_texts() {
             }
             Err(Misunderstood::Problems(problems)) => {
                 refused += 1;
-                assert!((1..=MOST_PROBLEMS).contains(&problems.len()), "{which}");
+                // One more says that there are more.
+                assert!((1..=MOST_PROBLEMS + 1).contains(&problems.len()), "{which}");
                 let starts: Vec<usize> = problems.iter().map(|it| it.span.start).collect();
                 assert!(
                     starts.windows(2).all(|pair| pair[0] <= pair[1]),

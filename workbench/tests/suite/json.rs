@@ -186,7 +186,8 @@ fn problems_for_programs() {
                 )
             } else {
                 let (line, column) = (problem.number("line"), problem.number("column"));
-                format!("{name}:{line}:{column}: error: {message}\n")
+                let level = problem.words("level");
+                format!("{name}:{line}:{column}: {level}: {message}\n")
             };
             assert!(told.contains(&head), "{name}: {head}");
         }

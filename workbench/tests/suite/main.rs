@@ -8,8 +8,10 @@
     clippy::indexing_slicing
 )]
 
+mod calls;
 mod commands;
 mod common;
+mod consoles;
 mod damaged;
 mod documents;
 mod errors;
@@ -20,3 +22,4 @@ mod planted;
 mod playing;
 mod round_trips;
 mod runs;
+mod spoken;

@@ -147,7 +147,7 @@ fn saved_and_run_again() {
     let answer = hall_in(&folder, &["play", "a.hall"], input.as_bytes());
     assert_eq!((answer.code, answer.err.as_str()), (Some(0), ""));
     assert!(
-        answer.out.contains("4 written to some.choices"),
+        answer.out.contains("4 choices written to some.choices"),
         "{}",
         answer.out
     );

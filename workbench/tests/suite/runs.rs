@@ -221,7 +221,7 @@ fn what_why_foretells_comes_true() {
                 }
                 REFUSED => {
                     refused += 1;
-                    "the commit is refused until some have gone"
+                    "has no room among 64 stations until some go"
                 }
                 _ => {
                     failed += 1;

@@ -125,6 +125,7 @@ fn answer(
         asked,
         question: question.text.clone(),
         verdict,
+        no_end: asked == Asked::Ends && found.ends.is_empty(),
     })
 }
 
@@ -162,7 +163,7 @@ fn text(
             if found.cut.is_none() {
                 "all of them seen"
             } else {
-                "cut short, there are more"
+                "cut short, there may be more"
             }
         ),
     );
@@ -200,7 +201,7 @@ fn text(
 fn answer_lines(answer: &Answer, style: Style) -> Vec<String> {
     let question = answer.told();
     match &answer.verdict {
-        Verdict::Holds => vec![format!("{question}: {}", style.good("holds"))],
+        Verdict::Holds => vec![format!("{question}: {}", style.good(answer.holds()))],
         Verdict::Open => vec![format!("{question}: not known")],
         Verdict::Broken(witness, _) => {
             let words: Vec<&str> = witness.words().collect();

@@ -41,13 +41,7 @@ impl Progress {
         }
         self.next = now + EVERY;
         self.told = true;
-        let number = |count: usize| grouped(u64::try_from(count).unwrap_or(u64::MAX));
-        line(&format!(
-            "{} situations, {} still to go on from, {} s",
-            number(seen),
-            number(seen.saturating_sub(done)),
-            self.began.elapsed().as_secs()
-        ));
+        line(&words(seen, done, self.began.elapsed()));
     }
 }
 
@@ -59,7 +53,34 @@ impl Drop for Progress {
     }
 }
 
+fn words(seen: usize, done: usize, time: Duration) -> String {
+    let number = |count: usize| grouped(u64::try_from(count).unwrap_or(u64::MAX));
+    format!(
+        "{} situations, {} still to go on from, {} s",
+        number(seen),
+        number(seen.saturating_sub(done)),
+        time.as_secs()
+    )
+}
+
 /// Whether anybody sees it changes nothing.
 fn line(words: &str) {
     let _ = write!(io::stderr(), "\r{words:<WIDTH$}\r");
+}
+
+#[cfg(test)]
+mod tests {
+    use super::{words, WIDTH};
+    use std::time::Duration;
+
+    #[test]
+    fn what_a_person_sees() {
+        let told = words(1_234_567, 234_567, Duration::from_millis(12_900));
+        assert_eq!(
+            told,
+            "1,234,567 situations, 1,000,000 still to go on from, 12 s"
+        );
+        let most = words(999_999_999, 0, Duration::from_secs(99_999));
+        assert!(most.len() <= WIDTH, "{most}");
+    }
 }

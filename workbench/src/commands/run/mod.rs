@@ -10,6 +10,7 @@ use super::check::{problem_object, refused};
 use super::load;
 use super::{Args, Exit, Failure, Outcome, Streams};
 use crate::board::Board;
+use crate::input::shown_name;
 use crate::json::Object;
 use crate::lesson::{Answer, Contradiction, Lesson};
 use crate::names::Lost;
@@ -82,8 +83,12 @@ pub(super) fn run(args: &Args, streams: &mut Streams<'_>) -> Outcome {
         Err(unloaded) => return refused(name, unloaded, json, streams),
     };
     let lesson = Lesson::open(&loaded.table, &loaded.program)?;
-    let Some(script) = script else {
-        return no_choices(name, &lesson, told, streams);
+    let Some(script) = script.filter(|it| !it.lines.is_empty() || !it.leftover.is_empty()) else {
+        let note = match args.file(1) {
+            Some(file) => format!("{}: note: there are no choices in it", shown_name(file)),
+            None => no_choices_in(name, loaded.source.is_some()),
+        };
+        return no_choices(&note, &lesson, told, streams);
     };
     Run {
         lesson,
@@ -98,7 +103,22 @@ pub(super) fn run(args: &Args, streams: &mut Streams<'_>) -> Outcome {
     .all(&script)
 }
 
-fn no_choices(name: &str, lesson: &Lesson<'_>, told: Told, streams: &mut Streams<'_>) -> Outcome {
+/// What to do about a text or a table without choices.
+fn no_choices_in(name: &str, text: bool) -> String {
+    let play = match name {
+        "-" => String::new(),
+        _ => format!("try hall play {name}, or "),
+    };
+    let add = if text {
+        "write 'choices' behind 'start'"
+    } else {
+        "name a file of choices"
+    };
+    let name = shown_name(name);
+    format!("{name}: note: there are no choices to make: {play}{add}")
+}
+
+fn no_choices(note: &str, lesson: &Lesson<'_>, told: Told, streams: &mut Streams<'_>) -> Outcome {
     if told == Told::Json {
         let last = last_object(lesson)?;
         writeln!(streams.out, "{last}")?;
@@ -108,10 +128,7 @@ fn no_choices(name: &str, lesson: &Lesson<'_>, told: Told, streams: &mut Streams
         writeln!(streams.out, "{line}")?;
     }
     streams.out.flush()?;
-    writeln!(
-        streams.err,
-        "{name}: note: there are no choices to make: try hall play {name}, or write 'choices' behind 'start'"
-    )?;
+    writeln!(streams.err, "{note}")?;
     Ok(Exit::Good)
 }
 
@@ -345,7 +362,7 @@ impl Run<'_, '_, '_> {
 }
 
 /// A number of things.
-fn counted(count: &impl ToString, what: &str) -> String {
+pub(super) fn counted(count: &impl ToString, what: &str) -> String {
     let count = count.to_string();
     let plural = if count == "1" { "" } else { "s" };
     format!("{count} {what}{plural}")
