@@ -25,7 +25,7 @@ pub struct Attempt {
     pub block: u8,
     /// The counts when it opened.
     pub remembers: Counts,
-    /// Its tree: a node, its left side, its right side. Never empty.
+    /// Its tree in preorder: each fork before its two sides. Never empty.
     pub nodes: Vec<Node>,
 }
 

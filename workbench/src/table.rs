@@ -354,8 +354,8 @@ pub fn whole_records(bytes: &[u8]) -> Vec<(usize, &[u8])> {
     records
 }
 
-/// The bytes up to the first start record, found by stepping over records, and
-/// those behind it. Where there is none, all of them are the table: as the
+/// The bytes up to the end of the first start record, gone to from record to
+/// record, and those behind it. Where there is none, all of them are the table: as the
 /// printed run reads its input.
 #[must_use]
 pub fn split_choices(bytes: &[u8]) -> (&[u8], &[u8]) {

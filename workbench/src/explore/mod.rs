@@ -1,9 +1,9 @@
 //! Every way a hall can go.
 //!
 //! A situation is what stands in the trays and which stations there are, open
-//! attempts read as blocks not begun. That each committed block acts in one
-//! step at its commit is proved of the engine; so the situations that its runs
-//! come to are those of runs in which a block acts whole.
+//! attempts read as blocks not begun. It is proved of the engine that a block
+//! takes effect whole, at the moment of its commit; so the situations that its
+//! runs come to are those of runs in which a block acts in one go.
 //!
 //! | Module | What it holds |
 //! |---|---|
