@@ -1,8 +1,9 @@
 //! What can happen next in a situation, one step at a time.
 //!
 //! A step is a put, a take, a repeated take, or a block that commits, by the
-//! first way that is readable now. With notes a block may also note that way and commit by it
-//! later. An attempt that will be abandoned changes nothing and is left out.
+//! first way that is readable now. With notes a block may also note that way
+//! and commit by it later. An attempt that will be abandoned changes nothing
+//! and is left out.
 
 use super::model::{Kind, Model, Way, MOST_STATIONS};
 
