@@ -9,23 +9,20 @@ use mathlib.Core.Logic.{inl, inr}
 use mathlib.Core.Bool.{Bool, true, false}
 use mathlib.Core.Option.{some}
 use mathlib.Core.List.{List}
-use lib.Dec.{eqb, leb}
 use lib.ListN.{length, getD, getElem?}
 use mir.Syntax.{w64}
 use mir.Val.{Fits}
 use Rattle.calculus.specs.Syntax.{State}
-use Rattle.calculus.specs.State.{count}
-use Rattle.semantics.specs.Definitions.Layout.{maxCount}
-use Rattle.semantics.specs.Definitions.Terms.{endT, retryT, rdT, wtT, orElseT}
-use Rattle.semantics.specs.Definitions.Logs.{readable}
-use Rattle.semantics.specs.Definitions.Configuration.{taking, repeating, block, output, leaf, fork, Component, idle, transaction, Configuration}
+use Rattle.semantics.specs.Definitions.Terms.{Expression}
+use Rattle.semantics.specs.Definitions.Configuration.{taking, repeating, block, output, Tree, Component, idle, transaction, Configuration}
 use Rattle.semantics.specs.Definitions.Stored.{componentBytes}
 use Rattle.semantics.specs.Definitions.Table.{atomK}
 use Rattle.semantics.specs.Checks.AcceptedTables.{kindByte}
-use Rattle.theorems.proofs.Reading.{by-cases}
 use Rattle.terms.specs.Decoded.{kindAt}
 use Rattle.index.proofs.Acting.{acted}
-use Rattle.semantics.specs.Definitions.Moves.{Entry, act, inside, Answer, LocalAnswer, moves, blocked, acts, takes, puts, ends, commits, moved, refused, refusedBy, answerTo, ruleNumber, replyOf}
+use Rattle.communication.proofs.Acting.{Local, acts-local}
+use Rattle.blocks.proofs.Numbers.{BlockMove, begins, retries, fails, commits, act-made}
+use Rattle.semantics.specs.Definitions.Moves.{Entry, act, inside, Answer, LocalAnswer, moves, moved, refused, refusedBy, answerTo, ruleNumber, replyOf}
 use Rattle.rules.specs.declared.Reply.{Reply}
 use Rattle.rules.specs.declared.Reply.the-variants.{Moved, Refused}
 use Rattle.rules.specs.Replies.{replyIs}
@@ -101,68 +98,56 @@ module _ {d s starts : List ℕ} {n : ℕ} where
 
 -- ---- kind 1, by its rule: p is the position as the code has it, q as the entry has it
 
--- the numbers of the rules by which a component acts
-abbrev NumberOf : Component → ℕ → Type 0
-NumberOf (idle (output a)) k = k ≡ 1
-NumberOf (idle (taking m a P)) k = k ≡ 2
-NumberOf (idle (repeating m a P)) k = k ≡ 3
-NumberOf (idle (block m M)) k = k ≡ 4
-NumberOf (transaction m M s t) k = (4 < k) × (k ≤ 7)
-
-abbrev Numbered : Component → LocalAnswer → Type 0
-Numbered c (blocked n) = Unit {0}
-Numbered c (moves r τ ds) = NumberOf c (ruleNumber r)
-
-acts-numbered : (σ : State) (c : Component) → Numbered c (acts σ c)
-unfolding acts takes puts ends commits ruleNumber
-acts-numbered σ (idle (taking m a P)) =
-    by-cases (Numbered (idle (taking m a P))) (eqb (count σ a) 0) _ _ (λ q. tt) (λ q. refl)
-acts-numbered σ (idle (repeating m a P)) =
-    by-cases (Numbered (idle (repeating m a P))) (eqb (count σ a) 0) _ _ (λ q. tt) (λ q. refl)
-acts-numbered σ (idle (block m M)) = refl
-acts-numbered σ (idle (output a)) =
-    by-cases (Numbered (idle (output a))) (leb maxCount (count σ a)) _ _ (λ q. tt) (λ q. refl)
-acts-numbered σ (transaction m M s (leaf (endT k) δ)) =
-    by-cases (Numbered (transaction m M s (leaf (endT k) δ))) (readable σ δ) _ _ (λ q. (omega arith, omega arith))
-    (λ q. (omega arith, omega arith))
-acts-numbered σ (transaction m M s (leaf (retryT k) δ)) = (omega arith, omega arith)
-acts-numbered σ (transaction m M s (leaf (rdT k a N) δ)) = tt
-acts-numbered σ (transaction m M s (leaf (wtT k a N) δ)) = tt
-acts-numbered σ (transaction m M s (leaf (orElseT k N N′) δ)) = tt
-acts-numbered σ (transaction m M s (fork l r)) = tt
-
-numbered-as : (c b : Component) (m k : ℕ) → b ≡ c → m ≡ k → NumberOf b m → NumberOf c k
-numbered-as c b m k e f x = rw (← e, ← f) x
+-- what a component's own move says of it, by another name
+local-as : (σ : State) (b c : Component) (a : LocalAnswer) → b ≡ c → Local σ b a → Local σ c a
+local-as σ b c a e x = rw (← e) x
 
 module _ {d s starts : List ℕ} {n p rule : ℕ} (x : Accepts d s starts n (act p) rule) where
-  number-of : (c : Component) → getElem? (x .configuration .components) p ≡ some c → NumberOf c rule
-  number-of c f =
-      let a = acted (x .configuration) p rule (x .reply) in
+  abbrev h : Configuration
+  h = x .configuration
+
+  own-move : (c : Component) → getElem? (h .components) p ≡ some c →
+      let a = acted h p rule (x .reply) in Local (h .counts) c (moves (a .rule) (a .result .counts) (a .laid))
+  own-move c f =
+      let a = acted h p rule (x .reply) in
       let there = a .found in
       let same : a .component ≡ c = cc in
-      numbered-as c (a .component) (ruleNumber (a .rule)) rule same (a .number)
-      (rw (a .local) at (acts-numbered (x .configuration .counts) (a .component)))
+      local-as (h .counts) (a .component) c (moves (a .rule) (a .result .counts) (a .laid)) same
+      (rw (a .local) at (acts-local (h .counts) (a .component)))
 
+  -- the numbers of the rules by which it acts
   output-number : p < n → kindHeld s starts p ≡ outputKind → rule ≡ 1
   output-number l k =
       let (c, f) = component-at (x .holds) p l in
-      number-of (idle (output (bodyOf s starts p))) (f ∙ ap some (output-here (x .holds) p c f k))
+      let move = own-move (idle (output (bodyOf s starts p))) (f ∙ ap some (output-here (x .holds) p c f k)) in
+      sym (acted h p rule (x .reply) .number) ∙ move .0
+
+  take-number : {term : ℕ} → TakeThere h p term → (b : Bool) × (rule ≡ takeNumber b)
+  take-number (false, a, P, f) = (false, sym (acted h p rule (x .reply) .number) ∙ own-move _ f .0)
+  take-number (true, a, P, f) = (true, sym (acted h p rule (x .reply) .number) ∙ own-move _ f .0)
 
   end-number : p < n → kindHeld s starts p ≡ transactionKind → (4 < rule) × (rule ≤ 7)
   unfolding componentBytes
   end-number l k = let (c, f) = component-at (x .holds) p l in go c f (kind-here (x .holds) p c f)
     where
-      go : (c : Component) → getElem? (x .configuration .components) p ≡ some c →
-          kindHeld s starts p ≡ getD (componentBytes c) 0 0 → (4 < rule) × (rule ≤ 7)
+      by-move : (c : Component) (m : ℕ) (M : Expression) (σ : State) (t : Tree) → c ≡ transaction m M σ t → {τ υ : State} {cs : List Component} →
+          BlockMove τ c rule υ cs → (4 < rule) × (rule ≤ 7)
+      by-move c m M σ t e (begins n N is k f g) = absurd (let z : _≡_ {A = ℕ} 0 1 = cc in omega arith)
+      by-move c m M σ t e (retries n N s u δ is k f g) = (omega arith, omega arith)
+      by-move c m M σ t e (fails n N s u δ is k f g) = (omega arith, omega arith)
+      by-move c m M σ t e (commits n N s u δ is q k f g) = (omega arith, omega arith)
+
+      go : (c : Component) → getElem? (h .components) p ≡ some c → kindHeld s starts p ≡ getD (componentBytes c) 0 0 → (4 < rule) × (rule ≤ 7)
       go (idle (taking m a P)) f b = absurd (omega arith)
       go (idle (repeating m a P)) f b = absurd (omega arith)
       go (idle (block m M)) f b = absurd (omega arith)
       go (idle (output a)) f b = absurd (omega arith)
-      go (transaction m M σ t) f b = number-of (transaction m M σ t) f
-
-  take-number : {term : ℕ} → TakeThere (x .configuration) p term → (b : Bool) × (rule ≡ takeNumber b)
-  take-number (false, a, P, f) = (false, number-of _ f)
-  take-number (true, a, P, f) = (true, number-of _ f)
+      go (transaction m M σ t) f b =
+          let above = own-move (transaction m M σ t) f in
+          let same = acted h p rule (x .reply) .number in
+          let made = act-made h p rule (omega arith) (x .reply) in
+          let there = made .acted .found in
+          by-move (made .acted .component) m M σ t (cc) (made .move)
 
 module _ {d s starts : List ℕ} {n p q rule : ℕ} (e : p ≡ q) where
   renamed : (k : ℕ) → rule ≡ k → Accepts d s starts n (act q) rule → Accepts d s starts n (act p) k
@@ -263,15 +248,15 @@ module _ {d s starts : List ℕ} {n p : ℕ} (x : Running d s starts n) (l : p <
   module _ (noTransaction : kindHeld s starts p ≡ transactionKind → ⊥) (noOutput : kindHeld s starts p ≡ outputKind → ⊥) {i k : ℕ}
       (named : i ≡ bodyOf s starts p) (read : k ≡ kindAt d i) where
     module _ (atom : k ≡ kindByte atomK) where
-      begins : Looked d s starts n (act p) (Moved 4)
-      begins = block-looked l noTransaction noOutput named read atom refl
+      begun : Looked d s starts n (act p) (Moved 4)
+      begun = block-looked l noTransaction noOutput named read atom refl
 
       pub act-can-begin : Accepts d s starts n (act p) 4
-      act-can-begin = looked-accepts x begins refl
+      act-can-begin = looked-accepts x begun refl
 
       pub act-begin : {s′ starts′ : List ℕ} → Applied d s starts n (act p) 4 s′ starts′ n →
           Chosen d s starts n (act p) (Moved 4) s′ starts′ n
-      act-begin t = chosen-moved begins refl t
+      act-begin t = chosen-moved begun refl t
 
     module _ (other : k ≡ kindByte atomK → ⊥) {r : Reply} (f : TakeLooked d s n (bodyOf s starts p) r) {rule : ℕ} (is : r ≡ Moved rule) where
       looks-take : Looked d s starts n (act p) r

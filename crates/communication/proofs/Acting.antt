@@ -105,7 +105,7 @@ module _ (h : Configuration) (p : ℕ) (b : Bool) (m : ℕ) (a : Name) (P : Prog
 -- ---- what stands where rule 1, 2 or 3 is done
 
 -- what a component's own move by such a rule says of it
-abbrev Local : State → Component → LocalAnswer → Type 0
+abbrev pub Local : State → Component → LocalAnswer → Type 0
 Local σ c (blocked n) = Unit {0}
 Local σ (idle (output a)) (moves r τ ds) = (ruleNumber r ≡ 1) × (count σ a < maxCount)
 Local σ (idle (taking m a P)) (moves r τ ds) = (ruleNumber r ≡ 2) × (count σ a ≡ 0 → ⊥) × (ds ≡ map idle (opens P))
@@ -124,7 +124,7 @@ ends-local σ m M s (leaf (wtT k a N) δ) = tt
 ends-local σ m M s (leaf (orElseT k N N′) δ) = tt
 ends-local σ m M s (fork l r) = tt
 
-acts-local : (σ : State) (c : Component) → Local σ c (acts σ c)
+pub acts-local : (σ : State) (c : Component) → Local σ c (acts σ c)
 unfolding acts takes puts ruleNumber
 acts-local σ (idle (taking m a P)) =
     by-cases (Local σ (idle (taking m a P))) (eqb (count σ a) 0) _ _ (λ q. tt)

@@ -15,7 +15,7 @@ use Rattle.leaves.proofs.Leaves.{left-at}
 use Rattle.transactions.specs.Bytes.{termAt, actionLogged, Actionable, forkBytes, Splittable, leftSize, leftBytes}
 use Rattle.transactions.specs.Moving.{MoveAt, CanMove, HasMoved}
 use Rattle.transactions.proofs.Finding.{LeafAt, leaf-at}
-use Rattle.transactions.proofs.Moving.{ReadLogged, ReadFailed, WriteLogged, ChoiceSplit, LeftDropped, move-inside}
+use Rattle.transactions.proofs.Moving.{ReadLogged, WriteLogged, ChoiceSplit, LeftDropped, move-inside}
 use Rattle.transactions.proofs.InnerMoves.{ardok-link, ardf-link, awr-link, aoi-link, aof-link, aoe-made, aoe-link}
 
 -- a leaf whose term has a channel, and whose log has room
@@ -41,12 +41,6 @@ module _ (d s starts : List ℕ) (n p rule at : ℕ) where
   ardok-does s′ e q = record { found = λ ts h k x. rw q (ardok-link (rw e at x)) }
 
   -- ---- ARDF
-
-  pub ardf-can : CanMove d s starts n p rule at → rule ≡ 9 → at + leafSize ≤ length s
-  ardf-can x e =
-      let i = move-inside (rw e at (x .move)) in
-      let m : ReadFailed (i .subtree) (i .becomes) = i .makes in
-      leaf-at (rw (m .was) at (i .stands)) .inside
 
   pub ardf-does : (s′ : List ℕ) → rule ≡ 9 → s′ ≡ set s (at + leafTerm) noRecord →
       HasMoved d s starts n p rule at s′ starts
