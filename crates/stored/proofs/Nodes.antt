@@ -37,6 +37,9 @@ module _ (k : ℕ) where
     unfolding pendingBehind
     fork-pending e = rw (eq-eqb k forkKind e)
 
+    pub fork-behind : k ≡ forkKind → (q : ℕ) → q ≡ pendingBehind k p → q ≡ p + 1
+    fork-behind e q f = f ∙ sym (fork-pending e)
+
     pub leaf-pending : (k ≡ forkKind → ⊥) → p - 1 ≡ pendingBehind k p
     unfolding pendingBehind
     leaf-pending e = rw (ne-eqb k forkKind e)

@@ -109,7 +109,8 @@ pub fn pending_behind(kind: u8, pending: usize) -> usize
     }
 }
 
-// Past `nodes` nodes, in preorder, of the tree that begins at an offset, or past all of them.
+// Past `nodes` nodes, in preorder, of the tree that begins at an offset, or past all of them. A fork and a leaf have a
+// turn of their own, so that the processor foresees the next node and need not wait for this one's kind.
 pub fn pass_nodes(s: &[u8], tree: usize, nodes: u8) -> Walk
     requires { ⌜ tree ≤ length (now s) ⌝ }
     ensures { λ r. ⌜ r ≡ passed (now (s .entry)) nodes 1 tree ⌝ }
@@ -120,10 +121,15 @@ pub fn pass_nodes(s: &[u8], tree: usize, nodes: u8) -> Walk
     while 0 < left {
         left -= 1;
         let kind = byte_at(s, at);
-        pending = pending_behind(kind, pending);
-        at += node_size(kind);
-        if pending == 0 {
-            return Walk { at, pending, left };
+        if kind == KIND_FORK {
+            pending = pending_behind(kind, pending);
+            at += node_size(kind);
+        } else {
+            pending = pending_behind(kind, pending);
+            at += node_size(kind);
+            if pending == 0 {
+                return Walk { at, pending, left };
+            }
         }
     }
     Walk { at, pending, left }

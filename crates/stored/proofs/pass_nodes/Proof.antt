@@ -3,7 +3,7 @@ use Prim.Native.Nat.{_+_, _*_, _-_, _≤_, _<_}
 use mathlib.Core.Path.{_≡_}
 use native.Mathlib.Omega.{arith}
 use Rattle.stored.specs.Nodes.{passed}
-use Rattle.stored.proofs.Nodes.{walk-on, walk-over, walk-done, pending-bound, size-bounds}
+use Rattle.stored.proofs.Nodes.{walk-on, walk-over, walk-done, fork-behind, pending-bound, size-bounds}
 use borrow.Author.Needs.{needs}
 use Rattle.stored.proofs.pass_nodes.Statement.{statement}
 use Rattle.stored.proofs.pass_nodes.Tie as tie
@@ -36,28 +36,45 @@ node-size-requires c κs = search needs
 add-at : tie.Need-add-at Inv-loop μ-loop
 add-at c = let b = size-bounds _ _ (c .node-size .ensures) in omega arith
 
-returns : tie.Need-returns Inv-loop μ-loop
-returns c =
-    walk-over _ _ _ _ _ (c .before .before .before .before .before .loop .inv .0) (omega arith) (omega arith) _
-    (c .before .before .before .byte-at .ensures) _ (c .before .before .pending-behind .ensures) _
-    (c .before .node-size .ensures) (c .if1 .taken)
-
 loop-less : tie.Need-loop-less Inv-loop μ-loop
 loop-less c = search needs
 
 loop-again : tie.Need-loop-again Inv-loop μ-loop
 loop-again c =
-    let turn = c .before .before .before .before .before .loop in
-    let bound = pending-bound _ _ _ (c .before .before .pending-behind .ensures) in
-    let size = size-bounds _ _ (c .before .node-size .ensures) in (
-      walk-on _ _ _ _ _ (turn .inv .0) (omega arith) (omega arith) _
-          (c .before .before .before .byte-at .ensures) _ (c .before .before .pending-behind .ensures) _
-          (c .before .node-size .ensures),
-      omega arith,
-      omega (arith, c .if1 .left),
-      omega arith,
-      omega arith,
-    )
+    let pending = c .before .pending-behind .ensures in
+    let size = c .node-size .ensures in
+    let more = fork-behind _ _ (c .before .before .if1 .taken) _ pending in
+    let bounds = size-bounds _ _ size in
+    (walk-on _ _ _ _ _ (c .before .before .before .before .before .loop .inv .0) (omega arith) (omega arith) _
+    (c .before .before .before .byte-at .ensures) _ pending _ size, omega arith, omega arith, omega arith, omega arith)
+
+pending-behind-requires-2 : tie.Need-pending-behind-requires-2 Inv-loop μ-loop
+pending-behind-requires-2 c κs = (omega arith, omega arith)
+
+node-size-requires-2 : tie.Need-node-size-requires-2 Inv-loop μ-loop
+node-size-requires-2 c κs = search needs
+
+add-at-2 : tie.Need-add-at-2 Inv-loop μ-loop
+add-at-2 c = let b = size-bounds _ _ (c .node-size2 .ensures) in omega arith
+
+returns : tie.Need-returns Inv-loop μ-loop
+returns c =
+    walk-over _ _ _ _ _ (c .before .before .before .before .before .before .loop .inv .0) (omega arith) (omega arith) _
+    (c .before .before .before .before .byte-at .ensures) _ (c .before .before .pending-behind2 .ensures) _
+    (c .before .node-size2 .ensures) (c .if2 .taken)
+
+loop-less-2 : tie.Need-loop-less-2 Inv-loop μ-loop
+loop-less-2 c = search needs
+
+loop-again-2 : tie.Need-loop-again-2 Inv-loop μ-loop
+loop-again-2 c =
+    let pending = c .before .before .pending-behind2 .ensures in
+    let size = c .before .node-size2 .ensures in
+    let bound = pending-bound _ _ _ pending in
+    let bounds = size-bounds _ _ size in
+    (walk-on _ _ _ _ _ (c .before .before .before .before .before .before .loop .inv .0) (omega arith) (omega arith) _
+    (c .before .before .before .before .byte-at .ensures) _ pending _ size, omega arith, omega (arith, c .if2 .left),
+    omega arith, omega arith)
 
 returns-2 : tie.Need-returns-2 Inv-loop μ-loop
 returns-2 c = search walk-done
@@ -75,7 +92,12 @@ pass-nodes-spec =
     pending-behind-requires
     node-size-requires
     add-at
-    returns
     loop-less
     loop-again
+    pending-behind-requires-2
+    node-size-requires-2
+    add-at-2
+    returns
+    loop-less-2
+    loop-again-2
     returns-2)
