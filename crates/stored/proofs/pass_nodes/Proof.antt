@@ -44,9 +44,14 @@ loop-again c =
     let pending = c .before .pending-behind .ensures in
     let size = c .node-size .ensures in
     let more = fork-behind _ _ (c .before .before .if1 .taken) _ pending in
-    let bounds = size-bounds _ _ size in
-    (walk-on _ _ _ _ _ (c .before .before .before .before .before .loop .inv .0) (omega arith) (omega arith) _
-    (c .before .before .before .byte-at .ensures) _ pending _ size, omega arith, omega arith, omega arith, omega arith)
+    let bounds = size-bounds _ _ size in (
+      walk-on _ _ _ _ _ (c .before .before .before .before .before .loop .inv .0) (omega arith) (omega arith) _
+          (c .before .before .before .byte-at .ensures) _ pending _ size,
+      omega arith,
+      omega arith,
+      omega arith,
+      omega arith,
+    )
 
 pending-behind-requires-2 : tie.Need-pending-behind-requires-2 Inv-loop μ-loop
 pending-behind-requires-2 c κs = (omega arith, omega arith)
@@ -71,10 +76,14 @@ loop-again-2 c =
     let pending = c .before .before .pending-behind2 .ensures in
     let size = c .before .node-size2 .ensures in
     let bound = pending-bound _ _ _ pending in
-    let bounds = size-bounds _ _ size in
-    (walk-on _ _ _ _ _ (c .before .before .before .before .before .before .loop .inv .0) (omega arith) (omega arith) _
-    (c .before .before .before .before .byte-at .ensures) _ pending _ size, omega arith, omega (arith, c .if2 .left),
-    omega arith, omega arith)
+    let bounds = size-bounds _ _ size in (
+      walk-on _ _ _ _ _ (c .before .before .before .before .before .before .loop .inv .0) (omega arith) (omega arith) _
+          (c .before .before .before .before .byte-at .ensures) _ pending _ size,
+      omega arith,
+      omega (arith, c .if2 .left),
+      omega arith,
+      omega arith,
+    )
 
 returns-2 : tie.Need-returns-2 Inv-loop μ-loop
 returns-2 c = search walk-done
