@@ -5,9 +5,8 @@ use rules::ATRE;
 ghost use mathlib.Core.Path.{_≡_};
 ghost use Rattle.calculus.specs.Reduction.{Rule};
 ghost use Rattle.semantics.specs.Definitions.Moves.{ruleNumber};
-ghost use Rattle.semantics.specs.Definitions.Run.{freshCounters, counted};
+ghost use Rattle.semantics.specs.Definitions.Run.{freshCounters, countedAt, counted};
 ghost use Rattle.counters.specs.Counted.{countersOf, countedBy};
-ghost use Rattle.semantics.specs.Definitions.Run.{countedAt};
 
 // A counter that has come here stays.
 pub const COUNTER_TOP: u32 = 4294967295;

@@ -35,7 +35,8 @@ pub record Applied (d s starts : List ℕ) (n : ℕ) (e : Entry) (rule : ℕ) (s
   pub found : (ts : List Term) (h : Configuration) → Decoded ts d → Holds ts h s starts n →
       replyOf (answerTo h e) ≡ movedBy rule → Holds ts (afterwards (answerTo h e) h) s′ starts′ n′
 
--- an entry that is looked at and then made: what it makes of the configuration is held now, accepted or refused
+-- an entry that is made: r is what a look would answer, and what the entry makes of the configuration is held now,
+-- accepted or refused
 pub record Chosen (d s starts : List ℕ) (n : ℕ) (e : Entry) (r : Reply) (s′ starts′ : List ℕ) (n′ : ℕ) : Type 0 where
   pub looked : Looked d s starts n e r
   pub found : (ts : List Term) (h : Configuration) → Decoded ts d → Holds ts h s starts n →

@@ -1,4 +1,4 @@
--- Every term of an accepted table can be walked with none kept.
+-- Every term of an accepted table can be walked with none stored.
 -- Assumes nothing.
 use Prim.Native.Nat.{ℕ, _<_}
 use native.Mathlib.Omega.{arith}

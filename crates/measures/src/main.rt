@@ -1,5 +1,5 @@
 // The measures of the terms of six tables, by the walk over the unfolded term: `terms::measures_of` with no term's
-// measures kept. Reading a table makes the same call with the measures of all earlier terms kept: it looks them up
+// measures stored. Reading a table makes the same call with those of all earlier terms stored: it looks them up
 // and walks no further.
 //
 // Each table has a line `N` with how many terms it has, then for each term a line `T` with these columns: its number,
@@ -167,7 +167,7 @@ fn same(m: Measures, breadth: u8, length: u8) -> bool {
     m.length == length
 }
 
-// A term's line, by the walk with none kept.
+// A term's line, by the walk with none stored.
 fn print_term(decoded: &[u8; DECODED], i: usize)
     requires { ⌜ Measurable (now decoded) 0 i ⌝ }
 {

@@ -153,7 +153,7 @@ fn of_longer(rest: Measures) -> Measures
     }
 }
 
-// The measures that are measured of the term at a number.
+// The measures that are stored of the term at a number.
 fn stored_measures(decoded: &[u8; DECODED], i: usize) -> Measures
     requires { ⌜ i < maxTerms ⌝ }
     ensures { λ m. ⌜ m .breadth ≡ breadthAt (now (decoded .entry)) i ⌝ }
@@ -166,7 +166,7 @@ fn stored_measures(decoded: &[u8; DECODED], i: usize) -> Measures
 }
 
 // The walk: the measures of the term at a number, over the unfolded term. References go to smaller numbers. The measures
-// of the first `measured` terms stand in the decoded table and are looked up; with none measured, the whole term is walked.
+// of the first `measured` terms stand in the decoded table and are looked up; with none stored, the whole term is walked.
 fn recursive_measures(decoded: &[u8; DECODED], measured: usize, at: usize) -> Measures
     requires { ⌜ Measurable (now decoded) measured at ⌝ }
     ensures { λ m. ⌜ MeasuresOf (now (decoded .entry)) measured at (m .breadth) (m .length) ⌝ }
@@ -188,7 +188,8 @@ fn recursive_measures(decoded: &[u8; DECODED], measured: usize, at: usize) -> Me
     }
 }
 
-// The walk's one turn where all parts are measured, written out: the compiler makes calls of the walk's own.
+// The walk's one turn where the measures of all parts are stored, written out: the compiler makes calls of the walk's
+// own.
 fn new_measures(decoded: &[u8; DECODED], at: usize) -> Measures
     requires { ⌜ Measurable (now decoded) at at ⌝ }
     ensures { λ m. ⌜ MeasuresOf (now (decoded .entry)) at at (m .breadth) (m .length) ⌝ }
@@ -207,7 +208,7 @@ fn new_measures(decoded: &[u8; DECODED], at: usize) -> Measures
     }
 }
 
-// The measures of the term at a number, the first `measured` terms' being measured.
+// The measures of the term at a number, where those of the first `measured` terms are stored.
 pub fn measures_of(decoded: &[u8; DECODED], measured: usize, at: usize) -> Measures
     requires { ⌜ Measurable (now decoded) measured at ⌝ }
     ensures { λ m. ⌜ MeasuresOf (now (decoded .entry)) measured at (m .breadth) (m .length) ⌝ }

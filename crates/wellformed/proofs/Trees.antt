@@ -8,7 +8,6 @@ use mathlib.Core.Option.{Option, none, some}
 use mathlib.Core.List.{List, [], _∷_}
 use lib.ListN.{length, getD, drop}
 use lib.Dec.{eqb}
-use borrow.Author.Tests.{eq-eqb}
 use Rattle.semantics.specs.Definitions.Basics.{All}
 use mathlib.Core.Option.{bind}
 use Rattle.semantics.specs.Definitions.Terms.{Term}
@@ -17,7 +16,7 @@ use Rattle.semantics.specs.Definitions.Stored.{treeFrom}
 use Rattle.terms.specs.Decoded.{Decoded}
 use Rattle.stored.specs.Layout.{maxBranches, forkKind}
 use Rattle.stored.specs.Nodes.{nodeSize, pendingBehind}
-use Rattle.stored.proofs.Nodes.{size-bounds}
+use Rattle.stored.proofs.Nodes.{size-bounds, fork-behind}
 use Rattle.storedlaws.specs.Reading.{treesFrom, boundsBehind}
 use Rattle.storedlaws.proofs.ReadTrees.{trees-branches}
 use Rattle.nodes.specs.declared.NodeTest.{NodeTest}
@@ -169,6 +168,5 @@ module _ (d : List ℕ) (n : ℕ) (s : List ℕ) (tree : ℕ) where
     tree-overfull many = tree-crowded p′ (b + w′) (at + z) (tree-turn p b at x m r q w w′ h v k j z u p′ e) (omega arith)
 
 -- behind a fork more is to come
-pub fork-pending : (k p p′ : ℕ) → k ≡ forkKind → p′ ≡ pendingBehind k p → p′ ≡ 0 → ⊥
-unfolding pendingBehind
-fork-pending k p p′ h e z = let f = rw (eq-eqb k forkKind h) at e in omega arith
+pub fork-goes-on : (k p p′ : ℕ) → k ≡ forkKind → p′ ≡ pendingBehind k p → p′ ≡ 0 → ⊥
+fork-goes-on k p p′ h e z = let f = fork-behind k p h p′ e in omega arith

@@ -7,11 +7,11 @@ use ruonfidd::Choice;
 use super::build::{not_over, write_whole};
 use super::check::refused;
 use super::load;
-use super::run::counted;
 use super::run::problems::{lost_problem, missed, unexpected};
 use super::run::script::script;
 use super::{Args, Exit, Failure, Outcome, Streams};
 use crate::board::{doing, Board};
+use crate::explore::report::counted;
 use crate::lesson::{choice_words, Answer, Lesson};
 use crate::refusals;
 use crate::rehearsal::{position_of, Happened};
@@ -312,7 +312,7 @@ impl Playing<'_, '_, '_> {
             Ok(()) => writeln!(
                 self.streams.out,
                 "      {} written to {file}: hall run {} {file} makes them again",
-                counted(&self.said.len(), "choice"),
+                counted(u64::try_from(self.said.len()).unwrap_or(u64::MAX), "choice"),
                 self.file
             )?,
             // One plays on: the choices are not lost.

@@ -1,11 +1,14 @@
--- Only a block ever has a note (document 01, "The one-step run", the state). The type of a one-step run's stations
--- lets any of them have one; no run makes such a state.
+-- Only a block ever has a note, and a note has a count for each tray (document 01, "The one-step run", the state). The
+-- type of a one-step run's stations lets any of them have any note; no run makes such a state.
 -- Assumes nothing.
+use Prim.Native.Nat.{ℕ}
+use mathlib.Core.Path.{_≡_}
 use mathlib.Core.Option.{Option, none, some}
 use mathlib.Core.List.{List}
+use lib.ListN.{length}
 use Rattle.calculus.specs.Syntax.{State}
-use Rattle.semantics.specs.Definitions.Basics.{All}
-use Rattle.semantics.specs.Definitions.Table.{Table}
+use Rattle.semantics.specs.Definitions.Basics.{All, Bytes}
+use Rattle.semantics.specs.Definitions.Table.{Table, accepted, readTable}
 use Rattle.semantics.specs.Definitions.Configuration.{Idle, taking, repeating, block, output}
 use Rattle.semantics.specs.Definitions.Moves.{Entry}
 use Rattle.semantics.specs.Definitions.Run.{Counters}
@@ -13,7 +16,7 @@ use Rattle.semantics.specs.Definitions.AtomicRun.{Atomic, atomicStart, a
 
 abbrev pub MayHave : Idle → Option State → Type 0
 MayHave c none = Unit {0}
-MayHave (block n M) (some m) = Unit {0}
+MayHave (block n M) (some m) = length m ≡ 16
 MayHave (taking n a P) (some m) = ⊥
 MayHave (repeating n a P) (some m) = ⊥
 MayHave (output a) (some m) = ⊥
@@ -22,6 +25,8 @@ MayHave (output a) (some m) = ⊥
 abbrev pub BlocksAlone : Atomic State → Type 0
 BlocksAlone s = All (λ x. MayHave (x .station) (x .note)) (s .stations)
 
--- after any choices done, from any tally
+-- after any choices, whether the engine would do them or not, from any tally
 unfoldable pub NotesAtBlocks : Type 0
-NotesAtBlocks = (t : Table) (c : Counters) (es : List Entry) → BlocksAlone (atomicRun (atomicStart t c) es)
+NotesAtBlocks =
+    (bs : List ℕ) (t : Table) → Bytes bs → readTable bs ≡ accepted t → (c : Counters) (es : List Entry) →
+    BlocksAlone (atomicRun (atomicStart t c) es)

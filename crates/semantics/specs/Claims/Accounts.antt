@@ -40,7 +40,8 @@ byRule n ss = total (λ r. same (ruleNumber r) n) ss
 -- of the steps ss from the hall h and the tally c to the hall g and the tally d
 pub record Accounts (h g : Configuration) (c d : Counters) (ss : List Step) : Type 0 where
   pub leaves : finalConfiguration h ss ≡ g
-  -- of every tray: what is left and all that IN, REP and commits' reads took are what was there and all that OUT put
+  -- of every tray: what is left, with all that IN, REP and the reads of commits took, is what was there with all that
+  -- OUT put
   pub balance : (x : Name) → count (g .counts) x + total (removes x) ss ≡ count (h .counts) x + total (adds x) ss
   -- its net is what came in minus what went out, from -255 to 255
   pub net-is : (x : Name) →

@@ -4,7 +4,7 @@ use native.Mathlib.Omega.{arith}
 use mathlib.Core.Path.{_≡_}
 use lib.ListN.{length}
 use Rattle.stored.proofs.Nodes.{size-bounds, pending-bound}
-use Rattle.wellformed.proofs.Trees.{TreeSoFar, node-there, tree-begun, tree-crowded, tree-broken, tree-turn, tree-falls, tree-ended, tree-overfull, fork-pending}
+use Rattle.wellformed.proofs.Trees.{TreeSoFar, node-there, tree-begun, tree-crowded, tree-broken, tree-turn, tree-falls, tree-ended, tree-overfull, fork-goes-on}
 use borrow.Author.Needs.{needs}
 use Rattle.wellformed.proofs.tree_scan.Statement.{statement}
 use Rattle.wellformed.proofs.tree_scan.Tie as tie
@@ -61,7 +61,7 @@ loop-less c = search tree-falls
 loop-again : tie.Need-loop-again Inv-loop μ-loop
 loop-again c = (
   search tree-turn,
-  search fork-pending,
+  search fork-goes-on,
   omega (arith, c .before .before .before .before .before .known-told .given, pending-bound _ _ _ (c .before .pending-behind .ensures)),
 )
 

@@ -10,6 +10,7 @@ use super::check::{problem_object, refused};
 use super::load;
 use super::{Args, Exit, Failure, Outcome, Streams};
 use crate::board::Board;
+use crate::explore::report::counted;
 use crate::input::shown_name;
 use crate::json::Object;
 use crate::lesson::{Answer, Contradiction, Lesson};
@@ -351,21 +352,17 @@ impl Run<'_, '_, '_> {
         writeln!(
             self.streams.out,
             "{} done{refused}: {}, {} failed at commit, {} gave up. The hall is {}still.",
-            counted(&self.lesson.done(), "choice"),
-            counted(&tally.commits, "commit"),
-            counted(&tally.failed, "attempt"),
-            counted(&tally.retries, "attempt"),
+            counted(
+                u64::try_from(self.lesson.done()).unwrap_or(u64::MAX),
+                "choice"
+            ),
+            counted(tally.commits.into(), "commit"),
+            counted(tally.failed.into(), "attempt"),
+            counted(tally.retries.into(), "attempt"),
             if still { "" } else { "not " }
         )?;
         Ok(())
     }
-}
-
-/// A number of things.
-pub(super) fn counted(count: &impl ToString, what: &str) -> String {
-    let count = count.to_string();
-    let plural = if count == "1" { "" } else { "s" };
-    format!("{count} {what}{plural}")
 }
 
 fn painted(rule: Option<Rule>, word: &str, streams: &Streams<'_>) -> Option<String> {
