@@ -35,9 +35,13 @@ use Rattle.communication.specs.Tokens.{OutputHeld, OutputLooked, takeOf, TakeHe
 use Rattle.blocks.proofs.Beginning.{block-begins}
 use Rattle.blocks.specs.Ends.{CanLookEnd, EndLooked}
 use Rattle.transactions.specs.Finding.{Findable, Searched}
-use Rattle.choices.specs.Entries.{kindHeld, bodyOf}
+use Rattle.choices.specs.Entries.{kindHeld}
 
 -- ---- what stands at a position
+
+-- the body of the component there
+abbrev pub bodyOf : (s starts : List ℕ) → ℕ → ℕ
+bodyOf s starts p = getD s (getD starts p 0 + componentBody) 0
 
 module _ {d s starts : List ℕ} {n p : ℕ} (x : Running d s starts n) (l : p < n) where
   pub kind-inside : getD starts p 0 < length s

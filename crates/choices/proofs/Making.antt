@@ -34,10 +34,10 @@ use Rattle.stored.specs.declared.Place.the-variants.{At, Nowhere}
 use Rattle.stored.specs.Layout.{transactionKind, outputKind, transactionHead}
 use Rattle.stored.specs.Nodes.{nodeStart}
 use Rattle.index.proofs.Holding.{hall-length, component-at, kind-here, output-here}
-use Rattle.choices.proofs.Looking.{TakeThere, past-components, output-looked, end-looked, block-looked, waits-take, take-looked, inside-past, inside-idle, find-held, find-looked}
+use Rattle.choices.proofs.Looking.{bodyOf, TakeThere, past-components, output-looked, end-looked, block-looked, waits-take, take-looked, inside-past, inside-idle, find-held, find-looked}
 use Rattle.schedule.specs.declared.Entry as choices
 use Rattle.schedule.specs.declared.Entry.the-variants.{Act, Inside}
-use Rattle.choices.specs.Entries.{kindHeld, bodyOf}
+use Rattle.choices.specs.Entries.{kindHeld}
 use Rattle.schedule.specs.Entries.{entryOf}
 use Rattle.communication.specs.Tokens.{takeNumber, OutputLooked, CanPut, TokenPut, TakeLooked, CanTake, TokenTaken}
 use Rattle.blocks.specs.Ends.{EndLooked, Restarts, CanRestart, Restarted, CanCommit, Committed}

@@ -2,7 +2,7 @@
 --
 -- d is a decoded table; s has the bytes, starts the index, n the number of components (stations); p is a position.
 -- Assumes nothing.
-use Prim.Native.Nat.{ℕ, _+_, _≤_}
+use Prim.Native.Nat.{ℕ, _≤_}
 use mathlib.Core.List.{List}
 use lib.ListN.{getD}
 use Rattle.semantics.specs.Definitions.Layout.{maxByte}
@@ -11,7 +11,6 @@ use Rattle.semantics.specs.Definitions.Configuration.{Configuration}
 use Rattle.semantics.specs.Definitions.Moves as moves
 use Rattle.semantics.specs.Definitions.Calls.{SuggestAnswer, suggested, still, IsRefused, Suggestable}
 use Rattle.terms.specs.Decoded.{Decoded}
-use Rattle.stored.specs.Layout.{componentBody}
 use Rattle.index.specs.Holds.{Holds}
 use Rattle.schedule.specs.Entries.{entryOf}
 use Rattle.choices.specs.declared.suggests.Suggestion.{Suggestion}
@@ -19,12 +18,9 @@ use Rattle.choices.specs.declared.suggests.Suggestion.the-variants.{Acce
 
 -- ---- what stands at a position
 
--- the kind and the body of the component there
+-- the kind of the component there
 abbrev pub kindHeld : (s starts : List ℕ) → ℕ → ℕ
 kindHeld s starts p = getD s (getD starts p 0) 0
-
-abbrev pub bodyOf : (s starts : List ℕ) → ℕ → ℕ
-bodyOf s starts p = getD s (getD starts p 0 + componentBody) 0
 
 -- ---- a suggestion
 

@@ -22,10 +22,10 @@ use Rattle.logs.proofs.Places.{counts-held}
 use Rattle.leaves.specs.Leaves.{ExpressionKindRead, NodePresent, LeafKindRead}
 use Rattle.transactions.specs.Bytes.{termAt, actionLogged, Actionable, forkBytes, Splittable, leftSize, leftBytes}
 use Rattle.transactions.specs.Finding.{ReadTested, forkRule, NodeHeld, LeafHeld, RuleRead}
-use Rattle.transactions.specs.Moving.{CanMove, HasMoved, snapshotOf, NodeStands, NodeMoved}
+use Rattle.transactions.specs.Moving.{HasMoved, snapshotOf, NodeStands, NodeMoved}
 use Rattle.transactions.proofs.Finding.{read-allowed, read-failed, read-rule-is, write-rule-is, choice-rule-is, no-rule-is, fork-ends, fork-retries, fork-waits, left-stands, fork-rule-is, leaf-stands}
 use Rattle.transactions.proofs.Searching.{node-standing, search-read, found-moves}
-use Rattle.transactions.proofs.Applying.{ardok-can, ardok-does, ardf-does, awr-can, awr-does, aoi-splits, aoi-can, aoi-does, aof-inside, aof-can, aof-does, aoe-inside, aoe-can, aoe-does}
+use Rattle.transactions.proofs.Applying.{CanMove, ardok-can, ardok-does, ardf-does, awr-can, awr-does, aoi-splits, aoi-can, aoi-does, aof-inside, aof-can, aof-does, aoe-inside, aoe-can, aoe-does}
 
 module _ (d s starts : List ℕ) (n p at : ℕ) where
   -- a node that was found stands
