@@ -31,15 +31,17 @@ use Rattle.rules.specs.Replies.{replyIs}
 use Rattle.index.specs.Holds.{Holds, Running}
 use Rattle.index.specs.Choices.{Looked}
 use Rattle.index.proofs.Holding.{hall-length, Waiting, takes, repeats, blocks, component-at, no-component, component-inside, kind-here, output-here, waiting-here}
-use Rattle.transactions.specs.declared.InnerMove.{InnerMove}
-use Rattle.transactions.specs.declared.InnerMove.the-variants as inner
 use Rattle.communication.specs.Tokens.{OutputHeld, OutputLooked, takeOf, TakeHeld, TakeLooked}
 use Rattle.blocks.proofs.Beginning.{block-begins}
 use Rattle.blocks.specs.Ends.{CanLookEnd, EndLooked}
-use Rattle.transactions.specs.Finding.{replied, Findable, Searched}
-use Rattle.choices.specs.Entries.{kindHeld, bodyOf, LookedInside}
+use Rattle.transactions.specs.Finding.{Findable, Searched}
+use Rattle.choices.specs.Entries.{kindHeld}
 
 -- ---- what stands at a position
+
+-- the body of the component there
+abbrev pub bodyOf : (s starts : List ℕ) → ℕ → ℕ
+bodyOf s starts p = getD s (getD starts p 0 + componentBody) 0
 
 module _ {d s starts : List ℕ} {n p : ℕ} (x : Running d s starts n) (l : p < n) where
   pub kind-inside : getD starts p 0 < length s
@@ -219,20 +221,16 @@ find-held {starts = starts} {n = n} {p = p} x l t = record {
 
 module _ {d s starts : List ℕ} {n k : ℕ} where
   -- refusal 14 before refusal 15
-  pub inside-past : {p q : ℕ} → n ≤ p → p ≡ q → LookedInside d s starts n q k (inner.Refused 14)
-  unfolding answerTo atPosition replyOf replyIs replied
-  inside-past {p} {q} l e = record {
-    looked = record { found = λ ts h y x. rw (no-component x q (rw (← e) l)) refl };
-    place = λ rule at z. absurd (let o : _≡_ {A = ℕ} 0 1 = cc in omega arith);
-  }
+  pub inside-past : {p q : ℕ} → n ≤ p → p ≡ q → Looked d s starts n (inside q k) (Refused 14)
+  unfolding answerTo atPosition replyOf replyIs
+  inside-past {p} {q} l e = record { found = λ ts h y x. rw (no-component x q (rw (← e) l)) refl }
 
   module _ {p : ℕ} where
     pub inside-idle : {q : ℕ} → p < n → (kindHeld s starts p ≡ transactionKind → ⊥) → p ≡ q →
-        LookedInside d s starts n q k (inner.Refused 15)
-    unfolding answerTo atPosition applyAt actsInside componentBytes replyOf replyIs replied
+        Looked d s starts n (inside q k) (Refused 15)
+    unfolding answerTo atPosition applyAt actsInside componentBytes replyOf replyIs
     inside-idle l other e = rw (← e) (record {
-      looked = record { found = λ ts h y x. let (c, there) = component-at x p l in go ts h x c there };
-      place = λ rule at z. absurd (let o : _≡_ {A = ℕ} 0 1 = cc in omega arith);
+      found = λ ts h y x. let (c, there) = component-at x p l in go ts h x c there;
     })
       where
         go : (ts : List Term) (h : Configuration) → Holds ts h s starts n → (c : Component) →
@@ -241,13 +239,10 @@ module _ {d s starts : List ℕ} {n k : ℕ} where
         go ts h x (idle c) there = rw there refl
         go ts h x (transaction m M σ t) there = absurd (other (kind-here x p (transaction m M σ t) there))
 
-    pub find-looked : {q : ℕ} {r : InnerMove} → Searched d s (getD starts p 0) k r → p < n →
+    pub find-looked : {q : ℕ} {r : Reply} → Searched d s (getD starts p 0) k r → p < n →
         kindHeld s starts p ≡ transactionKind → p ≡ q →
-        LookedInside d s starts n q k r
+        Looked d s starts n (inside q k) r
     find-looked f l t e = rw (← e) (record {
-      looked = record {
-        found = λ ts h y x.
-            f .found ts h starts n p (record { decoded = y; holds = x; there = l; begins = refl; kind = t });
-      };
-      place = f .place;
+      found = λ ts h y x.
+          f .found ts h starts n p (record { decoded = y; holds = x; there = l; begins = refl; kind = t });
     })

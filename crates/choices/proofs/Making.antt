@@ -22,26 +22,22 @@ use Rattle.terms.specs.Decoded.{kindAt}
 use Rattle.index.proofs.Acting.{acted}
 use Rattle.communication.proofs.Acting.{Local, acts-local}
 use Rattle.blocks.proofs.Numbers.{BlockMove, begins, retries, fails, commits, act-made}
-use Rattle.semantics.specs.Definitions.Moves.{Entry, act, inside, Answer, LocalAnswer, moves, moved, refused, refusedBy, answerTo, ruleNumber, replyOf}
+use Rattle.semantics.specs.Definitions.Moves.{Entry, act, inside, Answer, LocalAnswer, moves, moved, refused, refusedBy, answerTo, replyOf}
 use Rattle.rules.specs.declared.Reply.{Reply}
 use Rattle.rules.specs.declared.Reply.the-variants.{Moved, Refused}
 use Rattle.rules.specs.Replies.{replyIs}
 use Rattle.index.specs.Holds.{Running}
-use Rattle.transactions.specs.declared.InnerMove.{InnerMove}
-use Rattle.transactions.specs.declared.InnerMove.the-variants as inner
-use Rattle.transactions.specs.declared.InnerMove.the-variants.{Found}
-use Rattle.transactions.specs.Finding.{replied}
-use Rattle.transactions.specs.Moving.{HasMoved, NodeStands, NodeMoved}
-use Rattle.transactions.proofs.Searching.{findable-inside, search-missing, search-found, search-none}
+use Rattle.transactions.specs.Moving.{NodeStands, NodeMoved}
+use Rattle.transactions.proofs.Searching.{findable-inside, search-missing, search-read}
 use Rattle.stored.specs.declared.Place.{Place}
 use Rattle.stored.specs.declared.Place.the-variants.{At, Nowhere}
 use Rattle.stored.specs.Layout.{transactionKind, outputKind, transactionHead}
 use Rattle.stored.specs.Nodes.{nodeStart}
 use Rattle.index.proofs.Holding.{hall-length, component-at, kind-here, output-here}
-use Rattle.choices.proofs.Looking.{TakeThere, past-components, output-looked, end-looked, block-looked, waits-take, take-looked, inside-past, inside-idle, find-held, find-looked}
+use Rattle.choices.proofs.Looking.{bodyOf, TakeThere, past-components, output-looked, end-looked, block-looked, waits-take, take-looked, inside-past, inside-idle, find-held, find-looked}
 use Rattle.schedule.specs.declared.Entry as choices
 use Rattle.schedule.specs.declared.Entry.the-variants.{Act, Inside}
-use Rattle.choices.specs.Entries.{kindHeld, bodyOf, LookedInside}
+use Rattle.choices.specs.Entries.{kindHeld}
 use Rattle.schedule.specs.Entries.{entryOf}
 use Rattle.communication.specs.Tokens.{takeNumber, OutputLooked, CanPut, TokenPut, TakeLooked, CanTake, TokenTaken}
 use Rattle.blocks.specs.Ends.{EndLooked, Restarts, CanRestart, Restarted, CanCommit, Committed}
@@ -272,34 +268,15 @@ module _ {d s starts : List ℕ} {n p : ℕ} (x : Running d s starts n) (l : p <
           Chosen d s starts n (act p) (Moved rule) s′ starts′ n′
       act-take t = chosen-moved looks-take is (take-applied refl there (looked-accepts x looks-take is) t)
 
--- ---- kind 2
+-- ---- kind 2, made by what stands at the node: p is the position as the code has it, q as the entry has it
 
-module _ {d s starts : List ℕ} {n p q k : ℕ} {r : InnerMove} (l : LookedInside d s starts n q k r) where
-  pub inside-moved : {rule at : ℕ} {s′ starts′ : List ℕ} → HasMoved d s starts n p rule at s′ starts′ →
-      r ≡ Found rule at → p ≡ q →
-      Chosen d s starts n (inside q k) (Moved rule) s′ starts′ n
-  unfolding replied replyIs
-  inside-moved {rule} {at} {s′} {starts′} f is e =
-      let g : HasMoved d s starts n q rule at s′ starts′ = rw e at f in
-      chosen-moved (l .looked) (ap replied is) (record {
-        found = λ ts h y x reply.
-            g .found ts h k (record { decoded = y; holds = x; place = l .place rule at is; reply = reply });
-      })
-
-pub inside-refused : {d s starts : List ℕ} {n q k m : ℕ} {r : InnerMove} → LookedInside d s starts n q k r →
-    r ≡ inner.Refused m →
-    Chosen d s starts n (inside q k) (Refused m) s starts n
-unfolding replied
-inside-refused l is = chosen-refused (l .looked) (ap replied is)
-
--- made by what stands at the node: p is the position as the code has it, q as the entry has it
 module _ {d s starts : List ℕ} {n p q k : ℕ} where
   pub past-refused : n ≤ p → p ≡ q → Chosen d s starts n (inside q k) (Refused 14) s starts n
-  past-refused l e = inside-refused (inside-past l e) refl
+  past-refused l e = chosen-refused (inside-past l e) refl
 
   pub idle-refused : p < n → (getD s (getD starts p 0) 0 ≡ transactionKind → ⊥) → p ≡ q →
       Chosen d s starts n (inside q k) (Refused 15) s starts n
-  idle-refused l other e = inside-refused (inside-idle l other e) refl
+  idle-refused l other e = chosen-refused (inside-idle l other e) refl
 
 module _ {d s starts : List ℕ} {n p : ℕ} (l : p < n) (t : getD s (getD starts p 0) 0 ≡ transactionKind) where
   pub nodes-inside : Running d s starts n → getD starts p 0 + transactionHead ≤ length s
@@ -310,7 +287,7 @@ module _ {d s starts : List ℕ} {n p : ℕ} (l : p < n) (t : getD s (getD start
 
   module _ (k : ℕ) (place : Place) (f : place ≡ nodeStart s (getD starts p 0 + transactionHead) k) where
     pub node-missing : {q : ℕ} → place ≡ Nowhere → p ≡ q → Chosen d s starts n (inside q k) (Refused 16) s starts n
-    node-missing g e = inside-refused (find-looked (search-missing d s (getD starts p 0) k place f g) l t e) refl
+    node-missing g e = chosen-refused (find-looked (search-missing d s (getD starts p 0) k place f g) l t e) refl
 
     module _ {at : ℕ} (g : place ≡ At at) where
       pub node-stands : Running d s starts n → NodeStands d s starts n p at
@@ -324,23 +301,19 @@ module _ {d s starts : List ℕ} {n p : ℕ} (l : p < n) (t : getD s (getD start
 
       pub node-chosen : {q : ℕ} {r : Reply} {s′ starts′ : List ℕ} → NodeMoved d s starts n p at r s′ starts′ → p ≡ q →
           Chosen d s starts n (inside q k) r s′ starts′ n
-      node-chosen {r = Moved rule} m e =
-          let found = search-found d s (getD starts p 0) k place f at (Moved rule) g (m .read) rule refl in
-          inside-moved (find-looked found l t e) (m .made rule refl) refl e
-      node-chosen {r = Refused j} m e =
-          let none = search-none d s (getD starts p 0) k place f at (Refused j) g (m .read) j refl in
-          let kept = m .kept j refl in
-          rw (kept .0, kept .1) (inside-refused (find-looked none l t e) refl)
+      node-chosen {r = r} {s′ = s′} {starts′ = starts′} m e = rw (← e) (go r refl)
+        where
+          looks : Looked d s starts n (inside p k) r
+          looks = find-looked (search-read d s (getD starts p 0) k place f g (m .read)) l t refl
 
--- the look alone
-module _ {d s starts : List ℕ} {n q k : ℕ} {r : InnerMove} (l : LookedInside d s starts n q k r) where
-  pub inside-looked-moved : {rule at : ℕ} → r ≡ Found rule at → Looked d s starts n (inside q k) (Moved rule)
-  unfolding replied
-  inside-looked-moved is = rw is at (l .looked)
-
-  pub inside-looked-refused : {m : ℕ} → r ≡ inner.Refused m → Looked d s starts n (inside q k) (Refused m)
-  unfolding replied
-  inside-looked-refused is = rw is at (l .looked)
+          go : (a : Reply) → r ≡ a → Chosen d s starts n (inside p k) a s′ starts′ n
+          go (Moved rule) is =
+              chosen-moved looks is (record {
+                found = λ ts h y x reply.
+                    m .made rule is .found ts h k
+                    (record { decoded = y; holds = x; place = sym f ∙ g; reply = reply });
+              })
+          go (Refused j) is = let kept = m .kept j is in rw (kept .0, kept .1) (chosen-refused looks is)
 
 -- ---- either kind
 

@@ -27,14 +27,11 @@ use Rattle.rules.specs.Replies.{replyIs}
 use Rattle.index.specs.Holds.{Holds, Running}
 use Rattle.index.specs.Choices.{Looked}
 use Rattle.index.proofs.Holding.{component-ok}
-use Rattle.transactions.specs.declared.InnerMove.{InnerMove}
-use Rattle.transactions.specs.declared.InnerMove.the-variants as inner
 use Rattle.schedule.specs.declared.Entry.{Entry}
 use Rattle.schedule.specs.declared.Entry.the-variants as entry
 use Rattle.choices.specs.declared.suggests.Suggestion.{Suggestion}
 use Rattle.choices.specs.declared.suggests.Suggestion.the-variants.{Accepted, Still}
-use Rattle.transactions.specs.Finding.{replied}
-use Rattle.choices.specs.Entries.{LookedInside, Always, QuiescentInside, QuiescentAt, Suggests, SuggestsInside, SuggestsAt}
+use Rattle.choices.specs.Entries.{Always, QuiescentInside, QuiescentAt, Suggests, SuggestsInside, SuggestsAt}
 use Rattle.choices.proofs.Looking.{past-components, inside-past, inside-idle}
 
 -- ---- a look and its answer
@@ -63,16 +60,14 @@ module _ {d s starts : List ℕ} {n : ℕ} {e : moves.Entry} {r : Reply} (l : Lo
 module _ {d s starts : List ℕ} {n p : ℕ} where
   -- at a position past the last component
   quiet-behind : n ≤ p → Always d s starts n (QuiescentAt p)
-  unfolding replied
   quiet-behind l ts h y x = record {
     outside = looked-refused (past-components l refl) 14 refl ts h y x;
-    within = λ k b. looked-refused (inside-past l refl .looked) 14 refl ts h y x;
+    within = λ k b. looked-refused (inside-past l refl) 14 refl ts h y x;
   }
 
   -- of kind 2, where no transaction is open
   quiet-idle : p < n → (getD s (getD starts p 0) 0 ≡ transactionKind → ⊥) → Always d s starts n (QuiescentInside p)
-  unfolding replied
-  quiet-idle l other ts h y x k b = looked-refused (inside-idle l other refl .looked) 15 refl ts h y x
+  quiet-idle l other ts h y x k b = looked-refused (inside-idle l other refl) 15 refl ts h y x
 
 -- of kind 2, past the last node that a tree of so few branches has
 refused-beyond : {ts : List Term} {h : Configuration} {s starts : List ℕ} {n : ℕ} → Holds ts h s starts n → (p k : ℕ) →
@@ -114,18 +109,17 @@ module _ {d s starts : List ℕ} {n p : ℕ} where
   pub no-node-yet : {k : ℕ} → k ≡ 0 → NoneBelow d s starts n p k
   no-node-yet z = record { found = λ ts h y x j l. absurd (omega arith) }
 
-  pub next-node : {k m : ℕ} {r : InnerMove} → NoneBelow d s starts n p k → LookedInside d s starts n p k r →
-      r ≡ inner.Refused m → NoneBelow d s starts n p (k + 1)
-  unfolding replied
+  pub next-node : {k m : ℕ} {r : Reply} → NoneBelow d s starts n p k → Looked d s starts n (inside p k) r →
+      r ≡ Refused m → NoneBelow d s starts n p (k + 1)
   next-node {k} {m} b l q = record {
-    found = λ ts h y x. one-more k (b .found ts h y x) (looked-refused (l .looked) m (ap replied q) ts h y x);
+    found = λ ts h y x. one-more k (b .found ts h y x) (looked-refused l m q ts h y x);
   }
 
-  pub inside-suggested : {k rule at : ℕ} {r : InnerMove} → LookedInside d s starts n p k r → r ≡ inner.Found rule at →
+  pub inside-suggested : {k rule : ℕ} {r : Reply} → Looked d s starts n (inside p k) r → r ≡ Moved rule →
       Fits w8 p → k ≤ maxNodes → SuggestsInside d s starts n p (Accepted (entry.Inside p k))
-  unfolding Suggestable InBytes replied
+  unfolding Suggestable InBytes
   inside-suggested {rule = rule} l q b c = record {
-    found = λ ts h y x. ((omega arith, omega arith), looked-moved (l .looked) rule (ap replied q) ts h y x);
+    found = λ ts h y x. ((omega arith, omega arith), looked-moved l rule q ts h y x);
   }
 
   pub nodes-quiet : {k : ℕ} → NoneBelow d s starts n p k → maxNodes ≤ k → SuggestsInside d s starts n p Still

@@ -1,10 +1,8 @@
--- What the code of this crate says of entries (choices): what is found inside a transaction (attempt), and what a
--- suggestion answers.
+-- What the code of this crate says of entries (choices): what stands at their position, and what a suggestion answers.
 --
 -- d is a decoded table; s has the bytes, starts the index, n the number of components (stations); p is a position.
 -- Assumes nothing.
-use Prim.Native.Nat.{ℕ, _+_, _≤_}
-use mathlib.Core.Path.{_≡_}
+use Prim.Native.Nat.{ℕ, _≤_}
 use mathlib.Core.List.{List}
 use lib.ListN.{getD}
 use Rattle.semantics.specs.Definitions.Layout.{maxByte}
@@ -13,33 +11,16 @@ use Rattle.semantics.specs.Definitions.Configuration.{Configuration}
 use Rattle.semantics.specs.Definitions.Moves as moves
 use Rattle.semantics.specs.Definitions.Calls.{SuggestAnswer, suggested, still, IsRefused, Suggestable}
 use Rattle.terms.specs.Decoded.{Decoded}
-use Rattle.stored.specs.declared.Place.the-variants.{At}
-use Rattle.stored.specs.Layout.{transactionHead, componentBody}
-use Rattle.stored.specs.Nodes.{nodeStart}
 use Rattle.index.specs.Holds.{Holds}
-use Rattle.index.specs.Choices.{Looked}
-use Rattle.transactions.specs.declared.InnerMove.{InnerMove}
-use Rattle.transactions.specs.declared.InnerMove.the-variants.{Found}
-use Rattle.transactions.specs.Finding.{replied}
 use Rattle.schedule.specs.Entries.{entryOf}
 use Rattle.choices.specs.declared.suggests.Suggestion.{Suggestion}
 use Rattle.choices.specs.declared.suggests.Suggestion.the-variants.{Accepted, Still}
 
 -- ---- what stands at a position
 
--- the kind and the body of the component there
+-- the kind of the component there
 abbrev pub kindHeld : (s starts : List ℕ) → ℕ → ℕ
 kindHeld s starts p = getD s (getD starts p 0) 0
-
-abbrev pub bodyOf : (s starts : List ℕ) → ℕ → ℕ
-bodyOf s starts p = getD s (getD starts p 0 + componentBody) 0
-
--- ---- inside a transaction
-
--- r is what an entry of kind 2 is answered, and where it is accepted its node stands at the offset that r has
-pub record LookedInside (d s starts : List ℕ) (n p k : ℕ) (r : InnerMove) : Type 0 where
-  pub looked : Looked d s starts n (moves.inside p k) (replied r)
-  pub place : (rule at : ℕ) → r ≡ Found rule at → nodeStart s (getD starts p 0 + transactionHead) k ≡ At at
 
 -- ---- a suggestion
 

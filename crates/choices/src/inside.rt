@@ -9,37 +9,11 @@ use stored::KIND_TRANSACTION;
 use stored::Place;
 use stored::TRANSACTION_HEAD;
 use terms::DECODED;
-use transactions::InnerMove;
 ghost use Rattle.semantics.specs.Definitions.Moves.{inside};
 ghost use Rattle.index.specs.Holds.{Running};
 ghost use Rattle.index.specs.Choices.{Looked, Chosen};
-ghost use Rattle.choices.specs.Entries.{LookedInside};
 
-// What the entry is answered, and where its node stands. Nothing changes.
-pub fn find_inside(
-    decoded: &[u8; DECODED],
-    hall: &[u8],
-    starts: &[usize; INDEX_SIZE],
-    components: usize,
-    position: u8,
-    node: u8,
-) -> InnerMove
-    requires { ⌜ Running (now decoded) (now hall) (now starts) components ⌝ }
-    ensures { λ r. ⌜ LookedInside (now (decoded .entry)) (now (hall .entry)) (now (starts .entry)) components position
-        node r ⌝ }
-{
-    let p = wide(position);
-    if components <= p {
-        return InnerMove::Refused(NO_COMPONENT);
-    }
-    let begin = starts[p];
-    if hall[begin] != KIND_TRANSACTION {
-        return InnerMove::Refused(WRONG_COMPONENT);
-    }
-    transactions::find(decoded, hall, begin, node)
-}
-
-// What the entry is answered, and no more.
+// What the entry is answered. Nothing changes.
 pub fn look_inside(
     decoded: &[u8; DECODED],
     hall: &[u8],
@@ -52,11 +26,15 @@ pub fn look_inside(
     ensures { λ r. ⌜ Looked (now (decoded .entry)) (now (hall .entry)) (now (starts .entry)) components
         (inside position node) r ⌝ }
 {
-    let found = find_inside(decoded, hall, starts, components, position, node);
-    match found {
-        InnerMove::Found { rule, at: _ } => Reply::Moved(rule),
-        InnerMove::Refused(number) => Reply::Refused(number),
+    let p = wide(position);
+    if components <= p {
+        return Reply::Refused(NO_COMPONENT);
     }
+    let begin = starts[p];
+    if hall[begin] != KIND_TRANSACTION {
+        return Reply::Refused(WRONG_COMPONENT);
+    }
+    transactions::find(decoded, hall, begin, node)
 }
 
 // The entry made, where it is accepted, by what stands at its node. As many components stay.

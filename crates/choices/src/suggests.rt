@@ -1,7 +1,7 @@
 // A suggestion: the first entry that is accepted, at the lowest position, there kind 1 before kind 2, and of kind 2 at
 // the lowest node.
 use crate::acts::look_act;
-use crate::inside::find_inside;
+use crate::inside::look_inside;
 use buffer::wide;
 use rules::Reply;
 use schedule::Entry;
@@ -9,7 +9,6 @@ use stored::INDEX_SIZE;
 use stored::KIND_TRANSACTION;
 use stored::MAX_NODES;
 use terms::DECODED;
-use transactions::InnerMove;
 ghost use Prim.Native.Nat.{_<_};
 ghost use Rattle.index.specs.Holds.{Running};
 ghost use Rattle.choices.specs.Entries.{Suggests, SuggestsInside, SuggestsAt};
@@ -34,14 +33,7 @@ fn first_inside(
 {
     let mut node: u8 = 0;
     while node < MAX_NODES {
-        if let InnerMove::Found { rule: _, at: _ } = find_inside(
-            decoded,
-            hall,
-            starts,
-            components,
-            position,
-            node,
-        ) {
+        if let Reply::Moved(_) = look_inside(decoded, hall, starts, components, position, node) {
             return Suggestion::Accepted(Entry::Inside { position, node });
         }
         node += 1;

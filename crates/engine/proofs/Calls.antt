@@ -18,7 +18,7 @@ use Rattle.theorems.proofs.Theorems.{refusal-numbers}
 use Rattle.theorems.proofs.Steps.{answered, step-turned-down, step-unknown, step-answered}
 use Rattle.rules.specs.declared.Reply.{Reply}
 use Rattle.rules.specs.declared.Reply.the-variants as reply
-use Rattle.rules.specs.Replies.{replyIs}
+use Rattle.rules.specs.Replies.{replyIs, ruleOf}
 use Rattle.counters.specs.declared.Counters as code
 use Rattle.counters.specs.Counted.{countersOf}
 use Rattle.index.specs.Holds.{Running}
@@ -39,7 +39,7 @@ use Rattle.runs.proofs.Entries.{refused-positive}
 use Rattle.engine.specs.declared.steps.StepAnswer.{StepAnswer}
 use Rattle.engine.specs.declared.steps.StepAnswer.the-variants as step
 use Rattle.engine.specs.declared.suggests.SuggestAnswer.the-variants.{Suggested, Still, Refused}
-use Rattle.engine.specs.Answers.{buffersOf, stepCallOf, ruleOf, OneEntry, Stepped, suggestAnswerOf}
+use Rattle.engine.specs.Answers.{buffersOf, stepCallOf, OneEntry, Stepped, suggestAnswerOf}
 use Rattle.engine.proofs.Admitted.{admitted-hall, refused-hall}
 
 -- ---- an entry on a configuration that is held

@@ -13,8 +13,6 @@ use Rattle.semantics.specs.Definitions.Calls as calls
 use Rattle.theorems.proofs.Steps.{answered}
 use Rattle.terms.specs.Decoded.{Decoded}
 use Rattle.index.specs.Holds.{Holds}
-use Rattle.rules.specs.declared.Reply.{Reply}
-use Rattle.rules.specs.declared.Reply.the-variants as reply
 use Rattle.counters.specs.declared.Counters as counters
 use Rattle.counters.specs.Counted.{countersOf}
 use Rattle.schedule.specs.Entries.{entryOf}
@@ -64,11 +62,6 @@ stepCallOf (step.Refused n p) l = record { number = n; place = p; rule = 0; buff
 abbrev pub StepCaseDecided : StepAnswer → Type 0
 StepCaseDecided (step.Moved r p c) = Unit {0}
 StepCaseDecided (step.Refused n p) = 0 < n
-
--- the rule of a move
-abbrev pub ruleOf : Reply → ℕ
-ruleOf (reply.Moved rule) = rule
-ruleOf (reply.Refused n) = 0
 
 -- these bytes are one entry
 pub record OneEntry (bytes : List ℕ) (e : Entry) : Type 0 where

@@ -1,8 +1,8 @@
 // Making one choice on a stored hall.
 use admission::Admission;
 use counters::Counters;
-use rules::Reply;
 use rules::UNKNOWN_KIND;
+use rules::rule_of;
 use runs::RunAnswer;
 use schedule::Entry;
 use schedule::KIND_ACT;
@@ -15,7 +15,7 @@ ghost use Rattle.semantics.specs.Definitions.Calls.{stepCall};
 ghost use Rattle.counters.specs.Counted.{countersOf};
 ghost use Rattle.index.specs.Holds.{Running};
 ghost use Rattle.schedule.specs.Entries.{entryOf};
-ghost use Rattle.engine.specs.Answers.{ruleOf, OneEntry, buffersOf, stepCallOf, StepCaseDecided, Stepped};
+ghost use Rattle.engine.specs.Answers.{OneEntry, buffersOf, stepCallOf, StepCaseDecided, Stepped};
 
 // The rule by which a choice moved, the place behind it and the counters after it; or the refusal's number and place,
 // where the counters stay as they were.
@@ -29,16 +29,6 @@ pub enum StepAnswer {
         number: u8,
         place: usize,
     },
-}
-
-// The rule of a move; 0 for a refusal.
-fn rule_of(reply: Reply) -> u8
-    ensures { λ r. ⌜ r ≡ ruleOf reply ⌝ }
-{
-    match reply {
-        Reply::Moved(rule) => rule,
-        Reply::Refused(_) => 0,
-    }
 }
 
 // The choice that these bytes are, made on a configuration that is held: looked at, which tells its rule, and then run.

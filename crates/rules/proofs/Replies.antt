@@ -2,9 +2,7 @@
 -- Assumes nothing.
 use Prim.Native.Nat.{ℕ}
 use native.Mathlib.Omega.{arith}
-use mathlib.Core.Path.{_≡_, refl, ap}
-use Rattle.semantics.specs.Definitions.Moves.{movedBy, refusedBy}
-use Rattle.rules.specs.declared.Reply.{Reply}
+use mathlib.Core.Path.{_≡_}
 use Rattle.rules.specs.declared.Reply.the-variants.{Moved, Refused}
 use Rattle.rules.specs.Replies.{replyIs, RepliesDiffer}
 

@@ -3,6 +3,9 @@
 //
 // The rules are those of the calculus, numbered as document 01 numbers them: 1 to 3 pass tokens, 4 to 7 begin and end a
 // transaction (attempt), 8 to 13 move inside one.
+ghost use mathlib.Core.Path.{_≡_};
+ghost use Rattle.rules.specs.Replies.{ruleOf, refusalOf};
+
 pub const OUT: u8 = 1;
 
 pub const IN: u8 = 2;
@@ -55,4 +58,24 @@ pub const FULL_CHANNEL: u8 = 20;
 pub enum Reply {
     Moved(u8),
     Refused(u8),
+}
+
+// The rule of a move; 0 for a refusal.
+pub fn rule_of(reply: Reply) -> u8
+    ensures { λ r. ⌜ r ≡ ruleOf reply ⌝ }
+{
+    match reply {
+        Reply::Moved(rule) => rule,
+        Reply::Refused(_) => 0,
+    }
+}
+
+// The number of a refusal; 0 for a move.
+pub fn refusal_of(reply: Reply) -> u8
+    ensures { λ r. ⌜ r ≡ refusalOf reply ⌝ }
+{
+    match reply {
+        Reply::Moved(_) => 0,
+        Reply::Refused(number) => number,
+    }
 }

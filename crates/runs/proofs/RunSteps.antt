@@ -18,6 +18,7 @@ use Rattle.semantics.specs.Definitions.Calls.{runResult}
 use Rattle.terms.specs.Decoded.{Decoded}
 use Rattle.rules.specs.declared.Reply.{Reply}
 use Rattle.rules.specs.declared.Reply.the-variants as reply
+use Rattle.rules.specs.Replies.{refusalOf}
 use Rattle.counters.specs.declared.Counters as code
 use Rattle.counters.specs.Counted.{countersOf}
 use Rattle.index.specs.Holds.{Holds, Running}
@@ -29,7 +30,7 @@ use Rattle.runs.specs.declared.RunAnswer.the-variants.{Completed, Refuse
 use Rattle.schedule.specs.declared.Entry as code-entry
 use Rattle.schedule.specs.Entries.{entryOf, EntryAt, Found}
 use Rattle.choices.proofs.Making.{chosen-running}
-use Rattle.runs.specs.Answers.{refusalOf, Ran}
+use Rattle.runs.specs.Answers.{Ran}
 use Rattle.runs.proofs.Entries.{malformed-positive, refused-positive, made-moved, made-refused}
 
 -- a configuration is held from which the rest of the schedule gives what the run from h gives

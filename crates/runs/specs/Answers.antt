@@ -11,19 +11,10 @@ use Rattle.semantics.specs.Definitions.Configuration.{Configuration}
 use Rattle.semantics.specs.Definitions.Run.{Counters, run}
 use Rattle.semantics.specs.Definitions.Calls.{RunCall, runResult}
 use Rattle.terms.specs.Decoded.{Decoded}
-use Rattle.rules.specs.declared.Reply.{Reply}
-use Rattle.rules.specs.declared.Reply.the-variants as reply
 use Rattle.counters.specs.Counted.{countersOf}
 use Rattle.index.specs.Holds.{Holds}
 use Rattle.runs.specs.declared.RunAnswer.{RunAnswer}
 use Rattle.runs.specs.declared.RunAnswer.the-variants.{Completed, Refused}
-
--- the number of a refusal
-abbrev pub refusalOf : Reply → ℕ
-refusalOf (reply.Moved r) = 0
-refusalOf (reply.Refused n) = n
-
--- ---- the run
 
 -- each case as the call of the definitions, with the lent bytes afterwards: number 0 for a run that was completed
 abbrev pub runCallOf : RunAnswer → (hall : List ℕ) → RunCall

@@ -2,13 +2,13 @@
 // the end or to the first that is refused.
 use counters::Counters;
 use rules::Reply;
+use rules::refusal_of;
 use schedule::Parsed;
 use stored::INDEX_SIZE;
 use terms::DECODED;
-ghost use mathlib.Core.Path.{_≡_};
 ghost use Rattle.counters.specs.Counted.{countersOf};
 ghost use Rattle.index.specs.Holds.{Running};
-ghost use Rattle.runs.specs.Answers.{refusalOf, Ran};
+ghost use Rattle.runs.specs.Answers.{Ran};
 
 // The answer of a run: where it stopped, how many entries were done, and the counters after them. A run that is refused
 // has the refusal's number, and the place of the entry that was refused.
@@ -24,16 +24,6 @@ pub enum RunAnswer {
         done: usize,
         counters: Counters,
     },
-}
-
-// The number of a refusal; 0 for a move.
-pub fn refusal_of(reply: Reply) -> u8
-    ensures { λ r. ⌜ r ≡ refusalOf reply ⌝ }
-{
-    match reply {
-        Reply::Moved(_) => 0,
-        Reply::Refused(number) => number,
-    }
 }
 
 // Runs a schedule. A refused entry ends the run and is not counted.

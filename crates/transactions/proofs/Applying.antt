@@ -7,16 +7,24 @@ use mathlib.Core.List.{List, []}
 use lib.ListN.{length, set}
 use Rattle.calculus.specs.Syntax.{Name, Log}
 use Rattle.semantics.specs.Definitions.Terms.{Expression, Term, pathLength}
+use Rattle.semantics.specs.Definitions.Configuration.{Configuration}
 use Rattle.terms.specs.Decoded.{maxTerms, firstAt}
 use Rattle.stored.specs.Layout.{channels, leafSize, leafTerm, logSize, noRecord, readOffset, writeOffset}
 use Rattle.stored.specs.Nodes.{treeEnd}
 use Rattle.index.specs.Holds.{CanAlter, Altered}
 use Rattle.leaves.proofs.Leaves.{left-at}
 use Rattle.transactions.specs.Bytes.{termAt, actionLogged, Actionable, forkBytes, Splittable, leftSize, leftBytes}
-use Rattle.transactions.specs.Moving.{MoveAt, CanMove, HasMoved}
+use Rattle.transactions.specs.Moving.{MoveAt, HasMoved}
 use Rattle.transactions.proofs.Finding.{LeafAt, leaf-at}
 use Rattle.transactions.proofs.Moving.{ReadLogged, WriteLogged, ChoiceSplit, LeftDropped, move-inside}
 use Rattle.transactions.proofs.InnerMoves.{ardok-link, ardf-link, awr-link, aoi-link, aof-link, aoe-made, aoe-link}
+
+-- some node of the transaction at position p begins at this offset, and moves by the rule of this number
+pub record CanMove (d s starts : List ℕ) (n p rule at : ℕ) : Type 0 where
+  pub terms : List Term
+  pub configuration : Configuration
+  pub node : ℕ
+  pub move : MoveAt terms configuration d s starts n p node rule at
 
 -- a leaf whose term has a channel, and whose log has room
 can-act : {ts : List Term} {M : Expression} {δ : Log} {d s : List ℕ} {at : ℕ} → LeafAt ts M δ d s at → (a : Name) →

@@ -2,7 +2,7 @@
 -- Assumes nothing.
 use Prim.Native.Nat.{ℕ, _+_, _≤_, _<_}
 use native.Mathlib.Omega.{arith}
-use mathlib.Core.Path.{_≡_, refl, sym, ap, _∙_}
+use mathlib.Core.Path.{_≡_, refl, sym}
 use mathlib.Core.Bool.{Bool, true, false}
 use mathlib.Core.List.{List, []}
 use lib.ListN.{length, getD, set}
@@ -22,10 +22,10 @@ use Rattle.logs.proofs.Places.{counts-held}
 use Rattle.leaves.specs.Leaves.{ExpressionKindRead, NodePresent, LeafKindRead}
 use Rattle.transactions.specs.Bytes.{termAt, actionLogged, Actionable, forkBytes, Splittable, leftSize, leftBytes}
 use Rattle.transactions.specs.Finding.{ReadTested, forkRule, NodeHeld, LeafHeld, RuleRead}
-use Rattle.transactions.specs.Moving.{CanMove, HasMoved, snapshotOf, NodeStands, NodeMoved}
+use Rattle.transactions.specs.Moving.{HasMoved, snapshotOf, NodeStands, NodeMoved}
 use Rattle.transactions.proofs.Finding.{read-allowed, read-failed, read-rule-is, write-rule-is, choice-rule-is, no-rule-is, fork-ends, fork-retries, fork-waits, left-stands, fork-rule-is, leaf-stands}
-use Rattle.transactions.proofs.Searching.{node-standing, search-found, found-moves}
-use Rattle.transactions.proofs.Applying.{ardok-can, ardok-does, ardf-does, awr-can, awr-does, aoi-splits, aoi-can, aoi-does, aof-inside, aof-can, aof-does, aoe-inside, aoe-can, aoe-does}
+use Rattle.transactions.proofs.Searching.{node-standing, search-read, found-moves}
+use Rattle.transactions.proofs.Applying.{CanMove, ardok-can, ardok-does, ardf-does, awr-can, awr-does, aoi-splits, aoi-can, aoi-does, aof-inside, aof-can, aof-does, aoe-inside, aoe-can, aoe-does}
 
 module _ (d s starts : List ℕ) (n p at : ℕ) where
   -- a node that was found stands
@@ -64,8 +64,8 @@ module _ (d s starts : List ℕ) (n p at : ℕ) where
       terms = x .terms;
       configuration = x .configuration;
       node = x .node;
-      move = found-moves (x .node) rule at (x .there)
-          (search-found d s (getD starts p 0) (x .node) (At at) (sym (x .place)) at (Moved rule) refl read rule refl);
+      move = found-moves (x .node) rule at (x .there) (x .place)
+          (search-read d s (getD starts p 0) (x .node) (At at) (sym (x .place)) refl read);
     }
 
   moved-by : (rule : ℕ) {s′ starts′ : List ℕ} → RuleRead d s (snapshotOf starts p) at (Moved rule) →

@@ -13,7 +13,7 @@ use Rattle.semantics.specs.Definitions.Moves.{Inner, evolves, noRule, outOfRang
 use Rattle.theorems.proofs.Lists.{found-below, length-replaceAt}
 use Rattle.theorems.proofs.Moves.{positionOf, localMove, chosen-at, accepted-made}
 use Rattle.rules.specs.declared.Reply.{Reply}
-use Rattle.rules.specs.declared.Reply.the-variants as reply
+use Rattle.rules.specs.declared.Reply.the-variants.{Moved, Refused}
 use Rattle.rules.specs.Replies.{replyIs}
 use Rattle.stored.specs.declared.Place.{Place}
 use Rattle.stored.specs.declared.Place.the-variants.{At, Nowhere}
@@ -27,8 +27,7 @@ use Rattle.logs.specs.Places.{CountsAt}
 use Rattle.logs.proofs.Places.{counts-held, snapshot-counts}
 use Rattle.leaves.specs.Leaves.{TransactionAt}
 use Rattle.leaves.proofs.Leaves.{node-at, node-inside, Opened, opened}
-use Rattle.transactions.specs.declared.InnerMove.the-variants.{Found, Refused}
-use Rattle.transactions.specs.Finding.{innerReply, replied, HeldAt, NodeHeld, RuleRead, Findable, Searched}
+use Rattle.transactions.specs.Finding.{innerReply, HeldAt, NodeHeld, RuleRead, Findable, Searched}
 use Rattle.transactions.specs.Moving.{MoveAt}
 
 -- ---- the reply
@@ -128,49 +127,34 @@ module _ (d s : List ℕ) (transaction : ℕ) (x : Findable d s transaction) whe
 module _ (d s : List ℕ) (transaction k : ℕ) (r : Place)
     (found : r ≡ nodeStart s (transaction + transactionHead) k) where
   pub search-missing : r ≡ Nowhere → Searched d s transaction k (Refused 16)
-  unfolding replyIs replied innerReply
+  unfolding replyIs innerReply
   search-missing g = record {
     found = λ ts h starts n p x.
         let o = opened x in
         let (j, f) = missing-node x k (sym found ∙ g) in
         sym (reply-past (x .holds) p (o .number) (o .block) (o .snapshot) (o .nodes) (o .there) k j f);
-    place = λ rule at f. let z : _≡_ {A = ℕ} 0 1 = cc in absurd (omega arith);
   }
 
   -- what was read at the node
-  module _ (at : ℕ) (a : Reply) (g : r ≡ At at) (read : RuleRead d s (transaction + idleSize) at a) where
-    by-rule : (ts : List Term) (h : Configuration) (starts : List ℕ) (n p : ℕ) →
-        TransactionAt ts h d s starts n p transaction →
-        replyIs a ≡ replyOf (answerTo h (inside p k))
-    by-rule ts h starts n p x =
+  pub search-read : {at : ℕ} {a : Reply} → r ≡ At at → RuleRead d s (transaction + idleSize) at a →
+      Searched d s transaction k a
+  search-read {at} g read = record {
+    found = λ ts h starts n p x.
         let o = opened x in
         let (y, u, w, z) = found-node x k at (sym found ∙ g) in
         read .found ts u (o .snapshot) z
-        ∙ sym (reply-node (x .holds) p (o .number) (o .block) (o .snapshot) (o .nodes) (o .there) k y u (w .there))
-
-    pub search-none : (m : ℕ) → a ≡ reply.Refused m → Searched d s transaction k (Refused m)
-    unfolding replied
-    search-none m q = record {
-      found = λ ts h starts n p x. rw q at (by-rule ts h starts n p x);
-      place = λ rule at f. let z : _≡_ {A = ℕ} 0 1 = cc in absurd (omega arith);
-    }
-
-    pub search-found : (rule : ℕ) → a ≡ reply.Moved rule → Searched d s transaction k (Found rule at)
-    unfolding replied
-    search-found rule q = record {
-      found = λ ts h starts n p x. rw q at (by-rule ts h starts n p x);
-      place = λ rule′ at′ f. sym found ∙ g ∙ ap At (cc);
-    }
+        ∙ sym (reply-node (x .holds) p (o .number) (o .block) (o .snapshot) (o .nodes) (o .there) k y u (w .there));
+  }
 
 -- ---- what was found can be made
 
 pub found-moves : {ts : List Term} {h : Configuration} {d s starts : List ℕ} {n p transaction : ℕ} (k rule at : ℕ) →
-    TransactionAt ts h d s starts n p transaction → Searched d s transaction k (Found rule at) →
-    MoveAt ts h d s starts n p k rule at
-unfolding replyIs replied
-found-moves {ts} {h} {starts = starts} {n = n} {p = p} k rule at x found = record {
+    TransactionAt ts h d s starts n p transaction → nodeStart s (transaction + transactionHead) k ≡ At at →
+    Searched d s transaction k (Moved rule) → MoveAt ts h d s starts n p k rule at
+unfolding replyIs
+found-moves {ts} {h} {starts = starts} {n = n} {p = p} k rule at x place found = record {
   decoded = x .decoded;
   holds = x .holds;
-  place = rw (x .begins) at (found .place rule at refl);
+  place = rw (x .begins) at place;
   reply = sym (found .found ts h starts n p x);
 }

@@ -18,14 +18,10 @@ use Rattle.semantics.specs.Definitions.Moves.{Inner, evolves, noRule, outOfRang
 use Rattle.rules.specs.declared.Reply as code
 use Rattle.rules.specs.declared.Reply.the-variants as replies
 use Rattle.rules.specs.Replies.{replyIs}
-use Rattle.stored.specs.declared.Place.the-variants.{At}
-use Rattle.stored.specs.Layout.{channels, transactionHead, leafSize, leafLog, logSize}
-use Rattle.stored.specs.Nodes.{nodeStart}
+use Rattle.stored.specs.Layout.{channels, leafSize, leafLog, logSize}
 use Rattle.logs.specs.Places.{LogAt, CountsAt}
 use Rattle.leaves.specs.Leaves.{TreeAt, TransactionAt}
 use Rattle.transactions.specs.Bytes.{sizeAt}
-use Rattle.transactions.specs.declared.InnerMove.{InnerMove}
-use Rattle.transactions.specs.declared.InnerMove.the-variants.{Found, Refused}
 
 -- ---- replies
 
@@ -35,11 +31,6 @@ unfolding ruleNumber
 innerReply (evolves r t) = movedBy (ruleNumber r)
 innerReply noRule = refusedBy 17
 innerReply (outOfRange k) = refusedBy 16
-
--- what the code found, as its reply to the entry
-unfoldable pub replied : InnerMove → code.Reply
-replied (Found rule at) = replies.Moved rule
-replied (Refused n) = replies.Refused n
 
 -- ---- a read
 
@@ -121,9 +112,8 @@ pub record Findable (d s : List ℕ) (transaction : ℕ) : Type 0 where
   pub position : ℕ
   pub there : TransactionAt terms configuration d s starts components position transaction
 
--- r is what the entry for this node is answered, whichever configuration is held; a node that was found begins there
-pub record Searched (d s : List ℕ) (transaction k : ℕ) (r : InnerMove) : Type 0 where
+-- r is what the entry for this node is answered, whichever configuration is held
+pub record Searched (d s : List ℕ) (transaction k : ℕ) (r : code.Reply) : Type 0 where
   pub found : (ts : List Term) (h : Configuration) (starts : List ℕ) (n p : ℕ) →
       TransactionAt ts h d s starts n p transaction →
-      replyIs (replied r) ≡ replyOf (answerTo h (inside p k))
-  pub place : (rule at : ℕ) → r ≡ Found rule at → nodeStart s (transaction + transactionHead) k ≡ At at
+      replyIs r ≡ replyOf (answerTo h (inside p k))

@@ -27,12 +27,6 @@ pub record MoveAt (ts : List Term) (h : Configuration) (d s starts : List ℕ) (
   pub place : nodeStart s (getD starts p 0 + transactionHead) k ≡ At at
   pub reply : replyOf (answerTo h (inside p k)) ≡ movedBy rule
 
-pub record CanMove (d s starts : List ℕ) (n p rule at : ℕ) : Type 0 where
-  pub terms : List Term
-  pub configuration : Configuration
-  pub node : ℕ
-  pub move : MoveAt terms configuration d s starts n p node rule at
-
 -- whichever configuration was held, what the move makes of it is held now, and there are as many components
 pub record HasMoved (d s starts : List ℕ) (n p rule at : ℕ) (s′ starts′ : List ℕ) : Type 0 where
   pub found : (ts : List Term) (h : Configuration) (k : ℕ) → MoveAt ts h d s starts n p k rule at →

@@ -1,8 +1,8 @@
 // Moves inside an open transaction (attempt): rules 8 to 13, at a node of its tree.
 //
-// `find` only reads and tells the rule and where the node stands; `move_at` makes the move of a node. A read is
-// tried against the transaction's snapshot, by the one test of reads against counts. The rules of one kind stand in a
-// file of their own: reads (ARDOK or ARDF), actions (ARDOK, AWR), alternatives (AOI, AOF, AOE).
+// `find` only reads and tells the rule; `move_at` makes the move of a node. A read is tried against the transaction's
+// snapshot, by the one test of reads against counts. The rules of one kind stand in a file of their own: reads (ARDOK
+// or ARDF), actions (ARDOK, AWR), alternatives (AOI, AOF, AOE).
 mod actions;
 mod alternatives;
 mod reads;
@@ -42,12 +42,6 @@ ghost use Rattle.leaves.specs.Leaves.{NodePresent};
 ghost use Rattle.transactions.specs.Finding.{NodeHeld, LeafHeld, RuleRead, Findable, Searched};
 ghost use Rattle.transactions.specs.Moving.{snapshotOf, NodeStands, NodeMoved};
 
-// Where a move would be made and by which rule; or why there is none.
-pub enum InnerMove {
-    Found { rule: u8, at: usize },
-    Refused(u8),
-}
-
 // The rule for the leaf that begins at an offset, or that there is none.
 fn leaf_rule(decoded: &[u8; DECODED], hall: &[u8], snapshot: usize, at: usize) -> Reply
     requires { ⌜ LeafHeld (now decoded) (now hall) snapshot at ⌝ }
@@ -73,20 +67,14 @@ fn rule_at(decoded: &[u8; DECODED], hall: &[u8], snapshot: usize, at: usize) -> 
     leaf_rule(decoded, hall, snapshot, at)
 }
 
-// What a move would be at a node, in preorder, of the transaction that begins at an offset.
-pub fn find(decoded: &[u8; DECODED], hall: &[u8], transaction: usize, node: u8) -> InnerMove
+// By which rule a node, in preorder, of the transaction that begins at an offset would move, or why it would not.
+pub fn find(decoded: &[u8; DECODED], hall: &[u8], transaction: usize, node: u8) -> Reply
     requires { ⌜ Findable (now decoded) (now hall) transaction ⌝ }
     ensures { λ r. ⌜ Searched (now (decoded .entry)) (now (hall .entry)) transaction node r ⌝ }
 {
     match stored::node_start(hall, transaction + TRANSACTION_HEAD, node) {
-        Place::Nowhere => InnerMove::Refused(NO_NODE),
-        Place::At(at) => {
-            let answer = rule_at(decoded, hall, transaction + IDLE_SIZE, at);
-            match answer {
-                Reply::Moved(rule) => InnerMove::Found { rule, at },
-                Reply::Refused(number) => InnerMove::Refused(number),
-            }
-        }
+        Place::Nowhere => Reply::Refused(NO_NODE),
+        Place::At(at) => rule_at(decoded, hall, transaction + IDLE_SIZE, at),
     }
 }
 

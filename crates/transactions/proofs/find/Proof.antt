@@ -1,6 +1,6 @@
 -- `find` meets its contract. Assumes nothing.
 use native.Mathlib.Omega.{arith}
-use Rattle.transactions.proofs.Searching.{findable-inside, node-standing, search-none, search-missing, search-found}
+use Rattle.transactions.proofs.Searching.{findable-inside, node-standing, search-missing, search-read}
 use borrow.Author.Needs.{needs}
 use Rattle.transactions.proofs.find.Statement.{statement}
 use Rattle.transactions.proofs.find.Tie as tie
@@ -23,20 +23,11 @@ add-rule-at c = omega (arith, findable-inside _ _ _ (c .before .before .before .
 rule-at-requires : tie.Need-rule-at-requires
 rule-at-requires c κs = search node-standing
 
-enum-known-answer : tie.Need-enum-known-answer
-enum-known-answer c = search needs
-
-enum-known-answer-2 : tie.Need-enum-known-answer-2
-enum-known-answer-2 c = search needs
-
 returns : tie.Need-returns
 returns c = search search-missing
 
 returns-2 : tie.Need-returns-2
-returns-2 c = search search-found
-
-returns-3 : tie.Need-returns-3
-returns-3 c = search search-none
+returns-2 c = search search-read
 
 pub find-spec : {M : Type 1} → statement M
 find-spec =
@@ -48,8 +39,5 @@ find-spec =
     enum-known-at
     add-rule-at
     rule-at-requires
-    enum-known-answer
-    enum-known-answer-2
     returns
-    returns-2
-    returns-3)
+    returns-2)

@@ -15,8 +15,8 @@ abbrev μ-loop : tie.MeasureT-loop
 loop-holds : tie.Need-loop-holds Inv-loop μ-loop
 loop-holds c = (omega arith, search no-node-yet)
 
-find-inside-requires : tie.Need-find-inside-requires Inv-loop μ-loop
-find-inside-requires c κs = search needs
+look-inside-requires : tie.Need-look-inside-requires Inv-loop μ-loop
+look-inside-requires c κs = search needs
 
 enum-told : tie.Need-enum-told Inv-loop μ-loop
 enum-told c = search needs
@@ -46,7 +46,7 @@ first-inside-spec =
     Inv-loop
     μ-loop
     loop-holds
-    find-inside-requires
+    look-inside-requires
     enum-told
     returns
     enum-told-2
