@@ -1,5 +1,5 @@
--- An entry that is looked at and made: what the look found may be made, and after it the configuration that the
--- definitions give is held.
+-- An entry that is made by what stands at its place: what a look would find may be made, and after it the configuration
+-- that the definitions give is held.
 -- Assumes nothing.
 use Prim.Native.Nat.{ℕ, _+_, _-_, _≤_, _<_}
 use native.Mathlib.Decide.{ℕ-discrete}

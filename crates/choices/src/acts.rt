@@ -126,8 +126,8 @@ fn act_waiting(
     }
 }
 
-// The entry made, where it is accepted, by what stands at its position. A run goes this way, and decides nothing twice;
-// suggestions look by `look_act`.
+// The entry made, where it is accepted, by what stands at its position. Runs go this way; suggestions and steps look by
+// `look_act`.
 pub fn act(
     decoded: &[u8; DECODED],
     hall: &mut [u8],

@@ -32,7 +32,6 @@ pub enum StepAnswer {
 }
 
 // The choice that these bytes are, made on a configuration that is held: looked at, which tells its rule, and then run.
-// Nothing but a run makes a choice, so that the compiler can make a run one loop.
 fn step_held(
     decoded: &[u8; DECODED],
     hall: &mut [u8],

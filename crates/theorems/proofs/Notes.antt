@@ -68,9 +68,10 @@ ended s p n M (some δ) h =
 blocked : (s : Atomic State) (p n : ℕ) (M : Expression) (m : Option State) → Sound s →
     Sound (stepBlock (λ σ. σ) (λ σ. σ) s p n M m)
 unfolding stepBlock
-blocked s p n M none h =
-    (h .0,
-    all-replaceAt Noted (s .stations) (record { station = block n M; note = some (s .counts) } ∷ []) p (h .1) (h .0, tt))
+blocked s p n M none h = (
+  h .0,
+  all-replaceAt Noted (s .stations) (record { station = block n M; note = some (s .counts) } ∷ []) p (h .1) (h .0, tt),
+)
 blocked s p n M (some m) h = ended s p n M (firstReadable m M) h
 
 acted : (s : Atomic State) (p : ℕ) (c : Idle) (m : Option State) → Sound s →
