@@ -313,7 +313,7 @@ module _ {d s starts : List ℕ} {n p : ℕ} (l : p < n) (t : getD s (getD start
                     m .made rule is .found ts h k
                     (record { decoded = y; holds = x; place = sym f ∙ g; reply = reply });
               })
-          go (Refused j) is = let kept = m .kept j is in rw (kept .0, kept .1) (chosen-refused looks is)
+          go (Refused j) is = let same = m .unchanged j is in rw (same .0, same .1) (chosen-refused looks is)
 
 -- ---- either kind
 

@@ -74,7 +74,7 @@ module _ (d s starts : List ℕ) (n p at : ℕ) where
   moved-by rule {s′} {starts′} read done = record {
     read = read;
     made = λ k e. let same : rule ≡ k = cc in rw (← same) done;
-    kept = λ m e. absurd (let z : _≡_ {A = ℕ} 0 1 = cc in omega arith);
+    unchanged = λ m e. absurd (let z : _≡_ {A = ℕ} 0 1 = cc in omega arith);
   }
 
   stays : (m : ℕ) → RuleRead d s (snapshotOf starts p) at (Refused m) →
@@ -82,7 +82,7 @@ module _ (d s starts : List ℕ) (n p at : ℕ) where
   stays m read = record {
     read = read;
     made = λ k e. absurd (let z : _≡_ {A = ℕ} 0 1 = cc in omega arith);
-    kept = λ k e. (refl, refl);
+    unchanged = λ k e. (refl, refl);
   }
 
   -- ---- a leaf

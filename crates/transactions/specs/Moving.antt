@@ -50,4 +50,4 @@ pub record NodeStands (d s starts : List ℕ) (n p at : ℕ) : Type 0 where
 pub record NodeMoved (d s starts : List ℕ) (n p at : ℕ) (r : Reply) (s′ starts′ : List ℕ) : Type 0 where
   pub read : RuleRead d s (snapshotOf starts p) at r
   pub made : (rule : ℕ) → r ≡ Moved rule → HasMoved d s starts n p rule at s′ starts′
-  pub kept : (m : ℕ) → r ≡ Refused m → (s′ ≡ s) × (starts′ ≡ starts)
+  pub unchanged : (m : ℕ) → r ≡ Refused m → (s′ ≡ s) × (starts′ ≡ starts)
