@@ -154,22 +154,12 @@ module _ (d s starts : List ℕ) (n p b e : ℕ) (new : List ℕ) (f : b ≡ get
 -- ---- a block that waits
 
 -- ATST is never refused: the number of components stays
-pub block-begins : (ts : List Term) (h : Configuration) (d s starts : List ℕ) (n p : ℕ) → Decoded ts d →
-    Holds ts h s starts n →
-    p < n → getD s (getD starts p 0) 0 ≡ waitingKind →
-    kindAt d (getD s (getD starts p 0 + componentBody) 0) ≡ kindByte atomK →
+pub block-begins : {ts : List Term} {h : Configuration} {s starts : List ℕ} {n : ℕ} → Holds ts h s starts n →
+    (p m : ℕ) (M : Expression) → getElem? (h .components) p ≡ some (idle (block m M)) →
     replyOf (answerTo h (act p)) ≡ movedBy 4
 unfolding positionOf localMove acts replyOf ruleNumber
-block-begins ts h d s starts n p x y l w k =
-    let (c, e) = component-at y p l in
-    elim (waiting-here y p c e w) [
-      | takes a P z t ↦ (let r = x .records _ _ t in absurd (let o = r .0 in omega arith))
-      | repeats a P z t ↦ (let r = x .records _ _ t in absurd (let o = r .0 in omega arith))
-      | blocks M z t ↦
-          (let i = getD s (getD starts p 0 + componentBody) 0 in
-          let there : getElem? (h .components) p ≡ some (idle (block i M)) = e ∙ ap some z in
-          let few = y .form .few in
-          let m = length-replaceAt (h .components) (transaction i M (h .counts) (leaf M emptyLog) ∷ []) p
-          (found-below (h .components) p _ there) in
-          rw (accepted-made h (act p) _ (h .counts) (idle (block i M)) _ there refl (omega arith)))
-    ]
+block-begins {h = h} y p m M there =
+    let few = y .form .few in
+    let same = length-replaceAt (h .components) (transaction m M (h .counts) (leaf M emptyLog) ∷ []) p
+    (found-below (h .components) p _ there) in
+    rw (accepted-made h (act p) _ (h .counts) (idle (block m M)) _ there refl (omega arith))

@@ -1,3 +1,3 @@
+pub mod Occupancy
 pub mod Looking
 pub mod Making
-pub mod Suggesting

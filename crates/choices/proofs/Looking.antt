@@ -1,216 +1,139 @@
--- Entries looked at, by what stands at their position: what each look may ask, and that its answer is the entry's.
+-- Entries looked at: what each look may ask, and that its answer is the entry's.
 --
 -- p is the position as the code has it, and q the same as the entry has it.
 -- Assumes nothing.
 use Prim.Native.Nat.{ℕ, _+_, _≤_, _<_}
 use native.Mathlib.Omega.{arith}
-use mathlib.Core.Path.{_≡_, refl, sym, ap, _∙_}
-use mathlib.Core.Bool.{Bool, true, false}
+use mathlib.Core.Path.{_≡_, refl, sym, _∙_}
 use mathlib.Core.Option.{some}
 use mathlib.Core.List.{List}
 use lib.ListN.{length, getD, getElem?}
 use mir.Syntax.{w64}
 use mir.Val.{Fits}
-use Rattle.calculus.specs.Syntax.{Name}
-use Rattle.calculus.specs.Reduction.{ATST}
-use Rattle.semantics.specs.Definitions.Layout.{maxTerms}
-use Rattle.semantics.specs.Definitions.Terms.{Program, Term}
-use Rattle.semantics.specs.Definitions.Configuration.{taking, repeating, block, output, Component, idle, transaction, Configuration}
+use Rattle.semantics.specs.Definitions.Terms.{Term}
+use Rattle.semantics.specs.Definitions.Configuration.{Component, idle, transaction, Configuration}
 use Rattle.semantics.specs.Definitions.Stored.{componentBytes}
 use Rattle.semantics.specs.Definitions.Moves.{act, inside, actsInside, atPosition, applyAt, answerTo, replyOf}
-use Rattle.theorems.proofs.Lists.{found-below}
-use Rattle.semantics.specs.Definitions.Table.{atomK}
-use Rattle.semantics.specs.Checks.AcceptedTables.{kindByte}
-use Rattle.terms.specs.Decoded.{kindAt, Decoded}
-use Rattle.storedlaws.specs.Reading.{termKind}
-use Rattle.storedlaws.proofs.TermKinds.{term-kind}
-use Rattle.stored.specs.Layout.{waitingKind, transactionKind, outputKind, componentBody}
+use Rattle.terms.specs.Decoded.{Decoded}
+use Rattle.stored.specs.declared.Place.{Place}
+use Rattle.stored.specs.declared.Place.the-variants.{At, Nowhere}
+use Rattle.stored.specs.Layout.{transactionKind, transactionHead, idleSize, indexSize}
+use Rattle.stored.specs.Nodes.{nodeStart}
 use Rattle.rules.specs.declared.Reply.{Reply}
 use Rattle.rules.specs.declared.Reply.the-variants.{Moved, Refused}
 use Rattle.rules.specs.Replies.{replyIs}
 use Rattle.index.specs.Holds.{Holds, Running}
 use Rattle.index.specs.Choices.{Looked}
-use Rattle.index.proofs.Holding.{hall-length, Waiting, takes, repeats, blocks, component-at, no-component, component-inside, kind-here, output-here, waiting-here}
-use Rattle.communication.specs.Tokens.{OutputHeld, OutputLooked, takeOf, TakeHeld, TakeLooked}
+use Rattle.index.proofs.Acting.{held-position}
+use Rattle.index.proofs.Holding.{hall-length, component-at, no-component, component-inside, position-below, kind-here}
+use Rattle.communication.specs.Tokens.{OutputHeld, OutputLooked, TakeHeld, TakeLooked}
+use Rattle.leaves.specs.Leaves.{TransactionAt}
 use Rattle.blocks.proofs.Beginning.{block-begins}
 use Rattle.blocks.specs.Ends.{CanLookEnd, EndLooked}
-use Rattle.transactions.specs.Finding.{Findable, Searched}
-use Rattle.choices.specs.Entries.{kindHeld}
+use Rattle.transactions.specs.Finding.{NodeHeld, RuleRead, Findable, Searched}
+use Rattle.transactions.proofs.Searching.{findable-inside, node-standing, search-missing, search-read}
+use Rattle.choices.specs.declared.occupants.Occupant.{Occupant}
+use Rattle.choices.specs.declared.occupants.Occupant.the-variants.{Nothing, Transaction, Output, Block, Take}
+use Rattle.choices.specs.declared.inside.NodeSearch.{NodeSearch}
+use Rattle.choices.specs.declared.inside.NodeSearch.the-variants as search
+use Rattle.choices.specs.Occupants.{OccupantRead, CanSeek, NodeThere, NodeSought}
 
--- ---- what stands at a position
+-- ---- kind 1, by the occupant
 
--- the body of the component there
-abbrev pub bodyOf : (s starts : List ℕ) → ℕ → ℕ
-bodyOf s starts p = getD s (getD starts p 0 + componentBody) 0
+-- by another name
+pub known : {d s starts : List ℕ} {n p : ℕ} {r x : Occupant} → OccupantRead d s starts n p r → r ≡ x → OccupantRead d s starts n p x
+known f e = rw e at f
 
-module _ {d s starts : List ℕ} {n p : ℕ} (x : Running d s starts n) (l : p < n) where
-  pub kind-inside : getD starts p 0 < length s
-  kind-inside = let (c, e) = component-at (x .holds) p l in let i = component-inside (x .holds) p c e .0 in omega arith
-
-  pub body-inside : getD starts p 0 + componentBody < length s
-  body-inside = let (c, e) = component-at (x .holds) p l in let i = component-inside (x .holds) p c e .0 in omega arith
-
-pub body-fits : {d s starts : List ℕ} {n p : ℕ} → Running d s starts n → p < n →
-    Fits w64 (getD starts p 0 + componentBody)
-body-fits x l = let i = body-inside x l in let all = hall-length (x .holds) in record { fits = omega arith }
-
-pub kind-inside-at : {d s starts : List ℕ} {n p q : ℕ} → Running d s starts n → q < n → p ≡ q →
-    getD starts p 0 < length s
-kind-inside-at x l e = kind-inside x (rw e l)
-
--- a component that is neither a transaction nor an output waits
-record Waits (ts : List Term) (h : Configuration) (n p term : ℕ) : Type 0 where
-  component : Component
-  there : getElem? (h .components) p ≡ some component
-  waiting : Waiting ts term component
-
-module _ {ts : List Term} {h : Configuration} {s starts : List ℕ} {n p : ℕ} (x : Holds ts h s starts n) (l : p < n)
-    (noTransaction : kindHeld s starts p ≡ transactionKind → ⊥) (noOutput : kindHeld s starts p ≡ outputKind → ⊥) where
-  waits-kind : (c : Component) → kindHeld s starts p ≡ getD (componentBytes c) 0 0 → kindHeld s starts p ≡ waitingKind
-  unfolding componentBytes
-  waits-kind (idle (taking m a P)) e = e
-  waits-kind (idle (repeating m a P)) e = e
-  waits-kind (idle (block m M)) e = e
-  waits-kind (idle (output a)) e = absurd (noOutput e)
-  waits-kind (transaction m M σ t) e = absurd (noTransaction e)
-
-  waits : Waits ts h n p (bodyOf s starts p)
-  waits =
-      let (c, e) = component-at x p l in
-      record { component = c; there = e; waiting = waiting-here x p c e (waits-kind c (kind-here x p c e)) }
-
--- a take or a repeated take of this number waits at a position
-abbrev pub TakeThere : Configuration → (p term : ℕ) → Type 0
-TakeThere h p term =
-    (b : Bool) × (a : Name) × (P : Program) × (getElem? (h .components) p ≡ some (idle (takeOf b term a P)))
-
--- the kind of a term, as the code reads it
-kind-read : {d : List ℕ} {ts : List Term} {i k : ℕ} (m : ℕ) → i ≡ m → k ≡ kindAt d i → Decoded ts d → (t : Term) →
-    getElem? ts m ≡ some t →
-    k ≡ termKind t
-kind-read {d} {ts} m named read y t f = read ∙ rw named (term-kind ts d y m t f)
-
--- ---- kind 1
-
-module _ {d s starts : List ℕ} {n : ℕ} where
+module _ {d s starts : List ℕ} {n p : ℕ} {o : Occupant} (f : OccupantRead d s starts n p o) where
   -- refusal 14
-  pub past-components : {p q : ℕ} → n ≤ p → p ≡ q → Looked d s starts n (act q) (Refused 14)
+  pub nothing-looked : {q : ℕ} → o ≡ Nothing → p ≡ q → Looked d s starts n (act q) (Refused 14)
   unfolding answerTo atPosition replyOf replyIs
-  past-components {p} {q} l e = record { found = λ ts h y x. rw (no-component x q (rw (← e) l)) refl }
+  nothing-looked is e = rw (← e) (record { found = λ ts h y x. rw (known f is .found ts h y x) refl })
 
-  module _ {p : ℕ} where
-    -- a transaction
-    pub end-held : Running d s starts n → p < n → kindHeld s starts p ≡ transactionKind →
-        CanLookEnd d s n (getD starts p 0)
-    end-held x l k = record {
+  -- a transaction
+  module _ (is : o ≡ Transaction) where
+    open-here : {ts : List Term} {h : Configuration} → Decoded ts d → Holds ts h s starts n →
+        TransactionAt ts h d s starts n p (getD starts p 0)
+    unfolding componentBytes
+    open-here {ts} {h} y x =
+        let (m, M, σ, t, e) = known f is .found ts h y x in
+        record {
+          decoded = y;
+          holds = x;
+          there = position-below x p _ e;
+          begins = refl;
+          kind = kind-here x p (transaction m M σ t) e;
+        }
+
+    pub transaction-position : Running d s starts n → p < indexSize
+    transaction-position x = held-position (x .holds) p (open-here (x .decoded) (x .holds) .there)
+
+    pub end-held : Running d s starts n → CanLookEnd d s n (getD starts p 0)
+    end-held x = record {
       terms = x .terms;
       configuration = x .configuration;
       starts = starts;
       position = p;
-      there = record { decoded = x .decoded; holds = x .holds; there = l; begins = refl; kind = k };
+      there = open-here (x .decoded) (x .holds);
     }
 
-    pub end-looked : {q : ℕ} {r : Reply} → EndLooked d s n (getD starts p 0) r → p < n →
-        kindHeld s starts p ≡ transactionKind → p ≡ q →
-        Looked d s starts n (act q) r
-    end-looked f l k e = rw (← e) (record {
-      found = λ ts h y x. f .found ts h starts p (record { decoded = y; holds = x; there = l; begins = refl; kind = k });
+    pub end-looked : {q : ℕ} {r : Reply} → EndLooked d s n (getD starts p 0) r → p ≡ q → Looked d s starts n (act q) r
+    end-looked g e = rw (← e) (record { found = λ ts h y x. g .found ts h starts p (open-here y x) })
+
+  -- an output
+  module _ {a : ℕ} (is : o ≡ Output a) where
+    pub output-held : Running d s starts n → OutputHeld s a
+    output-held x = record {
+      terms = x .terms;
+      configuration = x .configuration;
+      starts = starts;
+      components = n;
+      position = p;
+      holds = x .holds;
+      there = known f is .found (x .terms) (x .configuration) (x .decoded) (x .holds);
+    }
+
+    pub output-looked : {q : ℕ} {r : Reply} → OutputLooked s a r → p ≡ q → Looked d s starts n (act q) r
+    output-looked g e = rw (← e) (record {
+      found = λ ts h y x. g .found ts h starts n p x (known f is .found ts h y x);
     })
 
-    -- an output
-    pub output-held : Running d s starts n → p < n → kindHeld s starts p ≡ outputKind → OutputHeld s (bodyOf s starts p)
-    output-held x l k =
-        let (c, e) = component-at (x .holds) p l in record {
+  -- a block: ATST
+  pub block-looked : {q : ℕ} → o ≡ Block → p ≡ q → Looked d s starts n (act q) (Moved 4)
+  unfolding replyIs
+  block-looked is e = rw (← e) (record {
+    found = λ ts h y x. let (m, M, there) = known f is .found ts h y x in sym (block-begins x p m M there);
+  })
+
+  -- a take or a repeated take
+  module _ {m : ℕ} (is : o ≡ Take m) where
+    pub take-held : Running d s starts n → TakeHeld d s n m
+    take-held x =
+        let (b, a, P, e) = known f is .found (x .terms) (x .configuration) (x .decoded) (x .holds) in
+        record {
           terms = x .terms;
           configuration = x .configuration;
           starts = starts;
-          components = n;
           position = p;
+          repeated = b;
+          channel = a;
+          continuation = P;
+          decoded = x .decoded;
           holds = x .holds;
-          there = e ∙ ap some (output-here (x .holds) p c e k);
+          there = e;
         }
 
-    pub output-looked : {q : ℕ} {r : Reply} → OutputLooked s (bodyOf s starts p) r → p < n →
-        kindHeld s starts p ≡ outputKind → p ≡ q →
-        Looked d s starts n (act q) r
-    output-looked f l k e = rw (← e) (record {
-      found = λ ts h y x.
-          let (c, there) = component-at x p l in
-          f .found ts h starts n p x (there ∙ ap some (output-here x p c there k));
+    pub take-looked : {q : ℕ} {r : Reply} → TakeLooked d s n m r → p ≡ q → Looked d s starts n (act q) r
+    take-looked g e = rw (← e) (record {
+      found = λ ts h y x. let (b, a, P, there) = known f is .found ts h y x in g .found ts h starts p b a P y x there;
     })
 
-    module _ (l : p < n) (noTransaction : kindHeld s starts p ≡ transactionKind → ⊥)
-        (noOutput : kindHeld s starts p ≡ outputKind → ⊥) where
-      -- one that waits has the number of a term
-      pub waiting-term : {i : ℕ} → Running d s starts n → i ≡ bodyOf s starts p → i < maxTerms
-      waiting-term {i} x e = go (waits (x .holds) l noTransaction noOutput .waiting)
-        where
-          below : (t : Term) → getElem? (x .terms) (bodyOf s starts p) ≡ some t → bodyOf s starts p < maxTerms
-          below t f =
-              let b = found-below (x .terms) (bodyOf s starts p) t f in
-              let few = x .decoded .good .few in omega arith
-
-          go : {c : Component} → Waiting (x .terms) (bodyOf s starts p) c → i < maxTerms
-          go (takes a P q f) = rw e (below _ f)
-          go (repeats a P q f) = rw e (below _ f)
-          go (blocks M q f) = rw e (below _ f)
-
-      module _ {i k : ℕ} (named : i ≡ bodyOf s starts p) (read : k ≡ kindAt d i) where
-        -- on a block: ATST
-        pub block-looked : {q : ℕ} → k ≡ kindByte atomK → p ≡ q → Looked d s starts n (act q) (Moved 4)
-        unfolding replyIs
-        block-looked is e = rw (← e) (record {
-          found = λ ts h y x.
-              let (c, there) = component-at x p l in
-              let atom : kindAt d (bodyOf s starts p) ≡ kindByte atomK = rw (← named) (sym read ∙ is) in
-              let waiting = waits-kind x l noTransaction noOutput c (kind-here x p c there) in
-              sym (block-begins ts h d s starts n p y x l waiting atom);
-        })
-
-        module _ (other : k ≡ kindByte atomK → ⊥) where
-          -- on a take or a repeated take
-          pub waits-take : {ts : List Term} {h : Configuration} → Decoded ts d → Holds ts h s starts n →
-              TakeThere h p (bodyOf s starts p)
-          unfolding termKind
-          waits-take {ts} {h} y x =
-              let w = waits x l noTransaction noOutput in go (w .component) (w .there) (w .waiting)
-            where
-              go : (c : Component) → getElem? (h .components) p ≡ some c → Waiting ts (bodyOf s starts p) c →
-                  TakeThere h p (bodyOf s starts p)
-              go c there (takes a P same f) = (false, a, P, there ∙ ap some same)
-              go c there (repeats a P same f) = (true, a, P, there ∙ ap some same)
-              go c there (blocks M same f) = absurd (other (kind-read (bodyOf s starts p) named read y _ f))
-
-          pub take-looked : {q : ℕ} {r : Reply} → TakeLooked d s n (bodyOf s starts p) r → p ≡ q →
-              Looked d s starts n (act q) r
-          take-looked f e = rw (← e) (record {
-            found = λ ts h y x. let (b, a, P, there) = waits-take y x in f .found ts h starts p b a P y x there;
-          })
-
-pub take-held : {d s starts : List ℕ} {n p i k : ℕ} → Running d s starts n → p < n →
-    (kindHeld s starts p ≡ transactionKind → ⊥) →
-    (kindHeld s starts p ≡ outputKind → ⊥) → i ≡ bodyOf s starts p → k ≡ kindAt d i → (k ≡ kindByte atomK → ⊥) →
-    TakeHeld d s n (bodyOf s starts p)
-take-held {starts = starts} {p = p} x l noTransaction noOutput named read other =
-    let (b, a, P, e) = waits-take l noTransaction noOutput named read other (x .decoded) (x .holds) in record {
-      terms = x .terms;
-      configuration = x .configuration;
-      starts = starts;
-      position = p;
-      repeated = b;
-      channel = a;
-      continuation = P;
-      decoded = x .decoded;
-      holds = x .holds;
-      there = e;
-    }
-
--- ---- kind 2
+-- ---- kind 2, by the node
 
 -- at a transaction
-pub find-held : {d s starts : List ℕ} {n p : ℕ} → Running d s starts n → p < n →
-    kindHeld s starts p ≡ transactionKind → Findable d s (getD starts p 0)
-find-held {starts = starts} {n = n} {p = p} x l t = record {
+find-held : {d s starts : List ℕ} {n p : ℕ} → p < n → getD s (getD starts p 0) 0 ≡ transactionKind → Running d s starts n →
+    Findable d s (getD starts p 0)
+find-held {starts = starts} {n = n} {p = p} l t x = record {
   terms = x .terms;
   configuration = x .configuration;
   starts = starts;
@@ -219,30 +142,92 @@ find-held {starts = starts} {n = n} {p = p} x l t = record {
   there = record { decoded = x .decoded; holds = x .holds; there = l; begins = refl; kind = t };
 }
 
+-- what is asked for the search is what a run holds
+pub can-seek : {d s starts : List ℕ} {n : ℕ} → Running d s starts n → CanSeek s starts n
+can-seek {d} x = record { decoded = d; running = x }
+
 module _ {d s starts : List ℕ} {n k : ℕ} where
   -- refusal 14 before refusal 15
-  pub inside-past : {p q : ℕ} → n ≤ p → p ≡ q → Looked d s starts n (inside q k) (Refused 14)
+  pub inside-past : {p : ℕ} → n ≤ p → Looked d s starts n (inside p k) (Refused 14)
   unfolding answerTo atPosition replyOf replyIs
-  inside-past {p} {q} l e = record { found = λ ts h y x. rw (no-component x q (rw (← e) l)) refl }
+  inside-past {p} l = record { found = λ ts h y x. rw (no-component x p l) refl }
 
-  module _ {p : ℕ} where
-    pub inside-idle : {q : ℕ} → p < n → (kindHeld s starts p ≡ transactionKind → ⊥) → p ≡ q →
-        Looked d s starts n (inside q k) (Refused 15)
-    unfolding answerTo atPosition applyAt actsInside componentBytes replyOf replyIs
-    inside-idle l other e = rw (← e) (record {
-      found = λ ts h y x. let (c, there) = component-at x p l in go ts h x c there;
-    })
-      where
-        go : (ts : List Term) (h : Configuration) → Holds ts h s starts n → (c : Component) →
-            getElem? (h .components) p ≡ some c →
-            replyIs (Refused 15) ≡ replyOf (answerTo h (inside p k))
-        go ts h x (idle c) there = rw there refl
-        go ts h x (transaction m M σ t) there = absurd (other (kind-here x p (transaction m M σ t) there))
+  pub inside-idle : {p : ℕ} → p < n → (getD s (getD starts p 0) 0 ≡ transactionKind → ⊥) →
+      Looked d s starts n (inside p k) (Refused 15)
+  unfolding answerTo atPosition applyAt actsInside componentBytes replyOf replyIs
+  inside-idle {p} l other = record { found = λ ts h y x. let (c, there) = component-at x p l in go ts h x c there }
+    where
+      go : (ts : List Term) (h : Configuration) → Holds ts h s starts n → (c : Component) →
+          getElem? (h .components) p ≡ some c →
+          replyIs (Refused 15) ≡ replyOf (answerTo h (inside p k))
+      go ts h x (idle c) there = rw there refl
+      go ts h x (transaction m M σ t) there = absurd (other (kind-here x p (transaction m M σ t) there))
 
-    pub find-looked : {q : ℕ} {r : Reply} → Searched d s (getD starts p 0) k r → p < n →
-        kindHeld s starts p ≡ transactionKind → p ≡ q →
-        Looked d s starts n (inside q k) r
-    find-looked f l t e = rw (← e) (record {
+  module _ {p : ℕ} (l : p < n) (t : getD s (getD starts p 0) 0 ≡ transactionKind) where
+    pub find-looked : {r : Reply} → Searched d s (getD starts p 0) k r → Looked d s starts n (inside p k) r
+    find-looked f = record {
       found = λ ts h y x.
           f .found ts h starts n p (record { decoded = y; holds = x; there = l; begins = refl; kind = t });
-    })
+    }
+
+-- ---- the search
+
+module _ {s starts : List ℕ} {n p : ℕ} where
+  module _ {k : ℕ} where
+    pub sought-past : n ≤ p → NodeSought s starts n p k (search.Refused 14)
+    sought-past l = record { found = λ d. inside-past l }
+
+    pub sought-idle : p < n → (getD s (getD starts p 0) 0 ≡ transactionKind → ⊥) →
+        NodeSought s starts n p k (search.Refused 15)
+    sought-idle l other = record { found = λ d. inside-idle l other }
+
+  module _ (x : CanSeek s starts n) (l : p < n) where
+    pub seek-inside : getD starts p 0 < length s
+    seek-inside = let (c, e) = component-at (x .running .holds) p l in let i = component-inside (x .running .holds) p c e .0 in omega arith
+
+    module _ (t : getD s (getD starts p 0) 0 ≡ transactionKind) where
+      pub nodes-inside : getD starts p 0 + transactionHead ≤ length s
+      nodes-inside = findable-inside (x .decoded) s (getD starts p 0) (find-held l t (x .running))
+
+      pub nodes-fit : Fits w64 (getD starts p 0 + transactionHead)
+      nodes-fit = let i = nodes-inside in let z = hall-length (x .running .holds) in record { fits = omega arith }
+
+  module _ (l : p < n) (t : getD s (getD starts p 0) 0 ≡ transactionKind) (k : ℕ) {place : Place}
+      (f : place ≡ nodeStart s (getD starts p 0 + transactionHead) k) where
+    pub sought-missing : place ≡ Nowhere → NodeSought s starts n p k (search.Refused 16)
+    sought-missing g = record {
+      found = λ d. find-looked l t (search-missing d s (getD starts p 0) k place f g);
+    }
+
+    pub sought-found : {at : ℕ} → place ≡ At at → NodeSought s starts n p k (search.Found at)
+    sought-found g = record { found = record { there = l; kind = t; place = sym f ∙ g } }
+
+-- ---- what was found
+
+module _ {s starts : List ℕ} {n p k : ℕ} {r : NodeSearch} (f : NodeSought s starts n p k r) where
+  pub refused-there : {m : ℕ} → r ≡ search.Refused m → {d : List ℕ} {q : ℕ} → p ≡ q → Looked d s starts n (inside q k) (Refused m)
+  refused-there is {d} e = let g = rw is at f in rw (← e) (g .found d)
+
+  module _ {at : ℕ} (is : r ≡ search.Found at) where
+    pub node-there : NodeThere s starts n p k at
+    node-there = let g = rw is at f in g .found
+
+    pub node-position : {d : List ℕ} → Running d s starts n → p < indexSize
+    node-position x = held-position (x .holds) p (node-there .there)
+
+    module _ {d : List ℕ} where
+      pub node-held : Running d s starts n → NodeHeld d s (getD starts p 0 + idleSize) at
+      node-held x =
+          let g = node-there in
+          node-standing d s (getD starts p 0) (find-held (g .there) (g .kind) x) k at (At at) (sym (g .place)) refl
+
+      pub snapshot-fits : Running d s starts n → Fits w64 (getD starts p 0 + idleSize)
+      snapshot-fits x =
+          let i = findable-inside d s (getD starts p 0) (find-held (node-there .there) (node-there .kind) x) in
+          let z = hall-length (x .holds) in record { fits = omega arith }
+
+      pub node-looked : {q : ℕ} {a : Reply} → RuleRead d s (getD starts p 0 + idleSize) at a → p ≡ q →
+          Looked d s starts n (inside q k) a
+      node-looked read e =
+          let g = node-there in
+          rw (← e) (find-looked (g .there) (g .kind) (search-read d s (getD starts p 0) k (At at) (sym (g .place)) refl read))

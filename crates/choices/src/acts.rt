@@ -1,26 +1,21 @@
 // Entries of kind 1 (to act): rules 1 to 7, at a position.
 use crate::Made;
+use crate::occupants::Occupant;
+use crate::occupants::occupant_at;
 use buffer::wide;
-use records::ATOM;
 use rules::ATOK;
 use rules::ATST;
 use rules::NO_COMPONENT;
 use rules::Reply;
-use stored::COMPONENT_BODY;
 use stored::INDEX_SIZE;
-use stored::KIND_OUTPUT;
-use stored::KIND_TRANSACTION;
 use terms::DECODED;
-ghost use mathlib.Core.Path.{_≡_};
-ghost use Prim.Native.Nat.{_<_};
 ghost use Rattle.semantics.specs.Definitions.Moves.{act};
-ghost use Rattle.stored.specs.Layout.{transactionKind, outputKind};
 ghost use Rattle.index.specs.Holds.{Running};
 ghost use Rattle.index.specs.Choices.{Looked, Chosen};
-ghost use Rattle.choices.specs.Entries.{kindHeld};
+ghost use Rattle.choices.specs.Occupants.{OccupantRead};
+ghost use Rattle.choices.specs.declared.occupants.Occupant.the-variants.{Transaction, Take};
 
-// What the entry is answered, by what stands at its position: an output, a transaction, or a component that waits on a
-// block, a take or a repeated take. Nothing changes.
+// What the entry is answered, by the occupant of its position. Nothing changes.
 pub fn look_act(
     decoded: &[u8; DECODED],
     hall: &[u8],
@@ -33,22 +28,13 @@ pub fn look_act(
         r ⌝ }
 {
     let p = wide(position);
-    if components <= p {
-        return Reply::Refused(NO_COMPONENT);
+    match occupant_at(decoded, hall, starts, components, p) {
+        Occupant::Nothing => Reply::Refused(NO_COMPONENT),
+        Occupant::Transaction => blocks::look_end(decoded, hall, starts[p], components),
+        Occupant::Output { channel } => communication::look_out(hall, channel),
+        Occupant::Block => Reply::Moved(ATST),
+        Occupant::Take { term } => communication::look_take(decoded, hall, components, term),
     }
-    let begin = starts[p];
-    let kind = hall[begin];
-    if kind == KIND_TRANSACTION {
-        return blocks::look_end(decoded, hall, begin, components);
-    }
-    let body = hall[begin + COMPONENT_BODY];
-    if kind == KIND_OUTPUT {
-        return communication::look_out(hall, body);
-    }
-    if terms::kind_of(decoded, wide(body)) == ATOM {
-        return Reply::Moved(ATST);
-    }
-    communication::look_take(decoded, hall, components, body)
 }
 
 // The entry made at a transaction, where it is accepted: a commit, or the block stands there again.
@@ -60,7 +46,7 @@ fn act_end(
     position: usize,
 ) -> Made
     requires { ⌜ Running (now decoded) (now hall) (now starts) components ⌝ }
-    requires { ⌜ (position < components) × (kindHeld (now hall) (now starts) position ≡ transactionKind) ⌝ }
+    requires { ⌜ OccupantRead (now decoded) (now hall) (now starts) components position Transaction ⌝ }
     ensures { λ r. ⌜ Chosen (now (decoded .entry)) (now (hall .entry)) (now (starts .entry)) components (act position)
         (r .reply) (now (hall .exit)) (now (starts .exit)) (r .components) ⌝ }
 {
@@ -88,30 +74,21 @@ fn act_end(
     }
 }
 
-// The entry made at a component that waits, where it is accepted: on a block, which begins, or on a token.
-fn act_waiting(
+// The entry made at a component that waits on this take, where it is accepted.
+fn act_take(
     decoded: &[u8; DECODED],
     hall: &mut [u8],
     starts: &mut [usize; INDEX_SIZE],
     components: usize,
     position: usize,
+    term: u8,
 ) -> Made
     requires { ⌜ Running (now decoded) (now hall) (now starts) components ⌝ }
-    requires { ⌜ (position < components) × (kindHeld (now hall) (now starts) position ≡ transactionKind → ⊥)
-        × (kindHeld (now hall) (now starts) position ≡ outputKind → ⊥) ⌝ }
+    requires { ⌜ OccupantRead (now decoded) (now hall) (now starts) components position (Take term) ⌝ }
     ensures { λ r. ⌜ Chosen (now (decoded .entry)) (now (hall .entry)) (now (starts .entry)) components (act position)
         (r .reply) (now (hall .exit)) (now (starts .exit)) (r .components) ⌝ }
 {
-    let begin = starts[position];
-    let body = hall[begin + COMPONENT_BODY];
-    if terms::kind_of(decoded, wide(body)) == ATOM {
-        blocks::begin(decoded, hall, starts, components, position);
-        return Made {
-            reply: Reply::Moved(ATST),
-            components,
-        };
-    }
-    match communication::look_take(decoded, hall, components, body) {
+    match communication::look_take(decoded, hall, components, term) {
         Reply::Moved(rule) => {
             let now = communication::take(decoded, hall, starts, components, position);
             Made {
@@ -126,8 +103,7 @@ fn act_waiting(
     }
 }
 
-// The entry made, where it is accepted, by what stands at its position. Runs go this way; suggestions and steps look by
-// `look_act`.
+// The entry made, where it is accepted, by the occupant of its position.
 pub fn act(
     decoded: &[u8; DECODED],
     hall: &mut [u8],
@@ -140,32 +116,32 @@ pub fn act(
         (r .reply) (now (hall .exit)) (now (starts .exit)) (r .components) ⌝ }
 {
     let p = wide(position);
-    if components <= p {
-        return Made {
+    match occupant_at(decoded, hall, starts, components, p) {
+        Occupant::Nothing => Made {
             reply: Reply::Refused(NO_COMPONENT),
             components,
-        };
-    }
-    let at = starts[p];
-    let kind = hall[at];
-    if kind == KIND_TRANSACTION {
-        return act_end(decoded, hall, starts, components, p);
-    }
-    if kind != KIND_OUTPUT {
-        return act_waiting(decoded, hall, starts, components, p);
-    }
-    let channel = hall[at + COMPONENT_BODY];
-    match communication::look_out(hall, channel) {
-        Reply::Moved(rule) => {
-            let now = communication::put(hall, starts, components, p);
+        },
+        Occupant::Transaction => act_end(decoded, hall, starts, components, p),
+        Occupant::Output { channel } => match communication::look_out(hall, channel) {
+            Reply::Moved(rule) => {
+                let now = communication::put(hall, starts, components, p);
+                Made {
+                    reply: Reply::Moved(rule),
+                    components: now,
+                }
+            }
+            Reply::Refused(number) => Made {
+                reply: Reply::Refused(number),
+                components,
+            },
+        },
+        Occupant::Block => {
+            blocks::begin(decoded, hall, starts, components, p);
             Made {
-                reply: Reply::Moved(rule),
-                components: now,
+                reply: Reply::Moved(ATST),
+                components,
             }
         }
-        Reply::Refused(number) => Made {
-            reply: Reply::Refused(number),
-            components,
-        },
+        Occupant::Take { term } => act_take(decoded, hall, starts, components, p, term),
     }
 }

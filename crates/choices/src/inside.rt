@@ -4,6 +4,7 @@ use rules::NO_COMPONENT;
 use rules::NO_NODE;
 use rules::Reply;
 use rules::WRONG_COMPONENT;
+use stored::IDLE_SIZE;
 use stored::INDEX_SIZE;
 use stored::KIND_TRANSACTION;
 use stored::Place;
@@ -12,8 +13,39 @@ use terms::DECODED;
 ghost use Rattle.semantics.specs.Definitions.Moves.{inside};
 ghost use Rattle.index.specs.Holds.{Running};
 ghost use Rattle.index.specs.Choices.{Looked, Chosen};
+ghost use Rattle.choices.specs.Occupants.{CanSeek, NodeSought};
 
-// What the entry is answered. Nothing changes.
+// Where the node that an entry names begins; or the entry's refusal, where there is no such node.
+pub enum NodeSearch {
+    Found { at: usize },
+    Refused(u8),
+}
+
+// The node of this number, in preorder, of the transaction at a position. Looks and moves both go by it.
+fn find_node(
+    hall: &[u8],
+    starts: &[usize; INDEX_SIZE],
+    components: usize,
+    position: usize,
+    node: u8,
+) -> NodeSearch
+    requires { ⌜ CanSeek (now hall) (now starts) components ⌝ }
+    ensures { λ r. ⌜ NodeSought (now (hall .entry)) (now (starts .entry)) components position node r ⌝ }
+{
+    if components <= position {
+        return NodeSearch::Refused(NO_COMPONENT);
+    }
+    let transaction = starts[position];
+    if hall[transaction] != KIND_TRANSACTION {
+        return NodeSearch::Refused(WRONG_COMPONENT);
+    }
+    match stored::node_start(hall, transaction + TRANSACTION_HEAD, node) {
+        Place::Nowhere => NodeSearch::Refused(NO_NODE),
+        Place::At(at) => NodeSearch::Found { at },
+    }
+}
+
+// What the entry is answered, by what stands at its node. Nothing changes.
 pub fn look_inside(
     decoded: &[u8; DECODED],
     hall: &[u8],
@@ -27,14 +59,13 @@ pub fn look_inside(
         (inside position node) r ⌝ }
 {
     let p = wide(position);
-    if components <= p {
-        return Reply::Refused(NO_COMPONENT);
+    match find_node(hall, starts, components, p, node) {
+        NodeSearch::Refused(number) => Reply::Refused(number),
+        NodeSearch::Found { at } => {
+            let snapshot = starts[p] + IDLE_SIZE;
+            transactions::rule_at(decoded, hall, snapshot, at)
+        }
     }
-    let begin = starts[p];
-    if hall[begin] != KIND_TRANSACTION {
-        return Reply::Refused(WRONG_COMPONENT);
-    }
-    transactions::find(decoded, hall, begin, node)
 }
 
 // The entry made, where it is accepted, by what stands at its node. As many components stay.
@@ -51,15 +82,10 @@ pub fn act_inside(
         (inside position node) r (now (hall .exit)) (now (starts .exit)) components ⌝ }
 {
     let p = wide(position);
-    if components <= p {
-        return Reply::Refused(NO_COMPONENT);
-    }
-    let transaction = starts[p];
-    if hall[transaction] != KIND_TRANSACTION {
-        return Reply::Refused(WRONG_COMPONENT);
-    }
-    match stored::node_start(hall, transaction + TRANSACTION_HEAD, node) {
-        Place::Nowhere => Reply::Refused(NO_NODE),
-        Place::At(at) => transactions::move_at(decoded, hall, starts, components, p, at),
+    match find_node(hall, starts, components, p, node) {
+        NodeSearch::Refused(number) => Reply::Refused(number),
+        NodeSearch::Found { at } => {
+            transactions::move_at(decoded, hall, starts, components, p, at)
+        }
     }
 }

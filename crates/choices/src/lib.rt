@@ -1,21 +1,18 @@
-// One entry of a schedule (document 01's choice) on a configuration (hall) that a run holds: looked at, made, or looked
-// for.
+// One entry of a schedule (document 01's choice) on a configuration (hall) that a run holds: looked at, or made.
 //
-// A look only reads and answers by which rule an entry would move; suggestions and steps look. What is made is made by
-// what stands at the position and at the node, and answers the same.
+// A look only reads and answers by which rule an entry would move; suggestions and steps look. What is made answers the
+// same. Both go by what stands at the position (`occupants`) and at the node, and by the same tests.
 mod acts;
 mod inside;
-mod suggests;
+mod occupants;
 
 use acts::act;
-use acts::look_act;
+pub use acts::look_act;
 use inside::act_inside;
-use inside::look_inside;
+pub use inside::look_inside;
 use rules::Reply;
 use schedule::Entry;
 use stored::INDEX_SIZE;
-pub use suggests::Suggestion;
-pub use suggests::first_accepted;
 use terms::DECODED;
 ghost use Rattle.index.specs.Holds.{Running};
 ghost use Rattle.index.specs.Choices.{Looked, Chosen};

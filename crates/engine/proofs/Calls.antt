@@ -26,11 +26,11 @@ use Rattle.index.specs.Choices.{Looked}
 use Rattle.admission.specs.declared.Admission.{Admission}
 use Rattle.admission.specs.declared.Admission.the-variants as admit
 use Rattle.admission.specs.Answers.{AdmissionIs}
-use Rattle.choices.specs.declared.suggests.Suggestion.{Suggestion}
-use Rattle.choices.specs.declared.suggests.Suggestion.the-variants as suggestion
+use Rattle.suggestions.specs.declared.Suggestion.{Suggestion}
+use Rattle.suggestions.specs.declared.Suggestion.the-variants as suggestion
 use Rattle.schedule.specs.declared.Entry as entries
 use Rattle.schedule.specs.declared.Entry.the-variants as entry
-use Rattle.choices.specs.Entries.{Suggests}
+use Rattle.suggestions.specs.Suggestions.{Suggests}
 use Rattle.schedule.specs.Entries.{entryOf}
 use Rattle.runs.specs.declared.RunAnswer.{RunAnswer}
 use Rattle.runs.specs.declared.RunAnswer.the-variants as ran

@@ -1,8 +1,8 @@
 // Suggesting a choice on a stored hall.
 use admission::Admission;
-use choices::Suggestion;
 use schedule::Entry;
 use stored::INDEX_SIZE;
+use suggestions::Suggestion;
 use terms::DECODED;
 ghost use Rattle.semantics.specs.Definitions.Calls.{SuggestAllowed};
 ghost use Rattle.engine.specs.Answers.{suggestAnswerOf};
@@ -23,7 +23,7 @@ pub fn suggest(table: &[u8], hall: &[u8]) -> SuggestAnswer
     let mut starts = [0usize; INDEX_SIZE];
     match admission::admit(table, hall, &mut decoded, &mut starts) {
         Admission::Admitted { components } => {
-            match choices::first_accepted(&decoded, hall, &starts, components) {
+            match suggestions::first_accepted(&decoded, hall, &starts, components) {
                 Suggestion::Accepted(entry) => SuggestAnswer::Suggested(entry),
                 Suggestion::Still => SuggestAnswer::Still,
             }

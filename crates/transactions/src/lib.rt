@@ -57,7 +57,7 @@ fn leaf_rule(decoded: &[u8; DECODED], hall: &[u8], snapshot: usize, at: usize) -
 }
 
 // The rule for the node that begins at an offset, or that there is none. A fork moves by its left side alone.
-fn rule_at(decoded: &[u8; DECODED], hall: &[u8], snapshot: usize, at: usize) -> Reply
+pub fn rule_at(decoded: &[u8; DECODED], hall: &[u8], snapshot: usize, at: usize) -> Reply
     requires { ⌜ NodeHeld (now decoded) (now hall) snapshot at ⌝ }
     ensures { λ r. ⌜ RuleRead (now (decoded .entry)) (now (hall .entry)) snapshot at r ⌝ }
 {

@@ -1,6 +1,6 @@
 -- `act` meets its contract. Assumes nothing.
-use Rattle.choices.proofs.Looking.{kind-inside, body-inside, body-fits, output-held, output-looked}
-use Rattle.choices.proofs.Making.{chosen-refused, act-past, act-named, act-can-put, act-put}
+use Rattle.choices.proofs.Looking.{known, output-held}
+use Rattle.choices.proofs.Making.{act-named, act-nothing, can-put, act-put, act-put-refused, can-begin, act-begin}
 use borrow.Author.Needs.{needs}
 use Rattle.choices.proofs.acts.act.Statement.{statement}
 use Rattle.choices.proofs.acts.act.Tie as tie
@@ -8,41 +8,21 @@ use Rattle.choices.proofs.acts.act.Tie as tie
 wide-requires : tie.Need-wide-requires
 wide-requires c κs = search needs
 
-returns : tie.Need-returns
-returns c = search act-past
+occupant-at-requires : tie.Need-occupant-at-requires
+occupant-at-requires c κs = search needs
 
-mul-at : tie.Need-mul-at
-mul-at c = search needs
+enum-told : tie.Need-enum-told
+enum-told c = search needs
 
-element-copy-out-at : tie.Need-element-copy-out-at
-element-copy-out-at c = search needs
-
-slice-read-kind : tie.Need-slice-read-kind
-slice-read-kind c = search kind-inside
+enum-told-2 : tie.Need-enum-told-2
+enum-told-2 c = search needs
 
 act-end-requires : tie.Need-act-end-requires
-act-end-requires c κs = search needs
+act-end-requires c κs = let told = c .before .before in
+    (search needs, known (told .before .before .occupant-at .ensures) (told .enum-told2 .given .1))
 
-same-length : tie.Need-same-length
-same-length c = search needs
-
-returns-2 : tie.Need-returns-2
-returns-2 c = search act-named
-
-act-waiting-requires : tie.Need-act-waiting-requires
-act-waiting-requires c κs = search needs
-
-same-length-2 : tie.Need-same-length-2
-same-length-2 c = search needs
-
-returns-3 : tie.Need-returns-3
-returns-3 c = search act-named
-
-add-channel : tie.Need-add-channel
-add-channel c = search body-fits
-
-slice-read-channel : tie.Need-slice-read-channel
-slice-read-channel c = search body-inside
+enum-known-channel : tie.Need-enum-known-channel
+enum-known-channel c = search needs
 
 look-out-requires : tie.Need-look-out-requires
 look-out-requires c κs = search output-held
@@ -52,49 +32,94 @@ enum-known-rule c = search needs
 
 put-requires : tie.Need-put-requires
 put-requires c κs =
-    let looked = c .before .before .before .before .before in
+    let moves = c .before .before .before in
+    let looked = moves .before .before in
     let output = looked .before .before .before in
-    let position = output .before .before .before .before in
-    let start = position .before .before .before in
-    act-can-put (start .pre) (position .if1 .left) (output .if3 .left) (looked .look-out .ensures) (c .before .before .before .rule .given .1)
+    let read = output .before .before in
+    can-put (read .occupant-at .ensures) (output .channel .given .1) (looked .look-out .ensures) (moves .rule .given .1)
+    (read .before .before .before .before .before .pre)
 
 enum-known-number : tie.Need-enum-known-number
 enum-known-number c = search needs
 
+enum-told-3 : tie.Need-enum-told-3
+enum-told-3 c = search needs
+
+begin-requires : tie.Need-begin-requires
+begin-requires c κs =
+    let told = c .before .before in
+    let read = told .before .before in
+    can-begin (read .occupant-at .ensures) (told .enum-told3 .given .1) (read .before .before .before .before .before .pre)
+
+enum-known-term : tie.Need-enum-known-term
+enum-known-term c = search needs
+
+act-take-requires : tie.Need-act-take-requires
+act-take-requires c κs = (search needs, search known)
+
+same-length : tie.Need-same-length
+same-length c = search needs
+
+returns : tie.Need-returns
+returns c = search act-nothing
+
+same-length-2 : tie.Need-same-length-2
+same-length-2 c = search needs
+
+returns-2 : tie.Need-returns-2
+returns-2 c = search act-named
+
 same-length-3 : tie.Need-same-length-3
 same-length-3 c = search needs
 
-returns-4 : tie.Need-returns-4
-returns-4 c = search (act-named, act-put)
+returns-3 : tie.Need-returns-3
+returns-3 c = search act-put
 
 same-length-4 : tie.Need-same-length-4
 same-length-4 c = search needs
 
+returns-4 : tie.Need-returns-4
+returns-4 c = search act-put-refused
+
+same-length-5 : tie.Need-same-length-5
+same-length-5 c = search needs
+
 returns-5 : tie.Need-returns-5
-returns-5 c = search (chosen-refused, output-looked)
+returns-5 c = search act-begin
+
+same-length-6 : tie.Need-same-length-6
+same-length-6 c = search needs
+
+returns-6 : tie.Need-returns-6
+returns-6 c = search act-named
 
 pub act-spec : {M : Type 1} → statement M
 act-spec =
     tie.close
     (tie.spec
     wide-requires
-    returns
-    mul-at
-    element-copy-out-at
-    slice-read-kind
+    occupant-at-requires
+    enum-told
+    enum-told-2
     act-end-requires
-    same-length
-    returns-2
-    act-waiting-requires
-    same-length-2
-    returns-3
-    add-channel
-    slice-read-channel
+    enum-known-channel
     look-out-requires
     enum-known-rule
     put-requires
     enum-known-number
+    enum-told-3
+    begin-requires
+    enum-known-term
+    act-take-requires
+    same-length
+    returns
+    same-length-2
+    returns-2
     same-length-3
-    returns-4
+    returns-3
     same-length-4
-    returns-5)
+    returns-4
+    same-length-5
+    returns-5
+    same-length-6
+    returns-6)

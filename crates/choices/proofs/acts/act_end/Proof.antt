@@ -1,15 +1,16 @@
 -- `act_end` meets its contract. Assumes nothing.
-use Rattle.choices.proofs.Looking.{end-held, end-looked}
-use Rattle.choices.proofs.Making.{chosen-refused, act-can-commit, act-commit, act-can-restart, act-restart}
+use mathlib.Core.Path.{refl}
+use Rattle.choices.proofs.Looking.{transaction-position, end-held, end-looked}
+use Rattle.choices.proofs.Making.{chosen-refused, can-commit, act-commit, can-restart, act-restart}
 use borrow.Author.Needs.{needs}
 use Rattle.choices.proofs.acts.act_end.Statement.{statement}
 use Rattle.choices.proofs.acts.act_end.Tie as tie
 
 mul-begin : tie.Need-mul-begin
-mul-begin c = search needs
+mul-begin c = let l = transaction-position (c .before .pre .1) refl (c .before .pre .0) in search needs
 
 element-copy-out-begin : tie.Need-element-copy-out-begin
-element-copy-out-begin c = search needs
+element-copy-out-begin c = search transaction-position
 
 look-end-requires : tie.Need-look-end-requires
 look-end-requires c κs = search end-held
@@ -18,7 +19,7 @@ enum-known-rule : tie.Need-enum-known-rule
 enum-known-rule c = search needs
 
 commit-requires : tie.Need-commit-requires
-commit-requires c κs = search act-can-commit
+commit-requires c κs = search can-commit
 
 same-length : tie.Need-same-length
 same-length c = search needs
@@ -27,7 +28,7 @@ returns : tie.Need-returns
 returns c = search act-commit
 
 restart-requires : tie.Need-restart-requires
-restart-requires c κs = search act-can-restart
+restart-requires c κs = search can-restart
 
 enum-known-number : tie.Need-enum-known-number
 enum-known-number c = search needs

@@ -1,6 +1,5 @@
 -- `look_act` meets its contract. Assumes nothing.
-use Rattle.choices.proofs.Looking.{kind-inside, body-inside, body-fits, past-components, end-held, end-looked, output-held, output-looked, waiting-term, block-looked, take-held, take-looked}
-use native.Mathlib.Omega.{arith}
+use Rattle.choices.proofs.Looking.{nothing-looked, transaction-position, end-held, end-looked, output-held, output-looked, block-looked, take-held, take-looked}
 use borrow.Author.Needs.{needs}
 use Rattle.choices.proofs.acts.look_act.Statement.{statement}
 use Rattle.choices.proofs.acts.look_act.Tie as tie
@@ -8,53 +7,50 @@ use Rattle.choices.proofs.acts.look_act.Tie as tie
 wide-requires : tie.Need-wide-requires
 wide-requires c κs = search needs
 
-returns : tie.Need-returns
-returns c = past-components (omega arith) (c .before .wide .ensures)
+occupant-at-requires : tie.Need-occupant-at-requires
+occupant-at-requires c κs = search needs
 
-mul-begin : tie.Need-mul-begin
-mul-begin c = search needs
+enum-told : tie.Need-enum-told
+enum-told c = search needs
 
-element-copy-out-begin : tie.Need-element-copy-out-begin
-element-copy-out-begin c = search needs
+enum-told-2 : tie.Need-enum-told-2
+enum-told-2 c = search needs
 
-shared-slice-read-kind : tie.Need-shared-slice-read-kind
-shared-slice-read-kind c = search kind-inside
+mul-look-end : tie.Need-mul-look-end
+mul-look-end c = let l = transaction-position (c .before .before .occupant-at .ensures) (c .enum-told2 .given .1) (c .before .before .before .before .before .pre) in search needs
+
+element-copy-out-look-end : tie.Need-element-copy-out-look-end
+element-copy-out-look-end c = search transaction-position
 
 look-end-requires : tie.Need-look-end-requires
 look-end-requires c κs = search end-held
 
-returns-2 : tie.Need-returns-2
-returns-2 c = search end-looked
-
-add-body : tie.Need-add-body
-add-body c = search body-fits
-
-shared-slice-read-body : tie.Need-shared-slice-read-body
-shared-slice-read-body c = search body-inside
+enum-known-channel : tie.Need-enum-known-channel
+enum-known-channel c = search needs
 
 look-out-requires : tie.Need-look-out-requires
 look-out-requires c κs = search output-held
 
+enum-told-3 : tie.Need-enum-told-3
+enum-told-3 c = search needs
+
+enum-known-term : tie.Need-enum-known-term
+enum-known-term c = search needs
+
+look-take-requires : tie.Need-look-take-requires
+look-take-requires c κs = search take-held
+
+returns : tie.Need-returns
+returns c = search nothing-looked
+
+returns-2 : tie.Need-returns-2
+returns-2 c = search end-looked
+
 returns-3 : tie.Need-returns-3
 returns-3 c = search output-looked
 
-wide-requires-2 : tie.Need-wide-requires-2
-wide-requires-2 c κs = search needs
-
-kind-of-requires : tie.Need-kind-of-requires
-kind-of-requires c κs = search waiting-term
-
 returns-4 : tie.Need-returns-4
 returns-4 c = search block-looked
-
-look-take-requires : tie.Need-look-take-requires
-look-take-requires c κs =
-    let output = c .before .before .before in
-    let transaction = output .before .before in
-    let position = transaction .before .before .before in
-    let start = position .before .before .before in
-    take-held (start .pre) (position .if1 .left) (transaction .if2 .left) (output .if3 .left)
-    (c .before .before .wide2 .ensures) (c .before .kind-of .ensures) (c .if4 .left)
 
 returns-5 : tie.Need-returns-5
 returns-5 c = search take-looked
@@ -64,18 +60,19 @@ look-act-spec =
     tie.close
     (tie.spec
     wide-requires
-    returns
-    mul-begin
-    element-copy-out-begin
-    shared-slice-read-kind
+    occupant-at-requires
+    enum-told
+    enum-told-2
+    mul-look-end
+    element-copy-out-look-end
     look-end-requires
-    returns-2
-    add-body
-    shared-slice-read-body
+    enum-known-channel
     look-out-requires
-    returns-3
-    wide-requires-2
-    kind-of-requires
-    returns-4
+    enum-told-3
+    enum-known-term
     look-take-requires
+    returns
+    returns-2
+    returns-3
+    returns-4
     returns-5)

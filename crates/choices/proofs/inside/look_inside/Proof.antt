@@ -1,5 +1,5 @@
 -- `look_inside` meets its contract. Assumes nothing.
-use Rattle.choices.proofs.Looking.{kind-inside, inside-past, inside-idle, find-held, find-looked}
+use Rattle.choices.proofs.Looking.{can-seek, refused-there, node-position, node-held, snapshot-fits, node-looked}
 use borrow.Author.Needs.{needs}
 use Rattle.choices.proofs.inside.look_inside.Statement.{statement}
 use Rattle.choices.proofs.inside.look_inside.Tie as tie
@@ -7,36 +7,44 @@ use Rattle.choices.proofs.inside.look_inside.Tie as tie
 wide-requires : tie.Need-wide-requires
 wide-requires c κs = search needs
 
+find-node-requires : tie.Need-find-node-requires
+find-node-requires c κs = search can-seek
+
+enum-known-number : tie.Need-enum-known-number
+enum-known-number c = search needs
+
+enum-known-at : tie.Need-enum-known-at
+enum-known-at c = search needs
+
+mul-snapshot : tie.Need-mul-snapshot
+mul-snapshot c = let l = node-position (c .before .before .before .find-node .ensures) (c .before .at .given .1) (c .before .before .before .before .before .before .pre) in search needs
+
+element-copy-out-snapshot : tie.Need-element-copy-out-snapshot
+element-copy-out-snapshot c = search node-position
+
+add-snapshot : tie.Need-add-snapshot
+add-snapshot c = search snapshot-fits
+
+rule-at-requires : tie.Need-rule-at-requires
+rule-at-requires c κs = search node-held
+
 returns : tie.Need-returns
-returns c = search inside-past
-
-mul-begin : tie.Need-mul-begin
-mul-begin c = search needs
-
-element-copy-out-begin : tie.Need-element-copy-out-begin
-element-copy-out-begin c = search needs
-
-shared-slice-read-if2 : tie.Need-shared-slice-read-if2
-shared-slice-read-if2 c = search kind-inside
+returns c = search refused-there
 
 returns-2 : tie.Need-returns-2
-returns-2 c = search inside-idle
-
-find-requires : tie.Need-find-requires
-find-requires c κs = search find-held
-
-returns-3 : tie.Need-returns-3
-returns-3 c = search find-looked
+returns-2 c = search node-looked
 
 pub look-inside-spec : {M : Type 1} → statement M
 look-inside-spec =
     tie.close
     (tie.spec
     wide-requires
+    find-node-requires
+    enum-known-number
+    enum-known-at
+    mul-snapshot
+    element-copy-out-snapshot
+    add-snapshot
+    rule-at-requires
     returns
-    mul-begin
-    element-copy-out-begin
-    shared-slice-read-if2
-    returns-2
-    find-requires
-    returns-3)
+    returns-2)

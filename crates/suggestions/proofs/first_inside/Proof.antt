@@ -1,10 +1,10 @@
 -- `first_inside` meets its contract. Assumes nothing.
 use native.Mathlib.Omega.{arith}
 use borrow.Author.Needs.{needs}
-use Rattle.choices.proofs.Suggesting.{NoneBelow, no-node-yet, inside-suggested, next-node, nodes-quiet}
+use Rattle.suggestions.proofs.Suggesting.{NoneBelow, no-node-yet, inside-suggested, next-node, nodes-quiet}
 use Prim.Native.Nat.{_≤_, _-_}
-use Rattle.choices.proofs.suggests.first_inside.Statement.{statement}
-use Rattle.choices.proofs.suggests.first_inside.Tie as tie
+use Rattle.suggestions.proofs.first_inside.Statement.{statement}
+use Rattle.suggestions.proofs.first_inside.Tie as tie
 
 abbrev Inv-loop : tie.InvT-loop
 Inv-loop decoded hall starts components position node₀ node = (node ≤ 15) × NoneBelow decoded hall starts components position node

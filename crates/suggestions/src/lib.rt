@@ -1,8 +1,8 @@
 // A suggestion: the first entry that is accepted, at the lowest position, there kind 1 before kind 2, and of kind 2 at
 // the lowest node.
-use crate::acts::look_act;
-use crate::inside::look_inside;
 use buffer::wide;
+use choices::look_act;
+use choices::look_inside;
 use rules::Reply;
 use schedule::Entry;
 use stored::INDEX_SIZE;
@@ -11,7 +11,7 @@ use stored::MAX_NODES;
 use terms::DECODED;
 ghost use Prim.Native.Nat.{_<_};
 ghost use Rattle.index.specs.Holds.{Running};
-ghost use Rattle.choices.specs.Entries.{Suggests, SuggestsInside, SuggestsAt};
+ghost use Rattle.suggestions.specs.Suggestions.{Suggests, SuggestsInside, SuggestsAt};
 
 // An entry that is accepted, or none is (document 01's still: quiescent).
 pub enum Suggestion {

@@ -1,9 +1,8 @@
 -- `first_at` meets its contract. Assumes nothing.
-use Rattle.choices.proofs.Suggesting.{act-suggested, idle-quiet, inside-at}
-use Rattle.choices.proofs.Looking.{kind-inside-at}
+use Rattle.suggestions.proofs.Suggesting.{kind-inside-at, act-suggested, idle-quiet, inside-at}
 use borrow.Author.Needs.{needs}
-use Rattle.choices.proofs.suggests.first_at.Statement.{statement}
-use Rattle.choices.proofs.suggests.first_at.Tie as tie
+use Rattle.suggestions.proofs.first_at.Statement.{statement}
+use Rattle.suggestions.proofs.first_at.Tie as tie
 
 look-act-requires : tie.Need-look-act-requires
 look-act-requires c κs = search needs

@@ -1,10 +1,9 @@
--- What the code of this crate says of entries (choices): what stands at their position, and what a suggestion answers.
+-- What a suggestion answers: an entry (choice) that is accepted, or that none is.
 --
 -- d is a decoded table; s has the bytes, starts the index, n the number of components (stations); p is a position.
 -- Assumes nothing.
 use Prim.Native.Nat.{ℕ, _≤_}
 use mathlib.Core.List.{List}
-use lib.ListN.{getD}
 use Rattle.semantics.specs.Definitions.Layout.{maxByte}
 use Rattle.semantics.specs.Definitions.Terms.{Term}
 use Rattle.semantics.specs.Definitions.Configuration.{Configuration}
@@ -13,16 +12,8 @@ use Rattle.semantics.specs.Definitions.Calls.{SuggestAnswer, suggested, still, 
 use Rattle.terms.specs.Decoded.{Decoded}
 use Rattle.index.specs.Holds.{Holds}
 use Rattle.schedule.specs.Entries.{entryOf}
-use Rattle.choices.specs.declared.suggests.Suggestion.{Suggestion}
-use Rattle.choices.specs.declared.suggests.Suggestion.the-variants.{Accepted, Still}
-
--- ---- what stands at a position
-
--- the kind of the component there
-abbrev pub kindHeld : (s starts : List ℕ) → ℕ → ℕ
-kindHeld s starts p = getD s (getD starts p 0) 0
-
--- ---- a suggestion
+use Rattle.suggestions.specs.declared.Suggestion.{Suggestion}
+use Rattle.suggestions.specs.declared.Suggestion.the-variants.{Accepted, Still}
 
 -- the answer of the definitions
 abbrev pub suggestionOf : Suggestion → SuggestAnswer

@@ -1,10 +1,10 @@
 -- `first_accepted` meets its contract. Assumes nothing.
 use native.Mathlib.Omega.{arith}
 use borrow.Author.Needs.{needs}
-use Rattle.choices.proofs.Suggesting.{QuietBelow, no-position-yet, position-suggested, next-position, all-quiet}
+use Rattle.suggestions.proofs.Suggesting.{QuietBelow, no-position-yet, position-suggested, next-position, all-quiet}
 use Prim.Native.Nat.{_≤_, _-_}
-use Rattle.choices.proofs.suggests.first_accepted.Statement.{statement}
-use Rattle.choices.proofs.suggests.first_accepted.Tie as tie
+use Rattle.suggestions.proofs.first_accepted.Statement.{statement}
+use Rattle.suggestions.proofs.first_accepted.Tie as tie
 
 abbrev Inv-loop : tie.InvT-loop
 Inv-loop decoded hall starts components position₀ position = (position ≤ components) × QuietBelow decoded hall starts components position

@@ -7,7 +7,7 @@ use mathlib.Core.Path.{_≡_, refl, sym, ap, subst⁻¹, _∙_}
 use mathlib.Core.Bool.{Bool, true, false}
 use mathlib.Core.Option.{Option, none, some}
 use mathlib.Core.List.{List}
-use lib.ListN.{getD, getElem?}
+use lib.ListN.{length, getD, getElem?}
 use lib.Dec.{ltb}
 use mir.Syntax.{w8}
 use mir.Val.{Fits}
@@ -29,10 +29,11 @@ use Rattle.index.specs.Choices.{Looked}
 use Rattle.index.proofs.Holding.{component-ok}
 use Rattle.schedule.specs.declared.Entry.{Entry}
 use Rattle.schedule.specs.declared.Entry.the-variants as entry
-use Rattle.choices.specs.declared.suggests.Suggestion.{Suggestion}
-use Rattle.choices.specs.declared.suggests.Suggestion.the-variants.{Accepted, Still}
-use Rattle.choices.specs.Entries.{Always, QuiescentInside, QuiescentAt, Suggests, SuggestsInside, SuggestsAt}
-use Rattle.choices.proofs.Looking.{past-components, inside-past, inside-idle}
+use Rattle.choices.proofs.Occupancy.{kind-inside, nothing-read}
+use Rattle.choices.proofs.Looking.{nothing-looked, inside-past, inside-idle}
+use Rattle.suggestions.specs.declared.Suggestion.{Suggestion}
+use Rattle.suggestions.specs.declared.Suggestion.the-variants.{Accepted, Still}
+use Rattle.suggestions.specs.Suggestions.{Always, QuiescentInside, QuiescentAt, Suggests, SuggestsInside, SuggestsAt}
 
 -- ---- a look and its answer
 
@@ -61,13 +62,13 @@ module _ {d s starts : List ℕ} {n p : ℕ} where
   -- at a position past the last component
   quiet-behind : n ≤ p → Always d s starts n (QuiescentAt p)
   quiet-behind l ts h y x = record {
-    outside = looked-refused (past-components l refl) 14 refl ts h y x;
-    within = λ k b. looked-refused (inside-past l refl) 14 refl ts h y x;
+    outside = looked-refused (nothing-looked (nothing-read l) refl refl) 14 refl ts h y x;
+    within = λ k b. looked-refused (inside-past l) 14 refl ts h y x;
   }
 
   -- of kind 2, where no transaction is open
   quiet-idle : p < n → (getD s (getD starts p 0) 0 ≡ transactionKind → ⊥) → Always d s starts n (QuiescentInside p)
-  quiet-idle l other ts h y x k b = looked-refused (inside-idle l other refl) 15 refl ts h y x
+  quiet-idle l other ts h y x k b = looked-refused (inside-idle l other) 15 refl ts h y x
 
 -- of kind 2, past the last node that a tree of so few branches has
 refused-beyond : {ts : List Term} {h : Configuration} {s starts : List ℕ} {n : ℕ} → Holds ts h s starts n → (p k : ℕ) →
@@ -128,6 +129,10 @@ module _ {d s starts : List ℕ} {n p : ℕ} where
   }
 
 -- ---- the entries at a position
+
+-- i is the position as the code has it
+pub kind-inside-at : {d s starts : List ℕ} {n i p : ℕ} → Running d s starts n → p < n → i ≡ p → getD starts i 0 < length s
+kind-inside-at x l e = kind-inside x (rw e l)
 
 module _ {d s starts : List ℕ} {n p : ℕ} {r : Reply} (l : Looked d s starts n (act p) r) where
   pub act-suggested : {rule : ℕ} → r ≡ Moved rule → Fits w8 p → SuggestsAt d s starts n p (Accepted (entry.Act p))
