@@ -30,11 +30,11 @@ use Rattle.choices.specs.Occupants.{OccupantRead}
 -- ---- the bytes there
 
 -- the kind and the body of the component there
-abbrev pub kindOf : (s starts : List ℕ) → ℕ → ℕ
-kindOf s starts p = getD s (getD starts p 0) 0
+abbrev pub kindHeld : (s starts : List ℕ) → ℕ → ℕ
+kindHeld s starts p = getD s (getD starts p 0) 0
 
-abbrev pub bodyOf : (s starts : List ℕ) → ℕ → ℕ
-bodyOf s starts p = getD s (getD starts p 0 + componentBody) 0
+abbrev pub bodyHeld : (s starts : List ℕ) → ℕ → ℕ
+bodyHeld s starts p = getD s (getD starts p 0 + componentBody) 0
 
 module _ {d s starts : List ℕ} {n p : ℕ} (x : Running d s starts n) (l : p < n) where
   pub kind-inside : getD starts p 0 < length s
@@ -48,14 +48,14 @@ pub body-fits : {d s starts : List ℕ} {n p : ℕ} → Running d s starts n →
 body-fits x l = let i = body-inside x l in let all = hall-length (x .holds) in record { fits = omega arith }
 
 -- a component that is neither a transaction nor an output waits
-waits : {s starts : List ℕ} {n p : ℕ} → p < n → (kindOf s starts p ≡ transactionKind → ⊥) → (kindOf s starts p ≡ outputKind → ⊥) →
+waits : {s starts : List ℕ} {n p : ℕ} → p < n → (kindHeld s starts p ≡ transactionKind → ⊥) → (kindHeld s starts p ≡ outputKind → ⊥) →
     {ts : List Term} {h : Configuration} → Holds ts h s starts n →
-    (c : Component) × (getElem? (h .components) p ≡ some c) × Waiting ts (bodyOf s starts p) c
+    (c : Component) × (getElem? (h .components) p ≡ some c) × Waiting ts (bodyHeld s starts p) c
 unfolding componentBytes
 waits {s} {starts} {n} {p} l noTransaction noOutput x =
     let (c, e) = component-at x p l in (c, e, waiting-here x p c e (go c (kind-here x p c e)))
   where
-    go : (c : Component) → kindOf s starts p ≡ getD (componentBytes c) 0 0 → kindOf s starts p ≡ waitingKind
+    go : (c : Component) → kindHeld s starts p ≡ getD (componentBytes c) 0 0 → kindHeld s starts p ≡ waitingKind
     go (idle (taking m a P)) e = e
     go (idle (repeating m a P)) e = e
     go (idle (block m M)) e = e
@@ -75,56 +75,56 @@ module _ {d s starts : List ℕ} {n p : ℕ} where
   nothing-read l = record { found = λ ts h y x. no-component x p l }
 
   module _ (l : p < n) where
-    pub transaction-read : kindOf s starts p ≡ transactionKind → OccupantRead d s starts n p Transaction
+    pub transaction-read : kindHeld s starts p ≡ transactionKind → OccupantRead d s starts n p Transaction
     transaction-read k = record {
       found = λ ts h y x.
           let (c, e) = component-at x p l in
           let (M, σ, t, same) = transaction-here x p c e k in
-          (bodyOf s starts p, M, σ, t, e ∙ ap some same);
+          (bodyHeld s starts p, M, σ, t, e ∙ ap some same);
     }
 
-    pub output-read : kindOf s starts p ≡ outputKind → OccupantRead d s starts n p (Output (bodyOf s starts p))
+    pub output-read : kindHeld s starts p ≡ outputKind → OccupantRead d s starts n p (Output (bodyHeld s starts p))
     output-read k = record {
       found = λ ts h y x.
           let (c, e) = component-at x p l in e ∙ ap some (output-here x p c e k);
     }
 
     -- one that is neither waits
-    module _ (noTransaction : kindOf s starts p ≡ transactionKind → ⊥) (noOutput : kindOf s starts p ≡ outputKind → ⊥) where
+    module _ (noTransaction : kindHeld s starts p ≡ transactionKind → ⊥) (noOutput : kindHeld s starts p ≡ outputKind → ⊥) where
       -- it has the number of a term
-      pub waiting-term : {i : ℕ} → Running d s starts n → i ≡ bodyOf s starts p → i < maxTerms
+      pub waiting-term : {i : ℕ} → Running d s starts n → i ≡ bodyHeld s starts p → i < maxTerms
       waiting-term {i} x e = go (waits l noTransaction noOutput (x .holds) .2)
         where
-          below : (t : Term) → getElem? (x .terms) (bodyOf s starts p) ≡ some t → bodyOf s starts p < maxTerms
+          below : (t : Term) → getElem? (x .terms) (bodyHeld s starts p) ≡ some t → bodyHeld s starts p < maxTerms
           below t f =
-              let b = found-below (x .terms) (bodyOf s starts p) t f in
+              let b = found-below (x .terms) (bodyHeld s starts p) t f in
               let few = x .decoded .good .few in omega arith
 
-          go : {c : Component} → Waiting (x .terms) (bodyOf s starts p) c → i < maxTerms
+          go : {c : Component} → Waiting (x .terms) (bodyHeld s starts p) c → i < maxTerms
           go (takes a P q f) = rw e (below _ f)
           go (repeats a P q f) = rw e (below _ f)
           go (blocks M q f) = rw e (below _ f)
 
       -- and is told by the kind of that term
-      module _ {i k : ℕ} (named : i ≡ bodyOf s starts p) (read : k ≡ kindAt d i) where
+      module _ {i k : ℕ} (named : i ≡ bodyHeld s starts p) (read : k ≡ kindAt d i) where
         pub block-read : k ≡ kindByte atomK → OccupantRead d s starts n p Block
         unfolding termKind
         block-read is = record { found = λ ts h y x. let (c, e, w) = waits l noTransaction noOutput x in go h y e w }
           where
             go : {ts : List Term} (h : Configuration) → Decoded ts d → {c : Component} → getElem? (h .components) p ≡ some c →
-                Waiting ts (bodyOf s starts p) c → (m : ℕ) × (M : Expression) × (getElem? (h .components) p ≡ some (idle (block m M)))
-            go h y e (takes a P q f) = absurd (let z = kind-read (bodyOf s starts p) named read y _ f in omega arith)
-            go h y e (repeats a P q f) = absurd (let z = kind-read (bodyOf s starts p) named read y _ f in omega arith)
-            go h y e (blocks M q f) = (bodyOf s starts p, M, e ∙ ap some q)
+                Waiting ts (bodyHeld s starts p) c → (m : ℕ) × (M : Expression) × (getElem? (h .components) p ≡ some (idle (block m M)))
+            go h y e (takes a P q f) = absurd (let z = kind-read (bodyHeld s starts p) named read y _ f in omega arith)
+            go h y e (repeats a P q f) = absurd (let z = kind-read (bodyHeld s starts p) named read y _ f in omega arith)
+            go h y e (blocks M q f) = (bodyHeld s starts p, M, e ∙ ap some q)
 
-        pub take-read : (k ≡ kindByte atomK → ⊥) → OccupantRead d s starts n p (Take (bodyOf s starts p))
+        pub take-read : (k ≡ kindByte atomK → ⊥) → OccupantRead d s starts n p (Take (bodyHeld s starts p))
         unfolding termKind
         take-read other = record { found = λ ts h y x. let (c, e, w) = waits l noTransaction noOutput x in go h y e w }
           where
             go : {ts : List Term} (h : Configuration) → Decoded ts d → {c : Component} → getElem? (h .components) p ≡ some c →
-                Waiting ts (bodyOf s starts p) c →
+                Waiting ts (bodyHeld s starts p) c →
                 (b : Bool) × (a : Name) × (P : Program) ×
-                (getElem? (h .components) p ≡ some (idle (takeOf b (bodyOf s starts p) a P)))
+                (getElem? (h .components) p ≡ some (idle (takeOf b (bodyHeld s starts p) a P)))
             go h y e (takes a P q f) = (false, a, P, e ∙ ap some q)
             go h y e (repeats a P q f) = (true, a, P, e ∙ ap some q)
-            go h y e (blocks M q f) = absurd (other (kind-read (bodyOf s starts p) named read y _ f))
+            go h y e (blocks M q f) = absurd (other (kind-read (bodyHeld s starts p) named read y _ f))
