@@ -25,7 +25,7 @@ ghost use Rattle.semantics.specs.Definitions.Report.{printedRun};
 ghost use Rattle.decimals.specs.Wrote.{Wrote};
 ghost use Rattle.counters.specs.Counted.{countersOf};
 ghost use Rattle.schedule.specs.Entries.{entryOf};
-ghost use Rattle.report.specs.Limits.{linesMost};
+ghost use Rattle.sections.specs.Limits.{linesMost};
 ghost use Rattle.ruonfidd.specs.Answered.{VerdictSet, VerdictAnswered, OpeningAnswered, tallyWords, countersIn, buffersIn, RunSet, StepSet, RunAnswered, StepAnswered, choiceWords, SuggestionSet, SuggestionAnswered};
 
 // A number to return, with its place set.
