@@ -33,11 +33,9 @@ ghost use Rattle.ruonfidd.specs.Answered.{VerdictAnswered, OpeningAnswer
 pub extern "C" fn ruonfidd_check_table(table: &[u8], place: &mut usize) -> u8
     ensures { λ r. ⌜ VerdictAnswered (checkTable (now (table .entry))) r (now (place .exit)) ⌝ }
 {
+    *place = 0;
     match table::check_table(table) {
-        TableVerdict::Accepted => {
-            *place = 0;
-            0
-        }
+        TableVerdict::Accepted => 0,
         TableVerdict::Refused { number, place: at } => {
             *place = at;
             number
@@ -52,11 +50,9 @@ pub extern "C" fn ruonfidd_open_hall(table: &[u8], hall: &mut [u8], place: &mut 
     ensures { λ r. ⌜ OpeningAnswered (openHall (now (table .entry)) (now (hall .entry)))
         r (now (place .exit)) (now (hall .exit)) ⌝ }
 {
+    *place = 0;
     match engine::open_hall(table, hall) {
-        OpenAnswer::Opened(_) => {
-            *place = 0;
-            0
-        }
+        OpenAnswer::Opened(_) => 0,
         OpenAnswer::Refused { number, place: at } => {
             *place = at;
             number
@@ -69,11 +65,9 @@ pub extern "C" fn ruonfidd_open_hall(table: &[u8], hall: &mut [u8], place: &mut 
 pub extern "C" fn ruonfidd_check_hall(table: &[u8], hall: &[u8], place: &mut usize) -> u8
     ensures { λ r. ⌜ VerdictAnswered (checkHall (now (table .entry)) (now (hall .entry))) r (now (place .exit)) ⌝ }
 {
+    *place = 0;
     match engine::check_hall(table, hall) {
-        HallVerdict::WellFormed => {
-            *place = 0;
-            0
-        }
+        HallVerdict::WellFormed => 0,
         HallVerdict::Refused { number, place: at } => {
             *place = at;
             number
@@ -190,20 +184,16 @@ pub extern "C" fn ruonfidd_suggest(
     ensures { λ r. ⌜ SuggestionAnswered (now (table .entry)) (now (hall .entry)) r (now (place .exit))
         (now (choice .exit)) ⌝ }
 {
+    *place = 0;
+    *choice = [0, 0, 0];
     match engine::suggest(table, hall) {
         SuggestAnswer::Suggested(entry) => {
-            *place = 0;
             *choice = choice_of(entry);
             0
         }
-        SuggestAnswer::Still => {
-            *place = 0;
-            *choice = [0, 0, 0];
-            0
-        }
+        SuggestAnswer::Still => 0,
         SuggestAnswer::Refused { number, place: at } => {
             *place = at;
-            *choice = [0, 0, 0];
             number
         }
     }
