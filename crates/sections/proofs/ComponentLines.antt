@@ -191,6 +191,10 @@ module _ (s starts : List ℕ) (n p : ℕ) (st : ComponentsHeld s starts n) (the
     pub one-fits : (letter : ℕ) → at + length (numberLine letter (y ∷ 0 ∷ 0 ∷ []) 1) ≤ length out
     one-fits letter = let l = one-short letter y body-byte in omega arith
 
+    pub two-fits : (letter k top : ℕ) → top ≡ maxNodes → k ≤ top →
+        at + length (numberLine letter (y ∷ k ∷ 0 ∷ []) 2) ≤ length out
+    two-fits letter k top fifteen few = let l = two-short letter y k body-byte (omega arith) in omega arith
+
     pub output-printed : (kind : ℕ) → kind ≡ getD s (getD starts p 0) 0 → kind ≡ outputKind → (out₁ : List ℕ) (r : ℕ) →
         Wrote out at (numberLine 80 (y ∷ 0 ∷ 0 ∷ []) 1) out₁ r → ComponentPrinted s starts n p out at out₁ r
     unfolding componentLine
@@ -218,9 +222,6 @@ module _ (s starts : List ℕ) (n p : ℕ) (st : ComponentsHeld s starts n) (the
     module _ (kind : ℕ) (k : kind ≡ getD s (getD starts p 0) 0) (a : kind ≡ outputKind → ⊥) (o : kind ≡ waitingKind → ⊥)
         (w : Walk) (u : w ≡ passed s maxNodes 1 (getD starts p 0 + transactionHead)) (top : ℕ)
         (fifteen : top ≡ maxNodes) where
-      pub two-fits : (letter : ℕ) → at + length (numberLine letter (y ∷ (top - w .left) ∷ 0 ∷ []) 2) ≤ length out
-      two-fits letter = let l = two-short letter y (top - w .left) body-byte (omega arith) in omega arith
-
       pub transaction-printed : (out₁ : List ℕ) (r : ℕ) →
           Wrote out at (numberLine 65 (y ∷ (top - w .left) ∷ 0 ∷ []) 2) out₁ r →
           ComponentPrinted s starts n p out at out₁ r

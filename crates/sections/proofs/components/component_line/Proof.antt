@@ -1,6 +1,7 @@
 -- Printing the line of a component meets its contract.
 -- Assumes nothing.
 use borrow.Author.Needs.{needs}
+use native.Mathlib.Nat.{sub-le}
 use Rattle.sections.proofs.ComponentLines.{body-fits, tree-fits, one-fits, output-printed, waiting-printed, walk-inside, left-few, two-fits, transaction-printed}
 use Rattle.sections.proofs.components.component_line.Statement.{statement}
 use Rattle.sections.proofs.components.component_line.Tie as tie
@@ -60,7 +61,7 @@ wide-requires-4 : tie.Need-wide-requires-4
 wide-requires-4 c κs = search needs
 
 write-line-requires-3 : tie.Need-write-line-requires-3
-write-line-requires-3 c κs = (search needs, search two-fits)
+write-line-requires-3 c κs = (search needs, search (two-fits, sub-le, left-few))
 
 same-length-3 : tie.Need-same-length-3
 same-length-3 c = search needs
