@@ -87,7 +87,8 @@ fn tally_of(counters: Counters) -> [u32; 3]
 pub extern "C" fn ruonfidd_fresh_tally(tally: &mut [u32; 3])
     ensures { λ _. ⌜ now (tally .exit) ≡ tallyWords freshCounters ⌝ }
 {
-    *tally = tally_of(Counters::fresh());
+    let fresh = Counters::fresh();
+    *tally = tally_of(fresh);
 }
 
 // The counters that a lent tally holds.
