@@ -15,7 +15,7 @@ ghost use Rattle.stored.specs.Layout.{channels as Layout·channels, hallBytes};
 ghost use Rattle.sections.specs.Limits.{linesMost};
 ghost use Rattle.report.specs.Runs.{HallPrinted, RunPrinted};
 
-// The lines of a run behind which a hall is not held yet. One that a run left behind is never refused.
+// The lines of a run whose last hall is not held yet. One that a run left behind is never refused.
 fn print_hall(table: &[u8], hall: &[u8], first: &[u8], totals: RunTotals, out: &mut [u8]) -> usize
     requires { ⌜ (Layout·channels ≤ length (now first)) × (linesMost ≤ length (now out)) ⌝ }
     ensures { λ r. ⌜ HallPrinted (now (table .entry)) (now (hall .entry)) (now (first .entry)) totals

@@ -1,10 +1,10 @@
-// The engine's calls for C and Rust: every name begins with ruonfidd_. include/ruonfidd.h declares them for C and says in
-// plain words what each answers and what its caller owes.
+// The engine's calls for C and Rust: every name begins with ruonfidd_. include/ruonfidd.h declares them for C and says
+// in plain words what each answers and what its caller owes.
 //
-// A `&[u8]` is passed as a pointer and a length, a `&mut` of a number or of an array as a pointer to what the call sets.
-// An enum does not pass to C: a call returns the number, 0 for none, and sets the rest in every case. A tally is three
-// numbers: commits, failed, retries; runs and steps count on from what it holds. A suggestion is three bytes: kind,
-// position, node.
+// A `&[u8]` is passed as a pointer and a length, a `&mut` of a number or of an array as a pointer to what the call
+// sets. An enum does not pass to C: a call returns the number, 0 for none, and sets the rest in every case. A tally is
+// three numbers: commits, failed, retries; runs and steps count on from what it holds. A suggestion is three bytes:
+// kind, position, node.
 use counters::Counters;
 use engine::HallVerdict;
 use engine::OpenAnswer;
@@ -126,7 +126,8 @@ pub extern "C" fn ruonfidd_run(
 }
 
 // Makes one choice: 0, with the rule by which it moved and the choice's length as the place; or the number of the
-// refusal and its place, with rule 0, and hall and tally as they were. Of a choice of kind 1 the node counts for nothing.
+// refusal and its place, with rule 0, and hall and tally as they were. Of a choice of kind 1 the node counts for
+// nothing.
 #[no_mangle]
 pub extern "C" fn ruonfidd_step(
     table: &[u8],

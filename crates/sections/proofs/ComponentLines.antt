@@ -205,7 +205,8 @@ module _ (s starts : List ℕ) (n p : ℕ) (st : ComponentsHeld s starts n) (the
     }
 
     pub waiting-printed : (kind : ℕ) → kind ≡ getD s (getD starts p 0) 0 → kind ≡ waitingKind →
-        (out₁ : List ℕ) (r : ℕ) → Wrote out at (numberLine 87 (y ∷ 0 ∷ 0 ∷ []) 1) out₁ r → ComponentPrinted s starts n p out at out₁ r
+        (out₁ : List ℕ) (r : ℕ) → Wrote out at (numberLine 87 (y ∷ 0 ∷ 0 ∷ []) 1) out₁ r →
+        ComponentPrinted s starts n p out at out₁ r
     unfolding componentLine
     waiting-printed kind k f out₁ r w = record { found = λ ts h c x e. go ts c (waiting-here x p c e (sym k ∙ f)) }
       where
