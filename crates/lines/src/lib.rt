@@ -1,5 +1,5 @@
-// The lines of a printed run (document 01, "The printed run"), written into bytes: a letter, numbers behind a space each,
-// and a newline. Each function answers the offset behind what it has written.
+// The lines of a printed run (document 01, "The printed run"), written into bytes: a letter, numbers behind a space
+// each, and a newline. Each function answers the offset behind what it has written.
 use buffer::wide;
 use decimals::write_byte;
 use decimals::write_decimal;

@@ -18,8 +18,9 @@ use Rattle.theorems.proofs.PrintedRun.{printed-long, printed-refused, printed-a
 use Rattle.stored.specs.Layout.{hallBytes}
 use Rattle.buffer.specs.Splice.{written}
 use Rattle.index.proofs.Holding.{slice-bytes}
-use Rattle.report.specs.Limits.{linesMost}
-use Rattle.report.specs.Printed.{Printed, TableUpTo}
+use Rattle.sections.specs.Limits.{linesMost}
+use Rattle.sections.specs.Printed.{Printed}
+use Rattle.report.specs.Tables.{TableUpTo}
 use Rattle.report.specs.Runs.{RunPrinted}
 
 pub long-written : (input out out₁ : List ℕ) → maxInput < length input →

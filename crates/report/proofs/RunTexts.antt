@@ -1,14 +1,12 @@
--- The text of a run: its lines together, for a hall that is held, for one that a run left behind, and for a table that
--- is opened.
+-- The text of a run: for a hall that it left behind, and for a table that is opened.
 -- Assumes nothing.
-use Prim.Native.Nat.{ℕ, zero, suc, _+_, _≤_}
+use Prim.Native.Nat.{ℕ, suc}
 use native.Mathlib.Omega.{arith}
 use mathlib.Core.Path.{_≡_, refl, sym, ap, _∙_}
 use mathlib.Core.Bool.{Bool, true, false}
 use mathlib.Core.Option.{Option, none, some, bind}
-use mathlib.Core.List.{List, [], _∷_, _++_, map, flatten, append-assoc, append-nil}
-use lib.ListN.{length, take, drop, replicate, length-replicate}
-use lib.Seq.{take-all, length-take-le}
+use mathlib.Core.List.{List}
+use lib.ListN.{length, take, drop}
 use lib.Dec.{leb}
 use borrow.Author.Tests.{eq-eqb}
 use Rattle.semantics.specs.Definitions.Basics.{onlyIf}
@@ -18,14 +16,12 @@ use Rattle.semantics.specs.Definitions.Configuration.{Component, Configuration}
 use Rattle.semantics.specs.Definitions.Stored.{splitBytes, componentsFrom, configurationOf}
 use Rattle.semantics.specs.Definitions.Run as run
 use Rattle.semantics.specs.Definitions.Calls.{admitted, formTested, sizeTested, tableTested, admission, notOpened, openTested, openHall, RunCall, runCall}
-use Rattle.semantics.specs.Definitions.Report.{runLine, countersLine, channelLines, componentLine, lines}
+use Rattle.semantics.specs.Definitions.Report.{runLine, lines}
 use Rattle.stored.specs.Layout.{channels, hallBytes}
-use Rattle.buffer.specs.Splice.{written}
 use Rattle.counters.specs.declared.Counters.{Counters}
 use Rattle.counters.specs.Counted.{countersOf}
 use Rattle.runs.specs.declared.RunAnswer.{RunAnswer}
 use Rattle.runs.specs.Answers.{runCallOf}
-use Rattle.index.proofs.Holding.{hall-length, counts-here}
 use Rattle.admission.specs.declared.Admission.{Admission}
 use Rattle.admission.specs.declared.Admission.the-variants as admit
 use Rattle.admission.specs.Answers.{Held, AdmissionIs}
@@ -33,49 +29,13 @@ use Rattle.engine.specs.declared.opens.OpenAnswer.{OpenAnswer}
 use Rattle.engine.specs.declared.opens.OpenAnswer.the-variants as answer
 use Rattle.engine.specs.Answers.{openAnswerOf, openingOf, buffersOf}
 use Rattle.engine.proofs.Admitted.{admitted-hall, refused-hall}
-use Rattle.report.specs.declared.totals.RunTotals.{RunTotals}
-use Rattle.report.specs.Limits.{runMost, countersMost, channelsMost, componentsMost, linesMost}
-use Rattle.report.specs.Printed.{Printed, ComponentsHeld, ComponentsPrinted}
-use Rattle.report.specs.Runs.{callOf, answerOf, TotalsAre, LinesPrinted, HallPrinted, RunPrinted}
-use Rattle.report.proofs.Texts.{printed-more, printed-wider}
-
--- ---- a hall that is held
-
-pub hall-long : (s starts : List ℕ) (n : ℕ) → ComponentsHeld s starts n → channels ≤ length s
-hall-long s starts n st = let l = hall-length (st .holds) in omega arith
-
-regrouped : (a b c d : List ℕ) → ((a ++ b) ++ c) ++ d ≡ a ++ (b ++ (c ++ d))
-regrouped a b c d = append-assoc (a ++ b) c d ∙ append-assoc a b (c ++ d)
-
-lines-are : (f : Configuration) (a : run.RunAnswer) (c : List ℕ) →
-    channelLines 0 (f .counts) (a .configuration .counts) ≡ c →
-    lines f a
-    ≡ ((runLine (a .number) (a .place) (a .done) ++ countersLine (a .counters)) ++ c)
-    ++ flatten (map componentLine (a .configuration .components))
-unfolding lines
-lines-are f a c e =
-    let v = runLine (a .number) (a .place) (a .done) in
-    let w = countersLine (a .counters) in
-    let y = flatten (map componentLine (a .configuration .components)) in
-    ap (λ x. v ++ (w ++ (x ++ y))) e ∙ sym (regrouped v w c y)
-
-module _ (s starts : List ℕ) (n : ℕ) (first : List ℕ) (o : RunTotals) (out₀ out₁ out₂ out₃ out₄ : List ℕ)
-    (i₁ i₂ i₃ i₄ : ℕ) where
-  pub lines-printed : linesMost ≤ length out₀ →
-      Printed runMost out₀ 0 (runLine (o .number) (o .place) (o .done)) out₁ i₁ →
-      Printed countersMost out₁ i₁ (countersLine (countersOf (o .counters))) out₂ i₂ →
-      Printed channelsMost out₂ i₂ (channelLines 0 (take channels first) (take channels s)) out₃ i₃ →
-      ComponentsPrinted s starts n out₃ i₃ out₄ i₄ →
-      LinesPrinted s starts n first o out₀ out₄ i₄
-  lines-printed room a b c d = record {
-    found = λ ts f l e x.
-        let ab = printed-more a countersMost _ out₂ i₂ (omega arith) b in
-        let abc = printed-more ab channelsMost _ out₃ i₃ (omega arith) c in
-        let abcd = printed-more abc componentsMost _ out₄ i₄ (omega arith) (d .found ts l x) in
-        let counts =
-        ap (λ y. channelLines 0 y (l .counts)) e ∙ ap (channelLines 0 (take channels first)) (sym (counts-here x)) in
-        rw (lines-are f (answerOf o l) _ counts) abcd;
-  }
+use Rattle.sections.specs.declared.totals.RunTotals.{RunTotals}
+use Rattle.sections.specs.Limits.{runMost, linesMost}
+use Rattle.sections.specs.Printed.{Printed, ComponentsHeld}
+use Rattle.sections.specs.Totals.{callOf, TotalsAre, LinesPrinted}
+use Rattle.sections.proofs.Texts.{printed-wider}
+use Rattle.sections.proofs.Counts.{front-again}
+use Rattle.report.specs.Runs.{HallPrinted, RunPrinted}
 
 -- ---- a hall that is admitted
 
@@ -106,31 +66,8 @@ module _ (d table s starts : List ℕ) (a : Admission) (w : AdmissionIs a d s st
           let z : _≡_ {A = ℕ} 0 1 = cc in absurd (omega arith);
     }
 
--- ---- counts
+-- ---- the counts of a configuration that is read
 
-front-short : (n : ℕ) (s : List ℕ) → length (take n s) ≤ n
-front-short zero s = omega arith
-front-short (suc n) [] = omega arith
-front-short (suc n) (x ∷ s) = let l = front-short n s in omega arith
-
-pub front-size : (s : List ℕ) → channels ≤ length s → channels ≡ length (take channels s)
-front-size s l = sym (length-take-le channels s l)
-
-pub front-fits : (s : List ℕ) → channels ≤ length s →
-    0 + length (take channels s) ≤ length {A = ℕ} (replicate channels 0)
-front-fits s l = let a = front-size s l in let b = length-replicate {A = ℕ} channels 0 in omega arith
-
-pub front-written : (s r : List ℕ) → channels ≤ length s →
-    r ≡ written (replicate channels 0) 0 (take channels s) (length (take channels s)) → r ≡ take channels s
-unfolding written
-front-written s r l e =
-    let v = take channels s in
-    let zeros : List ℕ = replicate channels 0 in
-    let begun : r ≡ (take 0 zeros ++ take (length v) v) ++ drop (0 + length v) zeros = e in
-    begun ∙ ap (λ n. (take 0 zeros ++ take n v) ++ drop (0 + n) zeros) (sym (front-size s l))
-    ∙ append-nil (take channels v) ∙ take-all channels v (front-short channels s)
-
--- those of a configuration that is read
 counts-read : (ts : List Term) (s : List ℕ) (h : Configuration) → configurationOf ts s ≡ some h →
     h .counts ≡ take channels s
 unfolding configurationOf splitBytes bind onlyIf
@@ -189,7 +126,7 @@ module _ (table choices hall₀ hall₁ : List ℕ) (a : OpenAnswer) (w : openin
         ∙ ap (λ h. runCall table (record { hall = h; counters = y .tally }) choices) bytes ∙ y .runs in
         let counts : y .first .counts ≡ take channels first =
         counts-read (t .terms) _ (y .first) (y .first-read) ∙ ap (take channels) (sym bytes)
-        ∙ sym (take-all channels (take channels hall₁) (front-short channels hall₁)) ∙ ap (take channels) (sym f) in
+        ∙ sym (front-again hall₁) ∙ ap (take channels) (sym f) in
         let stored : configurationOf (t .terms) hall₂ ≡ some (y .last) =
         ap (λ k. configurationOf (t .terms) (k .buffers .hall)) call ∙ y .last-read in
         let p = x .found t (y .first) (y .last) reads counts size stored in

@@ -21,7 +21,7 @@ use Rattle.records.specs.Shapes.{bodyOf}
 use Rattle.records.specs.Parsing.{WholeRecord, ShortRecord, ParsedAs}
 use Rattle.records.proofs.Shapes.{body-of-kind}
 use Rattle.tablelaws.proofs.KindBytes.{kind-at}
-use Rattle.report.specs.Printed.{TableUpTo}
+use Rattle.report.specs.Tables.{TableUpTo}
 
 -- ---- one record
 

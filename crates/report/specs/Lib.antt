@@ -1,3 +1,2 @@
-pub mod Limits
-pub mod Printed
+pub mod Tables
 pub mod Runs

@@ -1,10 +1,7 @@
 // The printed run (document 01, "The printed run"): from the bytes of an input, a table and the choices behind it, to
 // the bytes of its text.
-mod channels;
-mod components;
 mod printing;
 mod tables;
-mod totals;
 
 use buffer::write_at;
 use stored::HALL_SIZE;
@@ -12,8 +9,8 @@ ghost use Prim.Native.Nat.{_≤_};
 ghost use lib.ListN.{length};
 ghost use Rattle.semantics.specs.Definitions.Report.{printedRun};
 ghost use Rattle.decimals.specs.Wrote.{Wrote};
-ghost use Rattle.report.specs.Limits.{linesMost, outputSize};
-ghost use Rattle.report.specs.Printed.{Printed};
+ghost use Rattle.sections.specs.Limits.{linesMost};
+ghost use Rattle.sections.specs.Printed.{Printed};
 
 // The bytes that a report is written into. No report is longer: none has more than 947 bytes.
 pub const OUTPUT: usize = 1024;
@@ -26,7 +23,7 @@ const LONG: [u8; 5] = *b"long\n";
 
 // The report on an input, from offset 0 on: the answer is how many bytes it has.
 fn write_report(input: &[u8], out: &mut [u8]) -> usize
-    requires { ⌜ outputSize ≤ length (now out) ⌝ }
+    requires { ⌜ linesMost ≤ length (now out) ⌝ }
     ensures { λ r. ⌜ Printed linesMost (now (out .entry)) 0 (printedRun (now (input .entry))) (now (out .exit)) r ⌝ }
 {
     if MAX_INPUT < input.len() {

@@ -1,7 +1,7 @@
 // Where the table of an input ends.
 use records::Parsed;
 use records::START;
-ghost use Rattle.report.specs.Printed.{TableUpTo};
+ghost use Rattle.report.specs.Tables.{TableUpTo};
 
 // The offset behind the first start record, which is found by stepping over records; the input's length where none is
 // found. No record is tested on the way.

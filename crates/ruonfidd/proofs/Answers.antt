@@ -15,29 +15,32 @@ use Rattle.engine.specs.declared.opens.OpenAnswer.the-variants as answer
 use Rattle.engine.specs.Answers.{hallVerdictOf, openAnswerOf, openingOf}
 use Rattle.ruonfidd.specs.Answered.{VerdictSet, VerdictAnswered, OpeningAnswered}
 
-module _ (v : Verdict) (a : TableVerdict) (e : verdictOf a ≡ v) (r set : ℕ) where
-  pub accepted-answered : a ≡ table.Accepted → VerdictSet 0 0 r set → VerdictAnswered v r set
+as-they-are : (n p : ℕ) → VerdictSet n p n p
+as-they-are n p = record { number = refl; place = refl }
+
+module _ (v : Verdict) (a : TableVerdict) (e : verdictOf a ≡ v) where
+  pub accepted-answered : a ≡ table.Accepted → VerdictAnswered v 0 0
   unfolding verdictOf
-  accepted-answered h t = rw (← e, h) t
+  accepted-answered h = rw (← e, h) (as-they-are _ _)
 
-  pub refused-answered : (n p : ℕ) → a ≡ table.Refused n p → VerdictSet n p r set → VerdictAnswered v r set
+  pub refused-answered : (n p : ℕ) → a ≡ table.Refused n p → VerdictAnswered v n p
   unfolding verdictOf
-  refused-answered n p h t = rw (← e, h) t
+  refused-answered n p h = rw (← e, h) (as-they-are _ _)
 
-module _ (v : Verdict) (a : HallVerdict) (e : hallVerdictOf a ≡ v) (r set : ℕ) where
-  pub well-formed-answered : a ≡ hall.WellFormed → VerdictSet 0 0 r set → VerdictAnswered v r set
+module _ (v : Verdict) (a : HallVerdict) (e : hallVerdictOf a ≡ v) where
+  pub well-formed-answered : a ≡ hall.WellFormed → VerdictAnswered v 0 0
   unfolding hallVerdictOf
-  well-formed-answered h t = rw (← e, h) t
+  well-formed-answered h = rw (← e, h) (as-they-are _ _)
 
-  pub malformed-answered : (n p : ℕ) → a ≡ hall.Refused n p → VerdictSet n p r set → VerdictAnswered v r set
+  pub malformed-answered : (n p : ℕ) → a ≡ hall.Refused n p → VerdictAnswered v n p
   unfolding hallVerdictOf
-  malformed-answered n p h t = rw (← e, h) t
+  malformed-answered n p h = rw (← e, h) (as-they-are _ _)
 
-module _ (o : Opening) (a : OpenAnswer) (bytes : List ℕ) (e : openingOf a bytes ≡ o) (r set : ℕ) where
-  pub opened-answered : (c : Counters) → a ≡ answer.Opened c → VerdictSet 0 0 r set → OpeningAnswered o r set bytes
+module _ (o : Opening) (a : OpenAnswer) (bytes : List ℕ) (e : openingOf a bytes ≡ o) where
+  pub opened-answered : (c : Counters) → a ≡ answer.Opened c → OpeningAnswered o 0 0 bytes
   unfolding openAnswerOf openVerdict
-  opened-answered c h t = rw (← e, h) (record { verdict = t; bytes = refl })
+  opened-answered c h = rw (← e, h) (record { verdict = as-they-are _ _; bytes = refl })
 
-  pub not-opened-answered : (n p : ℕ) → a ≡ answer.Refused n p → VerdictSet n p r set → OpeningAnswered o r set bytes
+  pub not-opened-answered : (n p : ℕ) → a ≡ answer.Refused n p → OpeningAnswered o n p bytes
   unfolding openAnswerOf openVerdict
-  not-opened-answered n p h t = rw (← e, h) (record { verdict = t; bytes = refl })
+  not-opened-answered n p h = rw (← e, h) (record { verdict = as-they-are _ _; bytes = refl })

@@ -19,7 +19,8 @@ pub zero-table : (table : List ℕ) (set : ℕ) → VerdictAnswered (checkTable 
 unfolding RefusalNumbers
 zero-table table = zero-ok (checkTable table) (λ n p e. refusal-numbers table table n p .0 e .0)
 
-pub zero-hall : (table hall : List ℕ) (set : ℕ) → VerdictAnswered (checkHall table hall) 0 set → checkHall table hall ≡ ok
+pub zero-hall : (table hall : List ℕ) (set : ℕ) → VerdictAnswered (checkHall table hall) 0 set →
+    checkHall table hall ≡ ok
 unfolding RefusalNumbers
 zero-hall table hall = zero-ok (checkHall table hall) (λ n p e. refusal-numbers table hall n p .2 e .0)
 

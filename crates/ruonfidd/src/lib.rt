@@ -1,20 +1,20 @@
-// The engine's calls for C and Rust: every name begins with ruonfidd_. include/ruonfidd.h declares them for C and says in
-// plain words what each answers and what its caller owes.
+// The engine's calls for C and Rust: every name begins with ruonfidd_. include/ruonfidd.h declares them for C and says
+// in plain words what each answers and what its caller owes.
 //
-// A `&[u8]` is passed as a pointer and a length, a `&mut` of a number or of an array as a pointer to what the call sets.
-// An enum does not pass to C: a call returns the number, 0 for none, and sets the rest in every case. A tally is three
-// numbers: commits, failed, retries; runs and steps count on from what it holds. A suggestion is three bytes: kind,
-// position, node.
+// A `&[u8]` is passed as a pointer and a length, a `&mut` of a number or of an array as a pointer to what the call
+// sets. An enum does not pass to C: a call returns the number, 0 for none, and sets the rest in every case. A tally is
+// three numbers: commits, failed, retries; runs and steps count on from what it holds. A suggestion is three bytes:
+// kind, position, node.
 use counters::Counters;
 use engine::HallVerdict;
 use engine::OpenAnswer;
-use engine::RunAnswer;
 use engine::StepAnswer;
 use engine::SuggestAnswer;
 use report::OUTPUT;
 use schedule::Entry;
 use schedule::KIND_ACT;
 use schedule::KIND_INSIDE;
+use sections::totals_of;
 use table::TableVerdict;
 ghost use mathlib.Core.Path.{_≡_};
 ghost use mathlib.Core.List.{[], _∷_};
@@ -25,25 +25,21 @@ ghost use Rattle.semantics.specs.Definitions.Report.{printedRun};
 ghost use Rattle.decimals.specs.Wrote.{Wrote};
 ghost use Rattle.counters.specs.Counted.{countersOf};
 ghost use Rattle.schedule.specs.Entries.{entryOf};
-ghost use Rattle.report.specs.Limits.{linesMost};
-ghost use Rattle.ruonfidd.specs.Answered.{VerdictSet, VerdictAnswered, OpeningAnswered, tallyWords, countersIn, buffersIn, RunSet, StepSet, RunAnswered, StepAnswered, choiceWords, SuggestionSet, SuggestionAnswered};
-
-// A number to return, with its place set.
-fn answer(place: &mut usize, number: u8, at: usize) -> u8
-    ensures { λ r. ⌜ VerdictSet number at r (now (place .exit)) ⌝ }
-{
-    *place = at;
-    number
-}
+ghost use Rattle.sections.specs.Limits.{linesMost};
+ghost use Rattle.ruonfidd.specs.Answered.{VerdictAnswered, OpeningAnswered, tallyWords, countersIn, buffersIn, RunAnswered, StepAnswered, choiceWords, SuggestionAnswered};
 
 // Whether a table is accepted: 0, and place 0; or the number of the first refusal, and its place.
 #[no_mangle]
 pub extern "C" fn ruonfidd_check_table(table: &[u8], place: &mut usize) -> u8
     ensures { λ r. ⌜ VerdictAnswered (checkTable (now (table .entry))) r (now (place .exit)) ⌝ }
 {
+    *place = 0;
     match table::check_table(table) {
-        TableVerdict::Accepted => answer(place, 0, 0),
-        TableVerdict::Refused { number, place: at } => answer(place, number, at),
+        TableVerdict::Accepted => 0,
+        TableVerdict::Refused { number, place: at } => {
+            *place = at;
+            number
+        }
     }
 }
 
@@ -54,9 +50,13 @@ pub extern "C" fn ruonfidd_open_hall(table: &[u8], hall: &mut [u8], place: &mut 
     ensures { λ r. ⌜ OpeningAnswered (openHall (now (table .entry)) (now (hall .entry)))
         r (now (place .exit)) (now (hall .exit)) ⌝ }
 {
+    *place = 0;
     match engine::open_hall(table, hall) {
-        OpenAnswer::Opened(_) => answer(place, 0, 0),
-        OpenAnswer::Refused { number, place: at } => answer(place, number, at),
+        OpenAnswer::Opened(_) => 0,
+        OpenAnswer::Refused { number, place: at } => {
+            *place = at;
+            number
+        }
     }
 }
 
@@ -65,10 +65,21 @@ pub extern "C" fn ruonfidd_open_hall(table: &[u8], hall: &mut [u8], place: &mut 
 pub extern "C" fn ruonfidd_check_hall(table: &[u8], hall: &[u8], place: &mut usize) -> u8
     ensures { λ r. ⌜ VerdictAnswered (checkHall (now (table .entry)) (now (hall .entry))) r (now (place .exit)) ⌝ }
 {
+    *place = 0;
     match engine::check_hall(table, hall) {
-        HallVerdict::WellFormed => answer(place, 0, 0),
-        HallVerdict::Refused { number, place: at } => answer(place, number, at),
+        HallVerdict::WellFormed => 0,
+        HallVerdict::Refused { number, place: at } => {
+            *place = at;
+            number
+        }
     }
+}
+
+// Counters as the numbers of a tally.
+fn tally_of(counters: Counters) -> [u32; 3]
+    ensures { λ r. ⌜ r ≡ tallyWords (countersOf counters) ⌝ }
+{
+    [counters.commits, counters.failed, counters.retries]
 }
 
 // The fresh tally: what the first run after an opening is lent.
@@ -77,7 +88,7 @@ pub extern "C" fn ruonfidd_fresh_tally(tally: &mut [u32; 3])
     ensures { λ _. ⌜ now (tally .exit) ≡ tallyWords freshCounters ⌝ }
 {
     let fresh = Counters::fresh();
-    *tally = [fresh.commits, fresh.failed, fresh.retries];
+    *tally = tally_of(fresh);
 }
 
 // The counters that a lent tally holds.
@@ -89,25 +100,6 @@ fn counters_in(tally: &[u32; 3]) -> Counters
         failed: tally[1],
         retries: tally[2],
     }
-}
-
-// What a run answers: the number to return, and all else that it sets.
-fn run_answer(
-    place: &mut usize,
-    done: &mut usize,
-    tally: &mut [u32; 3],
-    number: u8,
-    at: usize,
-    count: usize,
-    counters: Counters,
-) -> u8
-    ensures { λ r. ⌜ RunSet number at count (countersOf counters) r (now (place .exit)) (now (done .exit))
-        (now (tally .exit)) ⌝ }
-{
-    *place = at;
-    *done = count;
-    *tally = [counters.commits, counters.failed, counters.retries];
-    number
 }
 
 // Runs choices: 0, with their length as the place; or the number of the refusal, and its place. `done` is how many
@@ -125,42 +117,17 @@ pub extern "C" fn ruonfidd_run(
         (runCall (now (table .entry)) (buffersIn (now (hall .entry)) (now (tally .entry))) (now (choices .entry)))
         r (now (place .exit)) (now (done .exit)) (now (hall .exit)) (now (tally .exit)) ⌝ }
 {
-    match engine::run(table, hall, choices, counters_in(tally)) {
-        RunAnswer::Completed {
-            place: at,
-            done: count,
-            counters,
-        } => run_answer(place, done, tally, 0, at, count, counters),
-        RunAnswer::Refused {
-            number,
-            place: at,
-            done: count,
-            counters,
-        } => run_answer(place, done, tally, number, at, count, counters),
-    }
-}
-
-// What a step answers: the number to return, and all else that it sets.
-fn step_answer(
-    place: &mut usize,
-    rule: &mut u8,
-    tally: &mut [u32; 3],
-    number: u8,
-    at: usize,
-    by: u8,
-    counters: Counters,
-) -> u8
-    ensures { λ r. ⌜ StepSet number at by (countersOf counters) r (now (place .exit)) (now (rule .exit))
-        (now (tally .exit)) ⌝ }
-{
-    *place = at;
-    *rule = by;
-    *tally = [counters.commits, counters.failed, counters.retries];
-    number
+    let told = totals_of(engine::run(table, hall, choices, counters_in(tally)));
+    let counters = told.counters;
+    *place = told.place;
+    *done = told.done;
+    *tally = tally_of(counters);
+    told.number
 }
 
 // Makes one choice: 0, with the rule by which it moved and the choice's length as the place; or the number of the
-// refusal and its place, with rule 0, and hall and tally as they were. Of a choice of kind 1 the node counts for nothing.
+// refusal and its place, with rule 0, and hall and tally as they were. Of a choice of kind 1 the node counts for
+// nothing.
 #[no_mangle]
 pub extern "C" fn ruonfidd_step(
     table: &[u8],
@@ -176,15 +143,23 @@ pub extern "C" fn ruonfidd_step(
         (stepCall (now (table .entry)) (buffersIn (now (hall .entry)) (now (tally .entry))) kind position node)
         r (now (place .exit)) (now (rule .exit)) (now (hall .exit)) (now (tally .exit)) ⌝ }
 {
-    match engine::step(table, hall, kind, position, node, counters_in(tally)) {
+    let before = counters_in(tally);
+    match engine::step(table, hall, kind, position, node, before) {
         StepAnswer::Moved {
             rule: by,
             place: at,
             counters,
-        } => step_answer(place, rule, tally, 0, at, by, counters),
+        } => {
+            *place = at;
+            *rule = by;
+            *tally = tally_of(counters);
+            0
+        }
         StepAnswer::Refused { number, place: at } => {
-            let same = counters_in(tally);
-            step_answer(place, rule, tally, number, at, 0, same)
+            *place = at;
+            *rule = 0;
+            *tally = tally_of(before);
+            number
         }
     }
 }
@@ -199,21 +174,6 @@ fn choice_of(entry: Entry) -> [u8; 3]
     }
 }
 
-// What a suggestion answers: the number to return, and all else that it sets.
-fn suggest_answer(
-    choice: &mut [u8; 3],
-    place: &mut usize,
-    number: u8,
-    at: usize,
-    words: [u8; 3],
-) -> u8
-    ensures { λ r. ⌜ SuggestionSet number at words r (now (place .exit)) (now (choice .exit)) ⌝ }
-{
-    *place = at;
-    *choice = words;
-    number
-}
-
 // Suggests a choice that is accepted, any one of them: 0, place 0, and the choice; kind 0 where no choice is accepted.
 // Or the number of the refusal and its place, and kind 0. What is not said is 0.
 #[no_mangle]
@@ -226,11 +186,17 @@ pub extern "C" fn ruonfidd_suggest(
     ensures { λ r. ⌜ SuggestionAnswered (now (table .entry)) (now (hall .entry)) r (now (place .exit))
         (now (choice .exit)) ⌝ }
 {
+    *place = 0;
+    *choice = [0, 0, 0];
     match engine::suggest(table, hall) {
-        SuggestAnswer::Suggested(entry) => suggest_answer(choice, place, 0, 0, choice_of(entry)),
-        SuggestAnswer::Still => suggest_answer(choice, place, 0, 0, [0, 0, 0]),
+        SuggestAnswer::Suggested(entry) => {
+            *choice = choice_of(entry);
+            0
+        }
+        SuggestAnswer::Still => 0,
         SuggestAnswer::Refused { number, place: at } => {
-            suggest_answer(choice, place, number, at, [0, 0, 0])
+            *place = at;
+            number
         }
     }
 }

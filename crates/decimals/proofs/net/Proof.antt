@@ -12,10 +12,10 @@ cast-result-2 : tie.Need-cast-result-2
 cast-result-2 c = search needs
 
 sub-result : tie.Need-sub-result
-sub-result c = difference-fits _ _ (c .fits .last) (c .fits .first)
+sub-result c = search difference-fits
 
 returns : tie.Need-returns
-returns c = difference-net _ _ (c .fits .last) (c .fits .first)
+returns c = search difference-net
 
 pub net-spec : {M : Type 1} → statement M
 net-spec = tie.close (tie.spec cast-result cast-result-2 sub-result returns)

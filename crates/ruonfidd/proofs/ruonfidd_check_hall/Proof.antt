@@ -1,7 +1,7 @@
 -- `ruonfidd_check_hall` meets its contract: the cases of the verdict are answered as a number and a place.
 -- Assumes nothing.
-use Rattle.ruonfidd.proofs.Answers.{well-formed-answered, malformed-answered}
 use borrow.Author.Needs.{needs}
+use Rattle.ruonfidd.proofs.Answers.{well-formed-answered, malformed-answered}
 use Rattle.ruonfidd.proofs.ruonfidd_check_hall.Statement.{statement}
 use Rattle.ruonfidd.proofs.ruonfidd_check_hall.Tie as tie
 
@@ -11,14 +11,8 @@ check-hall-requires c κs = search needs
 enum-told : tie.Need-enum-told
 enum-told c = search needs
 
-answer-requires : tie.Need-answer-requires
-answer-requires c κs = search needs
-
 enum-known-number : tie.Need-enum-known-number
 enum-known-number c = search needs
-
-answer-requires-2 : tie.Need-answer-requires-2
-answer-requires-2 c κs = search needs
 
 returns : tie.Need-returns
 returns c = search well-formed-answered
@@ -32,8 +26,6 @@ ruonfidd-check-hall-spec =
     (tie.spec
     check-hall-requires
     enum-told
-    answer-requires
     enum-known-number
-    answer-requires-2
     returns
     returns-2)

@@ -1,7 +1,7 @@
 -- `ruonfidd_check_table` meets its contract: the cases of the verdict are answered as a number and a place.
 -- Assumes nothing.
-use Rattle.ruonfidd.proofs.Answers.{accepted-answered, refused-answered}
 use borrow.Author.Needs.{needs}
+use Rattle.ruonfidd.proofs.Answers.{accepted-answered, refused-answered}
 use Rattle.ruonfidd.proofs.ruonfidd_check_table.Statement.{statement}
 use Rattle.ruonfidd.proofs.ruonfidd_check_table.Tie as tie
 
@@ -11,14 +11,8 @@ check-table-requires c κs = search needs
 enum-told : tie.Need-enum-told
 enum-told c = search needs
 
-answer-requires : tie.Need-answer-requires
-answer-requires c κs = search needs
-
 enum-known-number : tie.Need-enum-known-number
 enum-known-number c = search needs
-
-answer-requires-2 : tie.Need-answer-requires-2
-answer-requires-2 c κs = search needs
 
 returns : tie.Need-returns
 returns c = search accepted-answered
@@ -32,8 +26,6 @@ ruonfidd-check-table-spec =
     (tie.spec
     check-table-requires
     enum-told
-    answer-requires
     enum-known-number
-    answer-requires-2
     returns
     returns-2)

@@ -1,7 +1,7 @@
 -- `ruonfidd_open_hall` meets its contract: the cases of the answer are answered as a number and a place.
 -- Assumes nothing.
-use Rattle.ruonfidd.proofs.Answers.{opened-answered, not-opened-answered}
 use borrow.Author.Needs.{needs}
+use Rattle.ruonfidd.proofs.Answers.{opened-answered, not-opened-answered}
 use Rattle.ruonfidd.proofs.ruonfidd_open_hall.Statement.{statement}
 use Rattle.ruonfidd.proofs.ruonfidd_open_hall.Tie as tie
 
@@ -11,14 +11,8 @@ open-hall-requires c κs = search needs
 enum-told : tie.Need-enum-told
 enum-told c = search needs
 
-answer-requires : tie.Need-answer-requires
-answer-requires c κs = search needs
-
 enum-known-number : tie.Need-enum-known-number
 enum-known-number c = search needs
-
-answer-requires-2 : tie.Need-answer-requires-2
-answer-requires-2 c κs = search needs
 
 same-length : tie.Need-same-length
 same-length c = search needs
@@ -38,9 +32,7 @@ ruonfidd-open-hall-spec =
     (tie.spec
     open-hall-requires
     enum-told
-    answer-requires
     enum-known-number
-    answer-requires-2
     same-length
     returns
     same-length-2

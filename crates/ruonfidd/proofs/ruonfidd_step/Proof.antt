@@ -1,4 +1,4 @@
--- `ruonfidd_step` meets its contract: the cases of the answer are set as numbers.
+-- `ruonfidd_step` meets its contract: what the call answers is set as numbers.
 -- Assumes nothing.
 use borrow.Author.Needs.{needs}
 use Rattle.ruonfidd.proofs.Choices.{step-moved, step-refused}
@@ -14,17 +14,14 @@ step-requires c κs = search needs
 enum-known-by : tie.Need-enum-known-by
 enum-known-by c = search needs
 
-step-answer-requires : tie.Need-step-answer-requires
-step-answer-requires c κs = search needs
+tally-of-requires : tie.Need-tally-of-requires
+tally-of-requires c κs = search needs
 
 enum-known-number : tie.Need-enum-known-number
 enum-known-number c = search needs
 
-counters-in-requires-2 : tie.Need-counters-in-requires-2
-counters-in-requires-2 c κs = search needs
-
-step-answer-requires-2 : tie.Need-step-answer-requires-2
-step-answer-requires-2 c κs = search needs
+tally-of-requires-2 : tie.Need-tally-of-requires-2
+tally-of-requires-2 c κs = search needs
 
 same-length : tie.Need-same-length
 same-length c = search needs
@@ -45,10 +42,9 @@ ruonfidd-step-spec =
     counters-in-requires
     step-requires
     enum-known-by
-    step-answer-requires
+    tally-of-requires
     enum-known-number
-    counters-in-requires-2
-    step-answer-requires-2
+    tally-of-requires-2
     same-length
     returns
     same-length-2

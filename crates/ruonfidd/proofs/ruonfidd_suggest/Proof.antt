@@ -1,4 +1,4 @@
--- `ruonfidd_suggest` meets its contract: the cases of the answer are set as numbers.
+-- `ruonfidd_suggest` meets its contract: what the call answers is set as numbers.
 -- Assumes nothing.
 use borrow.Author.Needs.{needs}
 use Rattle.ruonfidd.proofs.Choices.{suggestion-made, suggestion-still, suggestion-refused}
@@ -14,20 +14,11 @@ enum-known-entry c = search needs
 choice-of-requires : tie.Need-choice-of-requires
 choice-of-requires c κs = search needs
 
-suggest-answer-requires : tie.Need-suggest-answer-requires
-suggest-answer-requires c κs = search needs
-
 enum-told : tie.Need-enum-told
 enum-told c = search needs
 
-suggest-answer-requires-2 : tie.Need-suggest-answer-requires-2
-suggest-answer-requires-2 c κs = search needs
-
 enum-known-number : tie.Need-enum-known-number
 enum-known-number c = search needs
-
-suggest-answer-requires-3 : tie.Need-suggest-answer-requires-3
-suggest-answer-requires-3 c κs = search needs
 
 returns : tie.Need-returns
 returns c = search suggestion-made
@@ -45,11 +36,8 @@ ruonfidd-suggest-spec =
     suggest-requires
     enum-known-entry
     choice-of-requires
-    suggest-answer-requires
     enum-told
-    suggest-answer-requires-2
     enum-known-number
-    suggest-answer-requires-3
     returns
     returns-2
     returns-3)

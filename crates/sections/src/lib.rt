@@ -1,0 +1,41 @@
+// The sections of a printed run (document 01, "The printed run"): the line of the run, of its counters, those of the
+// channels (trays), those of the components (stations).
+mod channels;
+mod components;
+mod totals;
+
+use channels::channel_lines;
+pub use channels::counts_of;
+use components::component_lines;
+use stored::INDEX_SIZE;
+pub use totals::RunTotals;
+use totals::counters_line;
+pub use totals::run_line;
+pub use totals::totals_of;
+ghost use Prim.Native.Nat.{_≤_};
+ghost use lib.ListN.{length};
+ghost use Rattle.semantics.specs.Definitions.Layout.{channels as Layout·channels};
+ghost use Rattle.sections.specs.Limits.{linesMost};
+ghost use Rattle.sections.specs.Printed.{ComponentsHeld};
+ghost use Rattle.sections.specs.Totals.{LinesPrinted};
+
+// The lines of a run whose last hall is held, all sections in order: the answer is the offset behind them.
+pub fn print_lines(
+    hall: &[u8],
+    starts: &[usize; INDEX_SIZE],
+    components: usize,
+    first: &[u8],
+    totals: RunTotals,
+    out: &mut [u8],
+) -> usize
+    requires { ⌜ ComponentsHeld (now hall) (now starts) components × (Layout·channels ≤ length (now first))
+        × (linesMost ≤ length (now out)) ⌝ }
+    ensures { λ r. ⌜ LinesPrinted (now (hall .entry)) (now (starts .entry)) components (now (first .entry)) totals
+        (now (out .entry)) (now (out .exit)) r ⌝ }
+{
+    let counters = totals.counters;
+    let answered = run_line(out, totals.number, totals.place, totals.done);
+    let counted = counters_line(out, answered, counters);
+    let netted = channel_lines(out, counted, first, hall);
+    component_lines(hall, starts, components, out, netted)
+}

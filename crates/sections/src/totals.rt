@@ -1,0 +1,77 @@
+// What a run answers, as numbers, and the lines of these numbers.
+use buffer::wide;
+use counters::Counters;
+use lines::LETTER_COUNTERS;
+use lines::LETTER_RUN;
+use lines::write_line;
+use runs::RunAnswer;
+ghost use Prim.Native.Nat.{_+_, _≤_};
+ghost use lib.ListN.{length};
+ghost use Rattle.semantics.specs.Definitions.Report.{runLine, countersLine};
+ghost use Rattle.counters.specs.Counted.{countersOf};
+ghost use Rattle.sections.specs.Limits.{runMost, countersMost};
+ghost use Rattle.sections.specs.Printed.{Printed};
+ghost use Rattle.sections.specs.Totals.{TotalsAre, CounterIs};
+
+// Number 0 stands for a run that was completed.
+pub struct RunTotals {
+    pub number: u8,
+    pub place: usize,
+    pub done: usize,
+    pub counters: Counters,
+}
+
+pub fn totals_of(answer: RunAnswer) -> RunTotals
+    ensures { λ r. ⌜ TotalsAre answer r ⌝ }
+{
+    match answer {
+        RunAnswer::Completed {
+            place,
+            done,
+            counters,
+        } => RunTotals {
+            number: 0,
+            place,
+            done,
+            counters,
+        },
+        RunAnswer::Refused {
+            number,
+            place,
+            done,
+            counters,
+        } => RunTotals {
+            number,
+            place,
+            done,
+            counters,
+        },
+    }
+}
+
+// The first line.
+pub fn run_line(out: &mut [u8], number: u8, place: usize, done: usize) -> usize
+    requires { ⌜ runMost ≤ length (now out) ⌝ }
+    ensures { λ r. ⌜ Printed runMost (now (out .entry)) 0 (runLine number place done) (now (out .exit)) r ⌝ }
+{
+    write_line(out, 0, LETTER_RUN, [wide(number), place, done], 3)
+}
+
+// A counter as a number to print.
+fn wide_counter(n: u32) -> usize
+    ensures { λ r. ⌜ CounterIs n r ⌝ }
+{
+    n as usize
+}
+
+// The line of the counters.
+pub fn counters_line(out: &mut [u8], at: usize, counters: Counters) -> usize
+    requires { ⌜ at + countersMost ≤ length (now out) ⌝ }
+    ensures { λ r. ⌜ Printed countersMost (now (out .entry)) at (countersLine (countersOf counters))
+        (now (out .exit)) r ⌝ }
+{
+    let commits = wide_counter(counters.commits);
+    let failed = wide_counter(counters.failed);
+    let retries = wide_counter(counters.retries);
+    write_line(out, at, LETTER_COUNTERS, [commits, failed, retries], 3)
+}
