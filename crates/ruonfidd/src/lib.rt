@@ -117,12 +117,12 @@ pub extern "C" fn ruonfidd_run(
         (runCall (now (table .entry)) (buffersIn (now (hall .entry)) (now (tally .entry))) (now (choices .entry)))
         r (now (place .exit)) (now (done .exit)) (now (hall .exit)) (now (tally .exit)) ⌝ }
 {
-    let told = totals_of(engine::run(table, hall, choices, counters_in(tally)));
-    let counters = told.counters;
-    *place = told.place;
-    *done = told.done;
+    let totals = totals_of(engine::run(table, hall, choices, counters_in(tally)));
+    let counters = totals.counters;
+    *place = totals.place;
+    *done = totals.done;
     *tally = tally_of(counters);
-    told.number
+    totals.number
 }
 
 // Makes one choice: 0, with the rule by which it moved and the choice's length as the place; or the number of the
