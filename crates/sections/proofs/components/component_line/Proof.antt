@@ -61,7 +61,7 @@ wide-requires-4 : tie.Need-wide-requires-4
 wide-requires-4 c κs = search needs
 
 write-line-requires-3 : tie.Need-write-line-requires-3
-write-line-requires-3 c κs = (search needs, search (two-fits, sub-le, left-few))
+write-line-requires-3 c κs = (search needs, search (two-fits, sub-le))
 
 same-length-3 : tie.Need-same-length-3
 same-length-3 c = search needs
