@@ -12,26 +12,19 @@ use Rattle.buffer.specs.Splice.{written}
 use Rattle.terms.specs.Decoded.{firstAt, secondAt}
 use Rattle.stored.specs.Layout.{leafSize, leafTerm, leafLogLength, leafLog, forkKind, forkSize, writeOffset}
 use Rattle.index.specs.Holds.{CanAlter, Altered}
-use Rattle.transactions.specs.Bytes.{termAt, sizeAt, Actionable, logged, actionLogged, forkBytes, leftSize}
+use Rattle.transactions.specs.Bytes.{termAt, sizeAt, logged, forkBytes, leftSize}
 
 -- ---- ARDOK and AWR
 
-pub logged-is : (s : List ℕ) (at next action w : ℕ) → w ≡ sizeAt s at →
+pub next-is : (d s : List ℕ) (at t next : ℕ) → t ≡ termAt s at → next ≡ secondAt d t → next ≡ secondAt d (termAt s at)
+next-is d s at t next term second = second ∙ rw term
+
+pub logged-is : (d s : List ℕ) (at next action w : ℕ) → next ≡ secondAt d (termAt s at) → w ≡ sizeAt s at →
     set (set (set s (at + leafTerm) next) (at + leafLogLength) (sizeAt s at + 1)) (at + leafLog + w) action
-    ≡ logged s at next action
+    ≡ logged d s at action
 unfolding logged
-logged-is s at next action w e = let z : at + leafLog + w ≡ at + (leafLog + sizeAt s at) = omega arith in rw z
-
--- an action's byte is a byte
-pub action-fits : (d s : List ℕ) (at t first offset : ℕ) → Actionable d s at → t ≡ termAt s at → first ≡ firstAt d t →
-    offset ≤ writeOffset → Fits w8 (offset + first)
-action-fits d s at t first offset x e f few =
-    let l = x .channel in let z : first ≡ firstAt d (termAt s at) = f ∙ rw e in omega arith
-
-pub action-logged-is : (d s s′ : List ℕ) (at t next first offset : ℕ) → t ≡ termAt s at → next ≡ secondAt d t →
-    first ≡ firstAt d t → s′ ≡ logged s at next (offset + first) → s′ ≡ actionLogged d s at offset
-unfolding actionLogged
-action-logged-is d s s′ at t next first offset term second channel e = e ∙ rw (second, channel, term)
+logged-is d s at next action w second size =
+    let z : at + leafLog + w ≡ at + (leafLog + sizeAt s at) = omega arith in rw (second, z)
 
 -- ---- copies
 

@@ -1,38 +1,143 @@
 -- `move_at` meets its contract. Assumes nothing.
-use Rattle.transactions.proofs.Making.{node-inside, left-present, leaf-held}
+use Rattle.transactions.proofs.Finding.{read-held, read-channel}
+use Rattle.transactions.proofs.Making.{held, present, snapshot-fits, read-can, fail-inside, read-moved, fail-moved, write-can, write-fits, write-moved, split-inside, split-can, split-moved, keep-inside, keep-can, keep-moved, drop-inside, drop-can, drop-moved, stays}
 use borrow.Author.Needs.{needs}
 use Rattle.transactions.proofs.move_at.Statement.{statement}
 use Rattle.transactions.proofs.move_at.Tie as tie
 
-slice-read-if1 : tie.Need-slice-read-if1
-slice-read-if1 c = search node-inside
+redex-at-requires : tie.Need-redex-at-requires
+redex-at-requires c κs = search present
 
-move-fork-requires : tie.Need-move-fork-requires
-move-fork-requires c κs = (search needs, (search left-present, search needs))
+enum-known-channel : tie.Need-enum-known-channel
+enum-known-channel c = search needs
+
+mul-transaction : tie.Need-mul-transaction
+mul-transaction c = search needs
+
+element-copy-out-transaction : tie.Need-element-copy-out-transaction
+element-copy-out-transaction c = search needs
+
+add-is-readable : tie.Need-add-is-readable
+add-is-readable c = search snapshot-fits
+
+is-readable-requires : tie.Need-is-readable-requires
+is-readable-requires c κs = (search (read-held, held), search (read-channel, held))
+
+add-log-action : tie.Need-add-log-action
+add-log-action c = search needs
+
+log-action-requires : tie.Need-log-action-requires
+log-action-requires c κs = search (read-can, held)
 
 same-length : tie.Need-same-length
 same-length c = search needs
 
 returns : tie.Need-returns
-returns c = search needs
+returns c = search read-moved
 
-move-leaf-requires : tie.Need-move-leaf-requires
-move-leaf-requires c κs = (search needs, search leaf-held)
+fail-read-requires : tie.Need-fail-read-requires
+fail-read-requires c κs = search (fail-inside, held)
+
+enum-known-channel-2 : tie.Need-enum-known-channel-2
+enum-known-channel-2 c = search needs
+
+add-log-action-2 : tie.Need-add-log-action-2
+add-log-action-2 c = search (write-fits, held)
+
+log-action-requires-2 : tie.Need-log-action-requires-2
+log-action-requires-2 c κs = search (write-can, held)
+
+enum-told : tie.Need-enum-told
+enum-told c = search needs
+
+split-requires : tie.Need-split-requires
+split-requires c κs = (search (split-inside, held), search split-can)
+
+enum-told-2 : tie.Need-enum-told-2
+enum-told-2 c = search needs
+
+keep-left-requires : tie.Need-keep-left-requires
+keep-left-requires c κs = (search (keep-inside, held), search keep-can)
+
+enum-told-3 : tie.Need-enum-told-3
+enum-told-3 c = search needs
+
+drop-left-requires : tie.Need-drop-left-requires
+drop-left-requires c κs = (search (drop-inside, held), search drop-can)
+
+enum-told-4 : tie.Need-enum-told-4
+enum-told-4 c = search needs
 
 same-length-2 : tie.Need-same-length-2
 same-length-2 c = search needs
 
 returns-2 : tie.Need-returns-2
-returns-2 c = search needs
+returns-2 c = search fail-moved
+
+same-length-3 : tie.Need-same-length-3
+same-length-3 c = search needs
+
+returns-3 : tie.Need-returns-3
+returns-3 c = search write-moved
+
+same-length-4 : tie.Need-same-length-4
+same-length-4 c = search needs
+
+returns-4 : tie.Need-returns-4
+returns-4 c = search split-moved
+
+same-length-5 : tie.Need-same-length-5
+same-length-5 c = search needs
+
+returns-5 : tie.Need-returns-5
+returns-5 c = search keep-moved
+
+same-length-6 : tie.Need-same-length-6
+same-length-6 c = search needs
+
+returns-6 : tie.Need-returns-6
+returns-6 c = search drop-moved
+
+same-length-7 : tie.Need-same-length-7
+same-length-7 c = search needs
+
+returns-7 : tie.Need-returns-7
+returns-7 c = search stays
 
 pub move-at-spec : {M : Type 1} → statement M
 move-at-spec =
     tie.close
     (tie.spec
-    slice-read-if1
-    move-fork-requires
+    redex-at-requires
+    enum-known-channel
+    mul-transaction
+    element-copy-out-transaction
+    add-is-readable
+    is-readable-requires
+    add-log-action
+    log-action-requires
     same-length
     returns
-    move-leaf-requires
+    fail-read-requires
+    enum-known-channel-2
+    add-log-action-2
+    log-action-requires-2
+    enum-told
+    split-requires
+    enum-told-2
+    keep-left-requires
+    enum-told-3
+    drop-left-requires
+    enum-told-4
     same-length-2
-    returns-2)
+    returns-2
+    same-length-3
+    returns-3
+    same-length-4
+    returns-4
+    same-length-5
+    returns-5
+    same-length-6
+    returns-6
+    same-length-7
+    returns-7)
