@@ -3,7 +3,7 @@
 use Prim.Native.Nat.{ℕ, _+_, _≤_, _<_}
 use native.Mathlib.Omega.{arith}
 use mathlib.Core.Path.{_≡_, refl, sym}
-use mathlib.Core.Bool.{Bool, true, false}
+use mathlib.Core.Bool.{Bool, true, false, cond}
 use mathlib.Core.List.{List, []}
 use lib.ListN.{length, getD, set}
 use mir.Syntax.{w8, w64}
@@ -25,12 +25,24 @@ use Rattle.transactions.specs.declared.redexes.Redex.{Redex}
 use Rattle.transactions.specs.declared.redexes.Redex.the-variants.{Read, Write, OrElse, LeftEnds, LeftRetries, Nothing}
 use Rattle.transactions.specs.Bytes.{termAt, logged, Loggable, forkBytes, Splittable, leftSize, leftBytes}
 use Rattle.transactions.specs.Finding.{ReadTested, RedexRead, NodeHeld, RuleRead}
-use Rattle.transactions.specs.Moving.{MoveAt, HasMoved, snapshotOf, NodeStands, NodeMoved}
+use Rattle.transactions.specs.Moving.{MoveAt, HasMoved, ReadMade, snapshotOf, NodeStands, NodeMoved}
 use Rattle.transactions.proofs.Reducing.{LeafAt, leaf-at, redex-here}
 use Rattle.transactions.proofs.Finding.{read-allowed, read-failed, read-rule, write-rule, or-else-rule, left-retries-rule, left-ends-rule, no-rule}
 use Rattle.transactions.proofs.Searching.{node-standing, search-read, found-moves}
 use Rattle.transactions.proofs.Moving.{move-inside}
 use Rattle.transactions.proofs.InnerMoves.{ardok-link, ardf-link, awr-link, aoi-link, aof-link, aoe-link}
+
+-- ---- a read, by its test
+
+module _ (d s : List ℕ) (snapshot at a : ℕ) (allowed : Bool) (tested : ReadTested s snapshot at a allowed) where
+  pub read-logged : (s′ : List ℕ) → allowed ≡ true → s′ ≡ logged d s at (readOffset + a) →
+      ReadMade d s snapshot at a (Moved 8) s′
+  read-logged s′ e b = record { allowed = true; tested = rw e at tested; reply = refl; bytes = b }
+
+  pub read-fails : allowed ≡ false → ReadMade d s snapshot at a (Moved 9) (set s (at + leafTerm) noRecord)
+  read-fails e = record { allowed = false; tested = rw e at tested; reply = refl; bytes = refl }
+
+-- ---- a node, by its redex
 
 module _ (d s starts : List ℕ) (n p at : ℕ) where
   -- a node that was found stands
@@ -80,29 +92,27 @@ module _ (d s starts : List ℕ) (n p at : ℕ) where
           let room = l .room in
           let size = l .size in record { inside = l .inside; term = l .fields .0; room = omega arith }
 
-      pub fail-inside : NodeHeld d s (snapshotOf starts p) at → at + leafSize ≤ length s
-      fail-inside x = read-can x .inside
-
-      module _ {r : Bool} (tested : ReadTested s (snapshotOf starts p) at a r) where
-        pub read-moved : r ≡ true → {s′ : List ℕ} → s′ ≡ logged d s at (readOffset + a) →
-            NodeMoved d s starts n p at (Moved 8) s′ starts
-        read-moved so {s′} b =
-            moved-by 8
-            (read-rule d s (snapshotOf starts p) at read is (read-allowed s (snapshotOf starts p) at a r tested so))
-            (record {
-              found = λ ts h k x.
-                  let (m, M, δ, was) = redex-here read is (move-inside x .stands) in rw b (ardok-link x was refl);
-            })
-
-        pub fail-moved : r ≡ false → {s′ : List ℕ} → s′ ≡ set s (at + leafTerm) noRecord →
-            NodeMoved d s starts n p at (Moved 9) s′ starts
-        fail-moved never {s′} b =
-            moved-by 9
-            (read-rule d s (snapshotOf starts p) at read is (read-failed s (snapshotOf starts p) at a r tested never))
-            (record {
-              found = λ ts h k x.
-                  let (m, M, δ, was) = redex-here read is (move-inside x .stands) in rw b (ardf-link x was refl);
-            })
+      pub read-moved : {r : Reply} {s′ : List ℕ} → ReadMade d s (snapshotOf starts p) at a r s′ →
+          NodeMoved d s starts n p at r s′ starts
+      read-moved {r} {s′} m = rw (m .reply) (go (m .allowed) (m .tested) (m .bytes))
+        where
+          go : (b : Bool) → ReadTested s (snapshotOf starts p) at a b →
+              s′ ≡ cond b (logged d s at (readOffset + a)) (set s (at + leafTerm) noRecord) →
+              NodeMoved d s starts n p at (Moved (cond b 8 9)) s′ starts
+          go true tested bytes =
+              moved-by 8
+              (read-rule d s (snapshotOf starts p) at read is (read-allowed s (snapshotOf starts p) at a true tested refl))
+              (record {
+                found = λ ts h k x.
+                    let (m, M, δ, was) = redex-here read is (move-inside x .stands) in rw bytes (ardok-link x was refl);
+              })
+          go false tested bytes =
+              moved-by 9
+              (read-rule d s (snapshotOf starts p) at read is (read-failed s (snapshotOf starts p) at a false tested refl))
+              (record {
+                found = λ ts h k x.
+                    let (m, M, δ, was) = redex-here read is (move-inside x .stands) in rw bytes (ardf-link x was refl);
+              })
 
     -- a write
     module _ {a : ℕ} (is : w ≡ Write a) where

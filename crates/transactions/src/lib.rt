@@ -13,14 +13,11 @@ use redexes::redex_at;
 use rules::AOE;
 use rules::AOF;
 use rules::AOI;
-use rules::ARDF;
-use rules::ARDOK;
 use rules::AWR;
 use rules::NO_RULE;
 use rules::Reply;
 use stored::IDLE_SIZE;
 use stored::INDEX_SIZE;
-use stored::READ_OFFSET;
 use stored::WRITE_OFFSET;
 use terms::DECODED;
 ghost use Rattle.transactions.specs.Finding.{NodeHeld, RuleRead};
@@ -58,12 +55,7 @@ pub fn move_at(
     match redex_at(decoded, hall, at) {
         Redex::Read { channel } => {
             let transaction = starts[position];
-            if reads::is_readable(hall, transaction + IDLE_SIZE, at, channel) {
-                actions::log_action(decoded, hall, at, READ_OFFSET + channel);
-                return Reply::Moved(ARDOK);
-            }
-            reads::fail_read(hall, at);
-            Reply::Moved(ARDF)
+            reads::make_read(decoded, hall, transaction + IDLE_SIZE, at, channel)
         }
         Redex::Write { channel } => {
             actions::log_action(decoded, hall, at, WRITE_OFFSET + channel);

@@ -1,6 +1,6 @@
 -- `move_at` meets its contract. Assumes nothing.
 use Rattle.transactions.proofs.Finding.{read-held, read-channel}
-use Rattle.transactions.proofs.Making.{held, present, snapshot-fits, read-can, fail-inside, read-moved, fail-moved, write-can, write-fits, write-moved, split-inside, split-can, split-moved, keep-inside, keep-can, keep-moved, drop-inside, drop-can, drop-moved, stays}
+use Rattle.transactions.proofs.Making.{held, present, snapshot-fits, read-can, read-moved, write-can, write-fits, write-moved, split-inside, split-can, split-moved, keep-inside, keep-can, keep-moved, drop-inside, drop-can, drop-moved, stays}
 use borrow.Author.Needs.{needs}
 use Rattle.transactions.proofs.move_at.Statement.{statement}
 use Rattle.transactions.proofs.move_at.Tie as tie
@@ -17,35 +17,20 @@ mul-transaction c = search needs
 element-copy-out-transaction : tie.Need-element-copy-out-transaction
 element-copy-out-transaction c = search needs
 
-add-is-readable : tie.Need-add-is-readable
-add-is-readable c = search snapshot-fits
+add-make-read : tie.Need-add-make-read
+add-make-read c = search snapshot-fits
 
-is-readable-requires : tie.Need-is-readable-requires
-is-readable-requires c κs = (search (read-held, held), search (read-channel, held))
-
-add-log-action : tie.Need-add-log-action
-add-log-action c = search needs
-
-log-action-requires : tie.Need-log-action-requires
-log-action-requires c κs = search (read-can, held)
-
-same-length : tie.Need-same-length
-same-length c = search needs
-
-returns : tie.Need-returns
-returns c = search read-moved
-
-fail-read-requires : tie.Need-fail-read-requires
-fail-read-requires c κs = search (fail-inside, held)
+make-read-requires : tie.Need-make-read-requires
+make-read-requires c κs = ((search (read-held, held), search (read-channel, held)), search (read-can, held))
 
 enum-known-channel-2 : tie.Need-enum-known-channel-2
 enum-known-channel-2 c = search needs
 
-add-log-action-2 : tie.Need-add-log-action-2
-add-log-action-2 c = search (write-fits, held)
+add-log-action : tie.Need-add-log-action
+add-log-action c = search (write-fits, held, needs)
 
-log-action-requires-2 : tie.Need-log-action-requires-2
-log-action-requires-2 c κs = search (write-can, held)
+log-action-requires : tie.Need-log-action-requires
+log-action-requires c κs = search (write-can, held)
 
 enum-told : tie.Need-enum-told
 enum-told c = search needs
@@ -68,41 +53,41 @@ drop-left-requires c κs = (search (drop-inside, held), search drop-can)
 enum-told-4 : tie.Need-enum-told-4
 enum-told-4 c = search needs
 
+same-length : tie.Need-same-length
+same-length c = search needs
+
+returns : tie.Need-returns
+returns c = search read-moved
+
 same-length-2 : tie.Need-same-length-2
 same-length-2 c = search needs
 
 returns-2 : tie.Need-returns-2
-returns-2 c = search fail-moved
+returns-2 c = search write-moved
 
 same-length-3 : tie.Need-same-length-3
 same-length-3 c = search needs
 
 returns-3 : tie.Need-returns-3
-returns-3 c = search write-moved
+returns-3 c = search split-moved
 
 same-length-4 : tie.Need-same-length-4
 same-length-4 c = search needs
 
 returns-4 : tie.Need-returns-4
-returns-4 c = search split-moved
+returns-4 c = search keep-moved
 
 same-length-5 : tie.Need-same-length-5
 same-length-5 c = search needs
 
 returns-5 : tie.Need-returns-5
-returns-5 c = search keep-moved
+returns-5 c = search drop-moved
 
 same-length-6 : tie.Need-same-length-6
 same-length-6 c = search needs
 
 returns-6 : tie.Need-returns-6
-returns-6 c = search drop-moved
-
-same-length-7 : tie.Need-same-length-7
-same-length-7 c = search needs
-
-returns-7 : tie.Need-returns-7
-returns-7 c = search stays
+returns-6 c = search stays
 
 pub move-at-spec : {M : Type 1} → statement M
 move-at-spec =
@@ -112,16 +97,11 @@ move-at-spec =
     enum-known-channel
     mul-transaction
     element-copy-out-transaction
-    add-is-readable
-    is-readable-requires
+    add-make-read
+    make-read-requires
+    enum-known-channel-2
     add-log-action
     log-action-requires
-    same-length
-    returns
-    fail-read-requires
-    enum-known-channel-2
-    add-log-action-2
-    log-action-requires-2
     enum-told
     split-requires
     enum-told-2
@@ -129,6 +109,8 @@ move-at-spec =
     enum-told-3
     drop-left-requires
     enum-told-4
+    same-length
+    returns
     same-length-2
     returns-2
     same-length-3
@@ -138,6 +120,4 @@ move-at-spec =
     same-length-5
     returns-5
     same-length-6
-    returns-6
-    same-length-7
-    returns-7)
+    returns-6)
