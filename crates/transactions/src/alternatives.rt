@@ -40,14 +40,14 @@ fn fork_bytes(decoded: &[u8; DECODED], hall: &[u8], at: usize) -> [u8; SPLIT_SIZ
     ensures { λ r. ⌜ r ≡ forkBytes (now (decoded .entry)) (now (hall .entry)) at ⌝ }
 {
     let term = wide(hall[at + LEAF_TERM]);
-    let mut left = leaf_bytes(hall, at);
-    left[LEAF_TERM] = terms::first_of(decoded, term);
-    let mut right = leaf_bytes(hall, at);
-    right[LEAF_TERM] = terms::second_of(decoded, term);
+    let end = at + LEAF_SIZE;
+    let leaf = &hall[at..end];
     let mut new = [0u8; SPLIT_SIZE];
-    write_at(&mut new, FORK_SIZE, &left);
-    write_at(&mut new, FORK_SIZE + LEAF_SIZE, &right);
+    write_at(&mut new, FORK_SIZE, leaf);
+    write_at(&mut new, LEFT_SIZE, leaf);
     new[0] = KIND_FORK;
+    new[FORK_SIZE + LEAF_TERM] = terms::first_of(decoded, term);
+    new[LEFT_SIZE + LEAF_TERM] = terms::second_of(decoded, term);
     new
 }
 
