@@ -54,8 +54,7 @@ pub fn move_at(
 {
     match redex_at(decoded, hall, at) {
         Redex::Read { channel } => {
-            let transaction = starts[position];
-            reads::make_read(decoded, hall, transaction + IDLE_SIZE, at, channel)
+            reads::make_read(decoded, hall, starts[position] + IDLE_SIZE, at, channel)
         }
         Redex::Write { channel } => {
             actions::log_action(decoded, hall, at, WRITE_OFFSET + channel);

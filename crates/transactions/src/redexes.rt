@@ -37,13 +37,14 @@ pub fn redex_at(decoded: &[u8; DECODED], hall: &[u8], at: usize) -> Redex
             _ => Redex::Nothing,
         };
     }
-    let term = hall[at + LEAF_TERM];
-    match expression_kind(decoded, term) {
+    let byte = hall[at + LEAF_TERM];
+    let term = wide(byte);
+    match expression_kind(decoded, byte) {
         RD => Redex::Read {
-            channel: terms::first_of(decoded, wide(term)),
+            channel: terms::first_of(decoded, term),
         },
         WT => Redex::Write {
-            channel: terms::first_of(decoded, wide(term)),
+            channel: terms::first_of(decoded, term),
         },
         OR_ELSE => Redex::OrElse,
         _ => Redex::Nothing,

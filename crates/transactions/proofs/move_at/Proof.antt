@@ -11,11 +11,11 @@ redex-at-requires c κs = search present
 enum-known-channel : tie.Need-enum-known-channel
 enum-known-channel c = search needs
 
-mul-transaction : tie.Need-mul-transaction
-mul-transaction c = search needs
+mul-make-read : tie.Need-mul-make-read
+mul-make-read c = search needs
 
-element-copy-out-transaction : tie.Need-element-copy-out-transaction
-element-copy-out-transaction c = search needs
+element-copy-out-make-read : tie.Need-element-copy-out-make-read
+element-copy-out-make-read c = search needs
 
 add-make-read : tie.Need-add-make-read
 add-make-read c = search snapshot-fits
@@ -95,8 +95,8 @@ move-at-spec =
     (tie.spec
     redex-at-requires
     enum-known-channel
-    mul-transaction
-    element-copy-out-transaction
+    mul-make-read
+    element-copy-out-make-read
     add-make-read
     make-read-requires
     enum-known-channel-2

@@ -24,23 +24,20 @@ returns-2 c = search left-retries
 returns-3 : tie.Need-returns-3
 returns-3 c = search fork-waits
 
-add-term : tie.Need-add-term
-add-term c = omega (arith, node-inside)
+add-byte : tie.Need-add-byte
+add-byte c = omega (arith, node-inside)
 
-shared-slice-read-term : tie.Need-shared-slice-read-term
-shared-slice-read-term c = search term-inside
-
-expression-kind-requires : tie.Need-expression-kind-requires
-expression-kind-requires c κs = search leaf-names
+shared-slice-read-byte : tie.Need-shared-slice-read-byte
+shared-slice-read-byte c = search term-inside
 
 wide-requires : tie.Need-wide-requires
 wide-requires c κs = search needs
 
+expression-kind-requires : tie.Need-expression-kind-requires
+expression-kind-requires c κs = search leaf-names
+
 first-of-requires : tie.Need-first-of-requires
 first-of-requires c κs = search read-term
-
-wide-requires-2 : tie.Need-wide-requires-2
-wide-requires-2 c κs = search needs
 
 first-of-requires-2 : tie.Need-first-of-requires-2
 first-of-requires-2 c κs = search write-term
@@ -67,12 +64,11 @@ redex-at-spec =
     returns
     returns-2
     returns-3
-    add-term
-    shared-slice-read-term
-    expression-kind-requires
+    add-byte
+    shared-slice-read-byte
     wide-requires
+    expression-kind-requires
     first-of-requires
-    wide-requires-2
     first-of-requires-2
     returns-4
     returns-5
