@@ -72,8 +72,8 @@ module _ {ts : List Term} {h : Configuration} {d s starts : List ℕ} {n p k rul
   Stored s′ = Holds ts (afterwards (answerTo h (inside p k)) h) s′ starts n
 
   -- one more action
-  action-link : (N N′ : Expression) (δ : Log) (α : Action) → i .subtree ≡ leaf N δ → i .becomes ≡ leaf N′ (δ ++ (α ∷ [])) →
-      length δ < logSize → secondAt d (termAt s at) ≡ number N′ → (c : ℕ) → c ≡ actionByte α → Stored (logged d s at c)
+  action-link : (N N′ : Expression) (δ : Log) (α : Action) → i .subtree ≡ leaf N δ →
+      i .becomes ≡ leaf N′ (δ ++ (α ∷ [])) → length δ < logSize → secondAt d (termAt s at) ≡ number N′ → (c : ℕ) → c ≡ actionByte α → Stored (logged d s at c)
   unfolding logged
   action-link N N′ δ α was is room next c action =
       let size = leaf-at (rw was at (i .stands)) .size in
@@ -139,7 +139,8 @@ module _ {ts : List Term} {h : Configuration} {d s starts : List ℕ} {n p k rul
       let size = leaf-bytes (orElseT m M N) δ (l .log .few) in
       let steps = rw was at (i .steps) in
       let is : i .becomes ≡ fork (leaf M δ) (leaf N δ) = cc in
-      let new : forkBytes d s at ≡ treeBytes (fork (leaf M δ) (leaf N δ)) = rw (leaf-here u, l .fields .1, l .fields .2) in
+      let new : forkBytes d s at ≡ treeBytes (fork (leaf M δ) (leaf N δ)) =
+      rw (leaf-here u, l .fields .1, l .fields .2) in
       part-link (treeBytes (leaf (orElseT m M N) δ)) (forkBytes d s at) []
       (ap treeBytes was ∙ sym (append-nil _)) (ap treeBytes is ∙ sym new ∙ sym (append-nil _)) (at + leafSize)
       (omega arith)

@@ -8,18 +8,19 @@ use mathlib.Core.List.{List, []}
 use lib.ListN.{length, getD, set}
 use mir.Syntax.{w8, w64}
 use mir.Val.{Fits}
-use Rattle.calculus.specs.Syntax.{Name, Log}
+use Rattle.calculus.specs.Syntax.{Log}
 use Rattle.semantics.specs.Definitions.Terms.{Expression, rdT, wtT, orElseT, Term, pathLength}
+use Rattle.semantics.specs.Definitions.Configuration.{Tree, leaf, fork, Configuration}
 use Rattle.terms.specs.Decoded.{channels, maxTerms}
 use Rattle.rules.specs.declared.Reply.{Reply}
 use Rattle.rules.specs.declared.Reply.the-variants.{Moved, Refused}
 use Rattle.stored.specs.declared.Place.the-variants.{At}
 use Rattle.stored.specs.Layout.{leafSize, leafTerm, logSize, noRecord, readOffset, writeOffset}
 use Rattle.stored.specs.Nodes.{treeEnd}
-use Rattle.index.specs.Holds.{CanAlter, Altered}
+use Rattle.index.specs.Holds.{Alters, CanAlter, Altered}
 use Rattle.index.proofs.Holding.{hall-length}
 use Rattle.logs.proofs.Places.{counts-held}
-use Rattle.leaves.specs.Leaves.{NodePresent}
+use Rattle.leaves.specs.Leaves.{TreeAt, NodePresent}
 use Rattle.leaves.proofs.Leaves.{left-at}
 use Rattle.transactions.specs.declared.redexes.Redex.{Redex}
 use Rattle.transactions.specs.declared.redexes.Redex.the-variants.{Read, Write, OrElse, LeftEnds, LeftRetries, Nothing}
@@ -30,7 +31,7 @@ use Rattle.transactions.proofs.Reducing.{LeafAt, leaf-at, redex-here}
 use Rattle.transactions.proofs.Finding.{read-allowed, read-failed, read-rule, write-rule, or-else-rule, left-retries-rule, left-ends-rule, no-rule}
 use Rattle.transactions.proofs.Searching.{node-standing, search-read, found-moves}
 use Rattle.transactions.proofs.Moving.{move-inside}
-use Rattle.transactions.proofs.InnerMoves.{ardok-link, ardf-link, awr-link, aoi-link, aof-link, aoe-link}
+use Rattle.transactions.proofs.InnerMoves.{after-move, ardok-link, ardf-link, awr-link, aoi-link, aof-link, aoe-link}
 
 -- ---- a read, by its test
 
@@ -41,6 +42,16 @@ module _ (d s : List ℕ) (snapshot at a : ℕ) (allowed : Bool) (tested : ReadT
 
   pub read-fails : allowed ≡ false → ReadMade d s snapshot at a (Moved 9) (set s (at + leafTerm) noRecord)
   read-fails e = record { allowed = false; tested = rw e at tested; reply = refl; bytes = refl }
+
+-- ---- what stands inside
+
+can-log : {ts : List Term} {M : Expression} {δ : Log} {d s : List ℕ} {at : ℕ} → LeafAt ts M δ d s at →
+    termAt s at < maxTerms → length δ < logSize → Loggable s at
+can-log l term room = let size = l .size in record { inside = l .inside; term = term; room = omega arith }
+
+left-inside : {ts : List Term} {M : Expression} {δ : Log} {r : Tree} {d s : List ℕ} {at : ℕ} →
+    TreeAt ts (fork (leaf M δ) r) d s at → at + leftSize ≤ length s
+left-inside x = let l = leaf-at (left-at x) .inside in omega arith
 
 -- ---- a node, by its redex
 
@@ -81,6 +92,24 @@ module _ (d s starts : List ℕ) (n p at : ℕ) where
     unchanged = λ m e. absurd (let z : _≡_ {A = ℕ} 0 1 = cc in omega arith);
   }
 
+  -- a part that gives way, whichever configuration is held
+  module _ (rule : ℕ) (rules : RuleRead d s (snapshotOf starts p) at (Moved rule)) {to : ℕ} {new : List ℕ}
+      (link : (ts : List Term) (h : Configuration) (k : ℕ) (x : MoveAt ts h d s starts n p k rule at) →
+      Alters ts h (after-move x) s starts n p at to new) where
+    part-can : NodeStands d s starts n p at → CanAlter s starts n p at to new
+    part-can x = record {
+      terms = x .terms;
+      configuration = x .configuration;
+      becomes = _;
+      alters = link (x .terms) (x .configuration) (x .node) (can-move x rule rules);
+    }
+
+    part-moved : {s′ starts′ : List ℕ} → Altered s starts n p at to new s′ starts′ →
+        NodeMoved d s starts n p at (Moved rule) s′ starts′
+    part-moved r =
+        moved-by rule rules
+        (record { found = λ ts h k x. rw (move-inside x .after) (r .found ts h _ (link ts h k x)) })
+
   module _ {w : Redex} (read : RedexRead d s at w) where
     -- a read
     module _ {a : ℕ} (is : w ≡ Read a) where
@@ -89,8 +118,7 @@ module _ (d s starts : List ℕ) (n p at : ℕ) where
       read-can x =
           let (m, M, δ, was) = redex-here read is (x .there .tree) in
           let l : LeafAt (x .terms) (rdT m a M) δ d s at = leaf-at (rw was at (x .there .tree)) in
-          let room = l .room in
-          let size = l .size in record { inside = l .inside; term = l .fields .0; room = omega arith }
+          let room = l .room in can-log l (l .fields .0) (omega arith)
 
       pub read-moved : {r : Reply} {s′ : List ℕ} → ReadMade d s (snapshotOf starts p) at a r s′ →
           NodeMoved d s starts n p at r s′ starts
@@ -101,14 +129,16 @@ module _ (d s starts : List ℕ) (n p at : ℕ) where
               NodeMoved d s starts n p at (Moved (cond b 8 9)) s′ starts
           go true tested bytes =
               moved-by 8
-              (read-rule d s (snapshotOf starts p) at read is (read-allowed s (snapshotOf starts p) at a true tested refl))
+              (read-rule d s (snapshotOf starts p) at read is
+              (read-allowed s (snapshotOf starts p) at a true tested refl))
               (record {
                 found = λ ts h k x.
                     let (m, M, δ, was) = redex-here read is (move-inside x .stands) in rw bytes (ardok-link x was refl);
               })
           go false tested bytes =
               moved-by 9
-              (read-rule d s (snapshotOf starts p) at read is (read-failed s (snapshotOf starts p) at a false tested refl))
+              (read-rule d s (snapshotOf starts p) at read is
+              (read-failed s (snapshotOf starts p) at a false tested refl))
               (record {
                 found = λ ts h k x.
                     let (m, M, δ, was) = redex-here read is (move-inside x .stands) in rw bytes (ardf-link x was refl);
@@ -121,8 +151,7 @@ module _ (d s starts : List ℕ) (n p at : ℕ) where
       written x =
           let (m, M, δ, was) = redex-here read is (x .there .tree) in
           let l : LeafAt (x .terms) (wtT m a M) δ d s at = leaf-at (rw was at (x .there .tree)) in
-          let room = l .room in
-          let size = l .size in (record { inside = l .inside; term = l .fields .0; room = omega arith }, l .fields .2)
+          let room = l .room in (can-log l (l .fields .0) (omega arith), l .fields .2)
 
       pub write-can : NodeHeld d s (snapshotOf starts p) at → Loggable s at
       write-can x = written x .0
@@ -147,67 +176,50 @@ module _ (d s starts : List ℕ) (n p at : ℕ) where
           let l : LeafAt (x .terms) (orElseT m M N) δ d s at = leaf-at (rw was at (x .there .tree)) in
           record { inside = l .inside; term = l .fields .0 }
 
+      split-link : (ts : List Term) (h : Configuration) (k : ℕ) (x : MoveAt ts h d s starts n p k 11 at) →
+          Alters ts h (after-move x) s starts n p at (at + leafSize) (forkBytes d s at)
+      split-link ts h k x = let (m, M, N, δ, was) = redex-here read is (move-inside x .stands) in aoi-link x was
+
       pub split-can : NodeStands d s starts n p at → CanAlter s starts n p at (at + leafSize) (forkBytes d s at)
-      split-can x =
-          let y = can-move x 11 (or-else-rule d s (snapshotOf starts p) at read is) in
-          let (m, M, N, δ, was) = redex-here read is (move-inside y .stands) in
-          record { terms = x .terms; configuration = x .configuration; becomes = _; alters = aoi-link y was }
+      split-can x = part-can 11 (or-else-rule d s (snapshotOf starts p) at read is) split-link x
 
       pub split-moved : {s′ starts′ : List ℕ} → Altered s starts n p at (at + leafSize) (forkBytes d s at) s′ starts′ →
           NodeMoved d s starts n p at (Moved 11) s′ starts′
-      split-moved {s′} {starts′} r =
-          moved-by 11 (or-else-rule d s (snapshotOf starts p) at read is)
-          (record {
-            found = λ ts h k x.
-                let (m, M, N, δ, was) = redex-here read is (move-inside x .stands) in
-                rw (move-inside x .after) (r .found ts h _ (aoi-link x was));
-          })
+      split-moved r = part-moved 11 (or-else-rule d s (snapshotOf starts p) at read is) split-link r
 
     -- a left side that says retry
     module _ (is : w ≡ LeftRetries) where
       pub drop-inside : NodeHeld d s (snapshotOf starts p) at → at + leftSize ≤ length s
       drop-inside x =
-          let (m, δ, r, was) = redex-here read is (x .there .tree) in
-          let l = leaf-at (left-at (rw was at (x .there .tree))) .inside in omega arith
+          let (m, δ, r, was) = redex-here read is (x .there .tree) in left-inside (rw was at (x .there .tree))
+
+      drop-link : (ts : List Term) (h : Configuration) (k : ℕ) (x : MoveAt ts h d s starts n p k 12 at) →
+          Alters ts h (after-move x) s starts n p at (at + leftSize) []
+      drop-link ts h k x = let (m, δ, r, was) = redex-here read is (move-inside x .stands) in aof-link x was
 
       pub drop-can : NodeStands d s starts n p at → CanAlter s starts n p at (at + leftSize) []
-      drop-can x =
-          let y = can-move x 12 (left-retries-rule d s (snapshotOf starts p) at read is) in
-          let (m, δ, r, was) = redex-here read is (move-inside y .stands) in
-          record { terms = x .terms; configuration = x .configuration; becomes = _; alters = aof-link y was }
+      drop-can x = part-can 12 (left-retries-rule d s (snapshotOf starts p) at read is) drop-link x
 
       pub drop-moved : {s′ starts′ : List ℕ} → Altered s starts n p at (at + leftSize) [] s′ starts′ →
           NodeMoved d s starts n p at (Moved 12) s′ starts′
-      drop-moved {s′} {starts′} f =
-          moved-by 12 (left-retries-rule d s (snapshotOf starts p) at read is)
-          (record {
-            found = λ ts h k x.
-                let (m, δ, r, was) = redex-here read is (move-inside x .stands) in
-                rw (move-inside x .after) (f .found ts h _ (aof-link x was));
-          })
+      drop-moved r = part-moved 12 (left-retries-rule d s (snapshotOf starts p) at read is) drop-link r
 
     -- one that ends
     module _ (is : w ≡ LeftEnds) where
       pub keep-inside : NodeHeld d s (snapshotOf starts p) at → at + leftSize ≤ length s
       keep-inside x =
-          let (m, δ, r, was) = redex-here read is (x .there .tree) in
-          let l = leaf-at (left-at (rw was at (x .there .tree))) .inside in omega arith
+          let (m, δ, r, was) = redex-here read is (x .there .tree) in left-inside (rw was at (x .there .tree))
+
+      keep-link : (ts : List Term) (h : Configuration) (k : ℕ) (x : MoveAt ts h d s starts n p k 13 at) →
+          Alters ts h (after-move x) s starts n p at (treeEnd s at) (leftBytes s at)
+      keep-link ts h k x = let (m, δ, r, was) = redex-here read is (move-inside x .stands) in aoe-link x was
 
       pub keep-can : NodeStands d s starts n p at → CanAlter s starts n p at (treeEnd s at) (leftBytes s at)
-      keep-can x =
-          let y = can-move x 13 (left-ends-rule d s (snapshotOf starts p) at read is) in
-          let (m, δ, r, was) = redex-here read is (move-inside y .stands) in
-          record { terms = x .terms; configuration = x .configuration; becomes = _; alters = aoe-link y was }
+      keep-can x = part-can 13 (left-ends-rule d s (snapshotOf starts p) at read is) keep-link x
 
       pub keep-moved : {s′ starts′ : List ℕ} → Altered s starts n p at (treeEnd s at) (leftBytes s at) s′ starts′ →
           NodeMoved d s starts n p at (Moved 13) s′ starts′
-      keep-moved {s′} {starts′} f =
-          moved-by 13 (left-ends-rule d s (snapshotOf starts p) at read is)
-          (record {
-            found = λ ts h k x.
-                let (m, δ, r, was) = redex-here read is (move-inside x .stands) in
-                rw (move-inside x .after) (f .found ts h _ (aoe-link x was));
-          })
+      keep-moved r = part-moved 13 (left-ends-rule d s (snapshotOf starts p) at read is) keep-link r
 
     -- none of these
     pub stays : w ≡ Nothing → NodeMoved d s starts n p at (Refused 17) s starts

@@ -55,7 +55,8 @@ module _ {ts : List Term} {h : Configuration} {d s starts : List ℕ} {n p k rul
   move-inside =
       let b = by-number h (inside p k) rule (x .reply) in
       let a = accepted-inverts h (inside p k) (b .rule) (b .result) (b .answer) in
-      byComponent (b .rule) (b .result) (a .laid) (b .answer) (b .number) (a .placed) (a .component) (a .found) (a .local)
+      byComponent (b .rule) (b .result) (a .laid) (b .answer) (b .number) (a .placed) (a .component) (a .found)
+      (a .local)
     where
       byInner : (r : Rule) (g : Configuration) (laid : List Component) → answerTo h (inside p k) ≡ moved r g →
           ruleNumber r ≡ rule →

@@ -1,4 +1,4 @@
-// Redexes: what can move at a node. A look and a move decide by this alone.
+// Redexes: what can move at a node. A look and a move both go by this; what a read does is tried in reads.
 use buffer::wide;
 use leaves::expression_kind;
 use leaves::expression_kind_at;
@@ -14,8 +14,8 @@ use terms::DECODED;
 ghost use Rattle.leaves.specs.Leaves.{NodePresent};
 ghost use Rattle.transactions.specs.Finding.{RedexRead};
 
-// What a leaf's expression begins with, or what a fork's left side is when it is done. A fork moves by its left side
-// alone; an end leaf, a retry leaf and a fork whose left side is not done do not move.
+// What a leaf's expression begins with, or how a fork's left side is done. A fork moves by its left side alone. Nothing
+// moves at an end leaf, at a retry leaf, and at a fork whose left side is not done.
 pub enum Redex {
     Read { channel: u8 },
     Write { channel: u8 },
