@@ -73,7 +73,8 @@ module _ {ts : List Term} {h : Configuration} {d s starts : List ℕ} {n p k rul
 
   -- one more action
   action-link : (N N′ : Expression) (δ : Log) (α : Action) → i .subtree ≡ leaf N δ →
-      i .becomes ≡ leaf N′ (δ ++ (α ∷ [])) → length δ < logSize → secondAt d (termAt s at) ≡ number N′ → (c : ℕ) → c ≡ actionByte α → Stored (logged d s at c)
+      i .becomes ≡ leaf N′ (δ ++ (α ∷ [])) → length δ < logSize → secondAt d (termAt s at) ≡ number N′ → (c : ℕ) →
+      c ≡ actionByte α → Stored (logged d s at c)
   unfolding logged
   action-link N N′ δ α was is room next c action =
       let size = leaf-at (rw was at (i .stands)) .size in
