@@ -1,37 +1,30 @@
 -- What the small functions make of bytes.
 -- Assumes nothing.
-use Prim.Native.Nat.{ℕ, _+_, _-_, _≤_}
+use Prim.Native.Nat.{ℕ, suc, _+_, _-_, _≤_}
 use native.Mathlib.Omega.{arith}
-use mathlib.Core.Path.{_≡_, sym, ap, _∙_}
+use mathlib.Core.Path.{_≡_, refl, sym, ap, _∙_}
 use mathlib.Core.List.{List, [], _∷_, _++_, append-nil}
 use lib.ListN.{length, take, drop, set, replicate, length-append, length-drop, length-set}
-use lib.Seq.{length-take-le, take-all, take-at, drop-at}
+use lib.Seq.{length-take-le, take-all, take-at, drop-at, set-append-left}
 use mir.Syntax.{w8}
 use mir.Val.{Fits}
 use Rattle.buffer.specs.Splice.{written}
 use Rattle.terms.specs.Decoded.{firstAt, secondAt}
 use Rattle.stored.specs.Layout.{leafSize, leafTerm, leafLogLength, leafLog, forkKind, forkSize, writeOffset}
 use Rattle.index.specs.Holds.{CanAlter, Altered}
-use Rattle.transactions.specs.Bytes.{termAt, sizeAt, Actionable, logged, actionLogged, forkBytes, leftSize}
+use Rattle.transactions.specs.Bytes.{termAt, sizeAt, logged, forkBytes, leftSize}
 
 -- ---- ARDOK and AWR
 
-pub logged-is : (s : List ℕ) (at next action w : ℕ) → w ≡ sizeAt s at →
+pub next-is : (d s : List ℕ) (at t next : ℕ) → t ≡ termAt s at → next ≡ secondAt d t → next ≡ secondAt d (termAt s at)
+next-is d s at t next term second = second ∙ rw term
+
+pub logged-is : (d s : List ℕ) (at next action w : ℕ) → next ≡ secondAt d (termAt s at) → w ≡ sizeAt s at →
     set (set (set s (at + leafTerm) next) (at + leafLogLength) (sizeAt s at + 1)) (at + leafLog + w) action
-    ≡ logged s at next action
+    ≡ logged d s at action
 unfolding logged
-logged-is s at next action w e = let z : at + leafLog + w ≡ at + (leafLog + sizeAt s at) = omega arith in rw z
-
--- an action's byte is a byte
-pub action-fits : (d s : List ℕ) (at t first offset : ℕ) → Actionable d s at → t ≡ termAt s at → first ≡ firstAt d t →
-    offset ≤ writeOffset → Fits w8 (offset + first)
-action-fits d s at t first offset x e f few =
-    let l = x .channel in let z : first ≡ firstAt d (termAt s at) = f ∙ rw e in omega arith
-
-pub action-logged-is : (d s s′ : List ℕ) (at t next first offset : ℕ) → t ≡ termAt s at → next ≡ secondAt d t →
-    first ≡ firstAt d t → s′ ≡ logged s at next (offset + first) → s′ ≡ actionLogged d s at offset
-unfolding actionLogged
-action-logged-is d s s′ at t next first offset term second channel e = e ∙ rw (second, channel, term)
+logged-is d s at next action w second size =
+    let z : at + leafLog + w ≡ at + (leafLog + sizeAt s at) = omega arith in rw (second, z)
 
 -- ---- copies
 
@@ -50,40 +43,40 @@ leaf-copied s new at l e =
     let v = take leafSize (drop at s) in
     e ∙ rw (z, n, take-all leafSize v (omega arith)) (append-nil v)
 
--- and with another term
-leaf-renamed : (s l : List ℕ) (at b : ℕ) → at + leafSize ≤ length s → l ≡ take leafSize (drop at s) →
-    length (set l leafTerm b) ≡ leafSize
-leaf-renamed s l at b i p = length-set l leafTerm b ∙ ap length p ∙ leaf-taken s at i
+-- a store behind a seam
+store-right : (xs ys : List ℕ) (i k b : ℕ) → k ≡ length xs + i → set (xs ++ ys) k b ≡ xs ++ set ys i b
+store-right [] ys i k b e = let z : k ≡ i = omega arith in rw z
+store-right (x ∷ xs) ys i k b e =
+    let z : k ≡ suc (length xs + i) = omega arith in rw z (ap (λ l. x ∷ l) (store-right xs ys i (length xs + i) b refl))
 
--- both sides fit behind a fork's byte
-pub left-fits : (s l : List ℕ) (at b : ℕ) → at + leafSize ≤ length s → l ≡ take leafSize (drop at s) →
-    forkSize + length (set l leafTerm b) ≤ 39
-left-fits s l at b i p = let n = leaf-renamed s l at b i p in omega arith
-
-pub right-fits : (s l a : List ℕ) (at b : ℕ) → length a ≡ 39 → at + leafSize ≤ length s →
-    l ≡ take leafSize (drop at s) →
-    leftSize + length (set l leafTerm b) ≤ length a
-right-fits s l a at b m i p = let n = leaf-renamed s l at b i p in omega arith
-
-pub split-made : (d s l r a b : List ℕ) (at t f g : ℕ) →
-    b ≡ written a leftSize (set r leafTerm g) (length (set r leafTerm g)) →
-    a ≡ written (replicate 39 0) forkSize (set l leafTerm f) (length (set l leafTerm f)) →
-    l ≡ take leafSize (drop at s) →
-    r ≡ take leafSize (drop at s) → f ≡ firstAt d t → g ≡ secondAt d t → t ≡ termAt s at → at + leafSize ≤ length s →
-    set b 0 forkKind ≡ forkBytes d s at
-unfolding forkBytes written
-split-made d s l r a b at t f g y x p q first second term i =
-    let v = set l leafTerm f in
-    let w = set r leafTerm g in
-    let n : length v ≡ leafSize = leaf-renamed s l at f i p in
-    let m : length w ≡ leafSize = leaf-renamed s r at g i q in
-    let one : a ≡ (0 ∷ v) ++ replicate leafSize 0 = x ∙ rw (n, take-all leafSize v (omega arith)) in
-    let long : length a ≡ 39 = ap length one ∙ length-append (0 ∷ v) (replicate leafSize 0) ∙ omega arith in
-    let half : take leftSize a ≡ 0 ∷ v = ap (take leftSize) one ∙ take-at (0 ∷ v) _ leftSize (omega arith) in
+-- a leaf twice behind a byte
+twice : (v a b : List ℕ) → length v ≡ leafSize → b ≡ written a leftSize v (length v) →
+    a ≡ written (replicate 39 0) forkSize v (length v) → b ≡ (0 ∷ v) ++ v
+unfolding written
+twice v a b n y x =
+    let all : take leafSize v ≡ v = take-all leafSize v (omega arith) in
+    let one : a ≡ (0 ∷ v) ++ replicate leafSize 0 = x ∙ rw (n, all) in
+    let size = length-append (0 ∷ v) (replicate leafSize 0) in
+    let long : length a ≡ 39 = rw one (omega arith) in
+    let half : take leftSize a ≡ 0 ∷ v = rw one (take-at (0 ∷ v) (replicate leafSize 0) leftSize (omega arith)) in
     let none : drop 39 a ≡ [] = ap (drop 39) (sym (append-nil a)) ∙ drop-at a [] 39 long in
-    let both : b ≡ (0 ∷ v) ++ w =
-    y ∙ rw (m, take-all leafSize w (omega arith), half, none) (append-nil ((0 ∷ v) ++ w)) in
-    ap (λ z. set z 0 forkKind) both ∙ ap (λ z. forkKind ∷ z) (rw (p, q, first, second, term))
+    y ∙ rw (n, all, half, none) (append-nil ((0 ∷ v) ++ v))
+
+-- each with a term of its own, behind a fork's
+pub split-made : (d s v a b : List ℕ) (at t f g : ℕ) → b ≡ written a leftSize v (length v) →
+    a ≡ written (replicate 39 0) forkSize v (length v) → v ≡ take (at + leafSize - at) (drop at s) → f ≡ firstAt d t →
+    g ≡ secondAt d t → t ≡ termAt s at → at + leafSize ≤ length s →
+    set (set (set b 0 forkKind) (forkSize + leafTerm) f) (leftSize + leafTerm) g ≡ forkBytes d s at
+unfolding forkBytes
+split-made d s v a b at t f g y x p first second term i =
+    let z : at + leafSize - at ≡ leafSize = omega arith in
+    let leaf : v ≡ take leafSize (drop at s) = p ∙ rw z in
+    let n : length v ≡ leafSize = ap length leaf ∙ leaf-taken s at i in
+    let m = length-set v leafTerm f in
+    let left : set (v ++ v) leafTerm f ≡ set v leafTerm f ++ v = set-append-left v v leafTerm f (omega arith) in
+    let right : set (set v leafTerm f ++ v) leftSize g ≡ set v leafTerm f ++ set v leafTerm g =
+    store-right (set v leafTerm f) v leafTerm leftSize g (omega arith) in
+    rw (twice v a b n y x) (ap (λ l. forkKind ∷ l) (rw (left, right, leaf, first, second, term)))
 
 -- ---- AOI and AOE: a part that gives way
 

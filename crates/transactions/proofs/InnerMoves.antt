@@ -4,15 +4,18 @@
 use Prim.Native.Nat.{ℕ, _+_, _<_}
 use native.Mathlib.Omega.{arith}
 use mathlib.Core.Path.{_≡_, refl, sym, ap, _∙_}
+use mathlib.Core.Bool.{Bool, true, false}
 use mathlib.Core.List.{List, [], _∷_, _++_, append-nil}
 use lib.ListN.{length, take, drop, set}
 use lib.Seq.{take-at}
-use borrow.Author.Tests.{ne-eqb}
-use Rattle.calculus.specs.Syntax.{rd, wt, Action, Log}
-use Rattle.semantics.specs.Definitions.Terms.{Expression, retryT, orElseT, Term, number, pathLength}
-use Rattle.semantics.specs.Definitions.Configuration.{leaf, fork, Component, transaction, Configuration}
+use Rattle.calculus.specs.Syntax.{Name, rd, wt, Action, Log, State}
+use Rattle.calculus.specs.Reduction.{Rule, ARDOK, ARDF}
+use Rattle.semantics.specs.Definitions.Terms.{Expression, endT, retryT, rdT, wtT, orElseT, Term, number, pathLength}
+use Rattle.semantics.specs.Definitions.Logs.{readable}
+use Rattle.semantics.specs.Definitions.Configuration.{Tree, leaf, fork, Component, transaction, Configuration}
 use Rattle.semantics.specs.Definitions.Stored.{actionByte, treeBytes}
-use Rattle.semantics.specs.Definitions.Moves.{inside, answerTo}
+use Rattle.semantics.specs.Definitions.Moves.{evolves, reads, atLeaf, atFork, inner, inside, answerTo, ruleNumber}
+use Rattle.terms.specs.Decoded.{secondAt}
 use Rattle.stored.specs.Layout.{forkKind, leafSize, leafTerm, leafLog, logSize, noRecord, readOffset, writeOffset}
 use Rattle.stored.specs.Nodes.{treeEnd}
 use Rattle.storedlaws.specs.Positions.{plug}
@@ -22,10 +25,10 @@ use Rattle.index.specs.Choices.{afterwards}
 use Rattle.index.proofs.InPlace.{term-stored, action-stored, node-alters}
 use Rattle.leaves.specs.Leaves.{TreeAt}
 use Rattle.leaves.proofs.Leaves.{left-at}
-use Rattle.transactions.specs.Bytes.{sizeAt, logged, actionLogged, forkBytes, leftSize, leftBytes}
+use Rattle.transactions.specs.Bytes.{termAt, sizeAt, logged, forkBytes, leftSize, leftBytes}
 use Rattle.transactions.specs.Moving.{MoveAt}
-use Rattle.transactions.proofs.Finding.{leaf-at}
-use Rattle.transactions.proofs.Moving.{ReadLogged, ReadFailed, WriteLogged, ChoiceSplit, LeftDropped, LeftKept, Inside, move-inside}
+use Rattle.transactions.proofs.Reducing.{LeafAt, leaf-at}
+use Rattle.transactions.proofs.Moving.{Inside, move-inside}
 
 -- the bytes of a leaf that stands at an offset
 leaf-here : {ts : List Term} {M : Expression} {δ : Log} {d s : List ℕ} {at : ℕ} → TreeAt ts (leaf M δ) d s at →
@@ -34,115 +37,132 @@ leaf-here {M = M} {δ = δ} x =
     let few = leaf-at x .log .few in
     ap (take leafSize) (x .bytes) ∙ take-at (treeBytes (leaf M δ)) (x .rest) leafSize (leaf-bytes M δ few)
 
-module _ {ts : List Term} {h : Configuration} {d s starts : List ℕ} {n p k at : ℕ} where
+-- what a read becomes, by the rule's number
+module _ (σ : State) (a : Name) (M : Expression) (δ : Log) (r : Rule) (v : Tree) (e : reads σ a M δ ≡ evolves r v) where
+  logs : ruleNumber r ≡ 8 → v ≡ leaf M (δ ++ (rd a ∷ []))
+  unfolding reads ruleNumber
+  logs number = go (readable σ (δ ++ (rd a ∷ []))) refl
+    where
+      go : (b : Bool) → readable σ (δ ++ (rd a ∷ [])) ≡ b → v ≡ leaf M (δ ++ (rd a ∷ []))
+      go true q = let f : evolves ARDOK (leaf M (δ ++ (rd a ∷ []))) ≡ evolves r v = rw q at e in cc
+      go false q =
+          let f : evolves ARDF (leaf (retryT noRecord) δ) ≡ evolves r v = rw q at e in
+          let z : r ≡ ARDF = cc in
+          let g : _≡_ {A = ℕ} 9 8 = rw z at number in absurd (omega arith)
+
+  fails : ruleNumber r ≡ 9 → v ≡ leaf (retryT noRecord) δ
+  unfolding reads ruleNumber
+  fails number = go (readable σ (δ ++ (rd a ∷ []))) refl
+    where
+      go : (b : Bool) → readable σ (δ ++ (rd a ∷ [])) ≡ b → v ≡ leaf (retryT noRecord) δ
+      go true q =
+          let f : evolves ARDOK (leaf M (δ ++ (rd a ∷ []))) ≡ evolves r v = rw q at e in
+          let z : r ≡ ARDOK = cc in
+          let g : _≡_ {A = ℕ} 8 9 = rw z at number in absurd (omega arith)
+      go false q = let f : evolves ARDF (leaf (retryT noRecord) δ) ≡ evolves r v = rw q at e in cc
+
+module _ {ts : List Term} {h : Configuration} {d s starts : List ℕ} {n p k rule at : ℕ}
+    (x : MoveAt ts h d s starts n p k rule at) where
+  abbrev i : Inside ts h d s starts n p k rule at
+  i = move-inside x
+
   -- ---- rules 8 to 10: a leaf's bytes are stored
 
+  abbrev Stored : List ℕ → Type 0
+  Stored s′ = Holds ts (afterwards (answerTo h (inside p k)) h) s′ starts n
+
   -- one more action
-  action-link : {rule : ℕ} (x : MoveAt ts h d s starts n p k rule at) (i : Inside ts h d s starts n p k rule at)
-      (N N′ : Expression) (δ : Log)
-      (α : Action) → i .subtree ≡ leaf N δ → i .becomes ≡ leaf N′ (δ ++ (α ∷ [])) → length δ < logSize → (b c : ℕ) →
-      b ≡ number N′ →
-      c ≡ actionByte α → Holds ts (afterwards (answerTo h (inside p k)) h) (logged s at b c) starts n
+  action-link : (N N′ : Expression) (δ : Log) (α : Action) → i .subtree ≡ leaf N δ →
+      i .becomes ≡ leaf N′ (δ ++ (α ∷ [])) → length δ < logSize → secondAt d (termAt s at) ≡ number N′ → (c : ℕ) →
+      c ≡ actionByte α → Stored (logged d s at c)
   unfolding logged
-  action-link x i N N′ δ α was is room b c next action =
+  action-link N N′ δ α was is room next c action =
       let size = leaf-at (rw was at (i .stands)) .size in
       rw (i .after, is)
       (action-stored (x .holds) p (i .block) (i .body) (i .snapshot) (i .tree) (i .there) k at (i .context) N δ
       (rw was at (i .node)) N′ α
-      room (rw is at (i .form)) b (sizeAt s at + 1) c (at + (leafLog + sizeAt s at)) next (omega arith) action
+      room (rw is at (i .form)) (secondAt d (termAt s at)) (sizeAt s at + 1) c (at + (leafLog + sizeAt s at)) next
+      (omega arith) action
       (omega arith))
 
-  pub ardok-link : MoveAt ts h d s starts n p k 8 at →
-      Holds ts (afterwards (answerTo h (inside p k)) h) (actionLogged d s at readOffset) starts n
-  unfolding actionLogged actionByte pathLength
-  ardok-link x =
-      let i = move-inside x in
-      let m : ReadLogged (i .subtree) (i .becomes) = i .makes in
-      let l = leaf-at (rw (m .was) at (i .stands)) in
-      let room = l .room in
-      let channel = l .fields .1 in
-      action-link x i _ (m .next) (m .log) (rd (m .channel)) (m .was) (m .is) (omega arith) _ _ (l .fields .3)
-      (omega arith)
+  module _ {m : ℕ} {a : Name} {M : Expression} {δ : Log} where
+    module _ (was : i .subtree ≡ leaf (rdT m a M) δ) where
+      tries : reads (i .snapshot) a M δ ≡ evolves (i .by) (i .becomes)
+      unfolding inner atLeaf
+      tries = rw was at (i .steps)
 
-  pub awr-link : MoveAt ts h d s starts n p k 10 at →
-      Holds ts (afterwards (answerTo h (inside p k)) h) (actionLogged d s at writeOffset) starts n
-  unfolding actionLogged actionByte pathLength
-  awr-link x =
-      let i = move-inside x in
-      let m : WriteLogged (i .subtree) (i .becomes) = i .makes in
-      let l = leaf-at (rw (m .was) at (i .stands)) in
-      let room = l .room in
-      let channel = l .fields .1 in
-      action-link x i _ (m .next) (m .log) (wt (m .channel)) (m .was) (m .is) (omega arith) _ _ (l .fields .3)
-      (omega arith)
+      pub ardok-link : rule ≡ 8 → Stored (logged d s at (readOffset + a))
+      unfolding actionByte pathLength
+      ardok-link e =
+          let l : LeafAt ts (rdT m a M) δ d s at = leaf-at (rw was at (i .stands)) in
+          let room = l .room in
+          action-link (rdT m a M) M δ (rd a) was (logs (i .snapshot) a M δ (i .by) (i .becomes) tries (i .number ∙ e))
+          (omega arith) (l .fields .3) (readOffset + a) (omega arith)
 
-  -- the retry that has no record
-  pub ardf-link : MoveAt ts h d s starts n p k 9 at →
-      Holds ts (afterwards (answerTo h (inside p k)) h) (set s (at + leafTerm) noRecord) starts n
-  unfolding number
-  ardf-link x =
-      let i = move-inside x in
-      let m : ReadFailed (i .subtree) (i .becomes) = i .makes in
-      rw (i .after, m .is)
-      (term-stored (x .holds) p (i .block) (i .body) (i .snapshot) (i .tree) (i .there) k at (i .context) _ (m .log)
-      (rw (m .was) at (i .node)) (retryT noRecord) (rw (m .is) at (i .form)) noRecord refl)
+      -- the retry that has no record
+      pub ardf-link : rule ≡ 9 → Stored (set s (at + leafTerm) noRecord)
+      unfolding number
+      ardf-link e =
+          let is = fails (i .snapshot) a M δ (i .by) (i .becomes) tries (i .number ∙ e) in
+          rw (i .after, is)
+          (term-stored (x .holds) p (i .block) (i .body) (i .snapshot) (i .tree) (i .there) k at (i .context) _ δ
+          (rw was at (i .node)) (retryT noRecord) (rw is at (i .form)) noRecord refl)
+
+    pub awr-link : i .subtree ≡ leaf (wtT m a M) δ → Stored (logged d s at (writeOffset + a))
+    unfolding inner atLeaf actionByte pathLength
+    awr-link was =
+        let l : LeafAt ts (wtT m a M) δ d s at = leaf-at (rw was at (i .stands)) in
+        let room = l .room in
+        let steps = rw was at (i .steps) in
+        action-link (wtT m a M) M δ (wt a) was (cc) (omega arith) (l .fields .3) (writeOffset + a) (omega arith)
 
   -- ---- rules 11 to 13: a part of the transaction's bytes gives way
 
   -- the transaction after a move
-  abbrev after-move : {rule : ℕ} → Inside ts h d s starts n p k rule at → Component
-  after-move i = transaction (i .block) (i .body) (i .snapshot) (plug (i .context) (i .becomes))
+  abbrev pub after-move : Component
+  after-move = transaction (i .block) (i .body) (i .snapshot) (plug (i .context) (i .becomes))
 
   -- its bytes from..to give way to `new`
-  part-link : {rule : ℕ} (x : MoveAt ts h d s starts n p k rule at) (i : Inside ts h d s starts n p k rule at)
-      (old new back : List ℕ) →
+  part-link : (old new back : List ℕ) →
       treeBytes (i .subtree) ≡ old ++ back → treeBytes (i .becomes) ≡ new ++ back → (to : ℕ) → to ≡ at + length old →
-      Alters ts h (after-move i) s starts n p at to new
-  part-link x i old new back was is to ends =
+      Alters ts h after-move s starts n p at to new
+  part-link old new back was is to ends =
       node-alters (x .holds) p (i .block) (i .body) (i .snapshot) (i .tree) (i .there) k at (i .context) (i .subtree)
       (i .node) (i .becomes)
       (i .form) [] old new back was is at to (omega arith) ends
 
-  pub aoi-link : (x : MoveAt ts h d s starts n p k 11 at) →
-      Alters ts h (after-move (move-inside x)) s starts n p at (at + leafSize) (forkBytes d s at)
-  unfolding forkBytes treeBytes
-  aoi-link x =
-      let i = move-inside x in
-      let m : ChoiceSplit (i .subtree) (i .becomes) = i .makes in
-      let u : TreeAt ts (leaf (orElseT (m .number) (m .first) (m .second)) (m .log)) d s at =
-      rw (m .was) at (i .stands) in
+  pub aoi-link : {m : ℕ} {M N : Expression} {δ : Log} → i .subtree ≡ leaf (orElseT m M N) δ →
+      Alters ts h after-move s starts n p at (at + leafSize) (forkBytes d s at)
+  unfolding inner atLeaf forkBytes treeBytes
+  aoi-link {m} {M} {N} {δ} was =
+      let u : TreeAt ts (leaf (orElseT m M N) δ) d s at = rw was at (i .stands) in
       let l = leaf-at u in
-      let size = leaf-bytes (orElseT (m .number) (m .first) (m .second)) (m .log) (l .log .few) in
-      let new : forkBytes d s at ≡ treeBytes (fork (leaf (m .first) (m .log)) (leaf (m .second) (m .log))) =
+      let size = leaf-bytes (orElseT m M N) δ (l .log .few) in
+      let steps = rw was at (i .steps) in
+      let is : i .becomes ≡ fork (leaf M δ) (leaf N δ) = cc in
+      let new : forkBytes d s at ≡ treeBytes (fork (leaf M δ) (leaf N δ)) =
       rw (leaf-here u, l .fields .1, l .fields .2) in
-      part-link x i (treeBytes (leaf (orElseT (m .number) (m .first) (m .second)) (m .log))) (forkBytes d s at) []
-      (ap treeBytes (m .was) ∙ sym (append-nil _)) (ap treeBytes (m .is) ∙ sym new ∙ sym (append-nil _)) (at + leafSize)
+      part-link (treeBytes (leaf (orElseT m M N) δ)) (forkBytes d s at) []
+      (ap treeBytes was ∙ sym (append-nil _)) (ap treeBytes is ∙ sym new ∙ sym (append-nil _)) (at + leafSize)
       (omega arith)
 
-  pub aof-link : (x : MoveAt ts h d s starts n p k 12 at) →
-      Alters ts h (after-move (move-inside x)) s starts n p at (at + leftSize) []
-  unfolding treeBytes
-  aof-link x =
-      let i = move-inside x in
-      let m : LeftDropped (i .subtree) (i .becomes) = i .makes in
-      let left = leaf-at (left-at (rw (m .was) at (i .stands))) in
-      let size = leaf-bytes (retryT (m .number)) (m .log) (left .log .few) in
-      part-link x i (forkKind ∷ treeBytes (leaf (retryT (m .number)) (m .log))) [] (treeBytes (i .becomes))
-      (ap treeBytes (m .was)) refl
-      (at + leftSize) (omega arith)
+  module _ {m : ℕ} {δ : Log} {r : Tree} where
+    pub aof-link : i .subtree ≡ fork (leaf (retryT m) δ) r → Alters ts h after-move s starts n p at (at + leftSize) []
+    unfolding inner atFork treeBytes
+    aof-link was =
+        let left = leaf-at (left-at (rw was at (i .stands))) in
+        let size = leaf-bytes (retryT m) δ (left .log .few) in
+        let steps = rw was at (i .steps) in
+        let is : i .becomes ≡ r = cc in
+        part-link (forkKind ∷ treeBytes (leaf (retryT m) δ)) [] (treeBytes r) (ap treeBytes was) (ap treeBytes is)
+        (at + leftSize) (omega arith)
 
-  -- every other number is rule 13's
-  module _ {rule : ℕ} (a : rule ≡ 8 → ⊥) (b : rule ≡ 9 → ⊥) (c : rule ≡ 10 → ⊥) (e : rule ≡ 11 → ⊥) (f : rule ≡ 12 → ⊥)
-      (x : MoveAt ts h d s starts n p k rule at) where
-    pub aoe-made : LeftKept (move-inside x .subtree) (move-inside x .becomes)
-    aoe-made =
-        rw (ne-eqb rule 8 a, ne-eqb rule 9 b, ne-eqb rule 10 c, ne-eqb rule 11 e, ne-eqb rule 12 f) at
-        (move-inside x .makes)
-
-    pub aoe-link : Alters ts h (after-move (move-inside x)) s starts n p at (treeEnd s at) (leftBytes s at)
-    aoe-link =
-        let i = move-inside x in
-        let m = aoe-made in
-        let left = leaf-here (left-at (rw (m .was) at (i .stands))) in
-        part-link x i (treeBytes (i .subtree)) (leftBytes s at) [] (sym (append-nil _))
-        (ap treeBytes (m .is) ∙ sym left ∙ sym (append-nil _)) (treeEnd s at) (i .node .ends)
+    pub aoe-link : i .subtree ≡ fork (leaf (endT m) δ) r →
+        Alters ts h after-move s starts n p at (treeEnd s at) (leftBytes s at)
+    unfolding inner atFork
+    aoe-link was =
+        let left = leaf-here (left-at (rw was at (i .stands))) in
+        let steps = rw was at (i .steps) in
+        let is : i .becomes ≡ leaf (endT m) δ = cc in
+        part-link (treeBytes (i .subtree)) (leftBytes s at) [] (sym (append-nil _))
+        (ap treeBytes is ∙ sym left ∙ sym (append-nil _)) (treeEnd s at) (i .node .ends)

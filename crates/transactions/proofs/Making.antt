@@ -1,36 +1,64 @@
--- A node that moves by what stands there: what each arm of the code may do, and that the move is made then.
+-- A node that moves by its redex: what each arm of the code may do, and that the move is made then.
 -- Assumes nothing.
 use Prim.Native.Nat.{ℕ, _+_, _≤_, _<_}
 use native.Mathlib.Omega.{arith}
 use mathlib.Core.Path.{_≡_, refl, sym}
-use mathlib.Core.Bool.{Bool, true, false}
+use mathlib.Core.Bool.{Bool, true, false, cond}
 use mathlib.Core.List.{List, []}
 use lib.ListN.{length, getD, set}
-use mir.Syntax.{w64}
+use mir.Syntax.{w8, w64}
 use mir.Val.{Fits}
-use Rattle.semantics.specs.Definitions.Table.{endK, retryK, rdK, wtK, orElseK}
-use Rattle.semantics.specs.Checks.AcceptedTables.{kindByte}
-use Rattle.terms.specs.Decoded.{firstAt}
+use Rattle.calculus.specs.Syntax.{Log}
+use Rattle.semantics.specs.Definitions.Terms.{Expression, rdT, wtT, orElseT, Term, pathLength}
+use Rattle.semantics.specs.Definitions.Configuration.{Tree, leaf, fork, Configuration}
+use Rattle.terms.specs.Decoded.{channels, maxTerms}
 use Rattle.rules.specs.declared.Reply.{Reply}
 use Rattle.rules.specs.declared.Reply.the-variants.{Moved, Refused}
 use Rattle.stored.specs.declared.Place.the-variants.{At}
-use Rattle.stored.specs.Layout.{forkKind, forkSize, leafSize, leafTerm, noRecord, readOffset, writeOffset}
+use Rattle.stored.specs.Layout.{leafSize, leafTerm, logSize, noRecord, readOffset, writeOffset}
 use Rattle.stored.specs.Nodes.{treeEnd}
-use Rattle.index.specs.Holds.{CanAlter, Altered}
+use Rattle.index.specs.Holds.{Alters, CanAlter, Altered}
 use Rattle.index.proofs.Holding.{hall-length}
 use Rattle.logs.proofs.Places.{counts-held}
-use Rattle.leaves.specs.Leaves.{ExpressionKindRead, NodePresent, LeafKindRead}
-use Rattle.transactions.specs.Bytes.{termAt, actionLogged, Actionable, forkBytes, Splittable, leftSize, leftBytes}
-use Rattle.transactions.specs.Finding.{ReadTested, forkRule, NodeHeld, LeafHeld, RuleRead}
-use Rattle.transactions.specs.Moving.{HasMoved, snapshotOf, NodeStands, NodeMoved}
-use Rattle.transactions.proofs.Finding.{read-allowed, read-failed, read-rule-is, write-rule-is, choice-rule-is, no-rule-is, fork-ends, fork-retries, fork-waits, left-stands, fork-rule-is, leaf-stands}
+use Rattle.leaves.specs.Leaves.{TreeAt, NodePresent}
+use Rattle.leaves.proofs.Leaves.{left-at}
+use Rattle.transactions.specs.declared.redexes.Redex.{Redex}
+use Rattle.transactions.specs.declared.redexes.Redex.the-variants.{Read, Write, OrElse, LeftEnds, LeftRetries, Nothing}
+use Rattle.transactions.specs.Bytes.{termAt, logged, Loggable, forkBytes, Splittable, leftSize, leftBytes}
+use Rattle.transactions.specs.Finding.{ReadTested, RedexRead, NodeHeld, RuleRead}
+use Rattle.transactions.specs.Moving.{MoveAt, HasMoved, ReadMade, snapshotOf, NodeStands, NodeMoved}
+use Rattle.transactions.proofs.Reducing.{LeafAt, leaf-at, redex-here}
+use Rattle.transactions.proofs.Finding.{read-allowed, read-failed, read-rule, write-rule, or-else-rule, left-retries-rule, left-ends-rule, no-rule}
 use Rattle.transactions.proofs.Searching.{node-standing, search-read, found-moves}
-use Rattle.transactions.proofs.Applying.{CanMove, ardok-can, ardok-does, ardf-does, awr-can, awr-does, aoi-splits, aoi-can, aoi-does, aof-inside, aof-can, aof-does, aoe-inside, aoe-can, aoe-does}
+use Rattle.transactions.proofs.Moving.{move-inside}
+use Rattle.transactions.proofs.InnerMoves.{after-move, ardok-link, ardf-link, awr-link, aoi-link, aof-link, aoe-link}
+
+-- ---- a read, by its test
+
+module _ (d s : List ℕ) (snapshot at a : ℕ) (allowed : Bool) (tested : ReadTested s snapshot at a allowed) where
+  pub read-logged : (s′ : List ℕ) → allowed ≡ true → s′ ≡ logged d s at (readOffset + a) →
+      ReadMade d s snapshot at a (Moved 8) s′
+  read-logged s′ e b = record { allowed = true; tested = rw e at tested; reply = refl; bytes = b }
+
+  pub read-fails : allowed ≡ false → ReadMade d s snapshot at a (Moved 9) (set s (at + leafTerm) noRecord)
+  read-fails e = record { allowed = false; tested = rw e at tested; reply = refl; bytes = refl }
+
+-- ---- what stands inside
+
+can-log : {ts : List Term} {M : Expression} {δ : Log} {d s : List ℕ} {at : ℕ} → LeafAt ts M δ d s at →
+    termAt s at < maxTerms → length δ < logSize → Loggable s at
+can-log l term room = let size = l .size in record { inside = l .inside; term = term; room = omega arith }
+
+left-inside : {ts : List Term} {M : Expression} {δ : Log} {r : Tree} {d s : List ℕ} {at : ℕ} →
+    TreeAt ts (fork (leaf M δ) r) d s at → at + leftSize ≤ length s
+left-inside x = let l = leaf-at (left-at x) .inside in omega arith
+
+-- ---- a node, by its redex
 
 module _ (d s starts : List ℕ) (n p at : ℕ) where
   -- a node that was found stands
   module _ (x : NodeStands d s starts n p at) where
-    held : NodeHeld d s (snapshotOf starts p) at
+    pub held : NodeHeld d s (snapshotOf starts p) at
     held = node-standing d s (getD starts p 0) (record {
       terms = x .terms;
       configuration = x .configuration;
@@ -40,33 +68,20 @@ module _ (d s starts : List ℕ) (n p at : ℕ) where
       there = x .there;
     }) (x .node) at (At at) (sym (x .place)) refl
 
-    pub node-inside : at < length s
-    node-inside = held .inside
+    pub present : NodePresent d s at
+    present = record { terms = held .terms; tree = held .tree; there = held .there .tree }
 
-    -- sums of the code fit
     pub snapshot-fits : Fits w64 (snapshotOf starts p)
     snapshot-fits =
         let l = counts-held s (snapshotOf starts p) (held .counts) (held .there .counts) in
         let z = hall-length (x .there .holds) in record { fits = omega arith }
 
-    pub left-fits : Fits w64 (at + forkSize)
-    left-fits = let l = node-inside in let z = hall-length (x .there .holds) in record { fits = omega arith }
-
-    pub leaf-held : (getD s at 0 ≡ forkKind → ⊥) → LeafHeld d s (snapshotOf starts p) at
-    leaf-held other = leaf-stands d s (snapshotOf starts p) at held other
-
-    pub left-present : getD s at 0 ≡ forkKind → NodePresent d s (at + forkSize)
-    left-present f = left-stands d s (snapshotOf starts p) at held f
-
     -- it may be moved by the rule that was read
-    can-move : (rule : ℕ) → RuleRead d s (snapshotOf starts p) at (Moved rule) → CanMove d s starts n p rule at
-    can-move rule read = record {
-      terms = x .terms;
-      configuration = x .configuration;
-      node = x .node;
-      move = found-moves (x .node) rule at (x .there) (x .place)
-          (search-read d s (getD starts p 0) (x .node) (At at) (sym (x .place)) refl read);
-    }
+    can-move : (rule : ℕ) → RuleRead d s (snapshotOf starts p) at (Moved rule) →
+        MoveAt (x .terms) (x .configuration) d s starts n p (x .node) rule at
+    can-move rule read =
+        found-moves (x .node) rule at (x .there) (x .place)
+        (search-read d s (getD starts p 0) (x .node) (At at) (sym (x .place)) refl read)
 
   moved-by : (rule : ℕ) {s′ starts′ : List ℕ} → RuleRead d s (snapshotOf starts p) at (Moved rule) →
       HasMoved d s starts n p rule at s′ starts′ →
@@ -77,117 +92,139 @@ module _ (d s starts : List ℕ) (n p at : ℕ) where
     unchanged = λ m e. absurd (let z : _≡_ {A = ℕ} 0 1 = cc in omega arith);
   }
 
-  stays : (m : ℕ) → RuleRead d s (snapshotOf starts p) at (Refused m) →
-      NodeMoved d s starts n p at (Refused m) s starts
-  stays m read = record {
-    read = read;
-    made = λ k e. absurd (let z : _≡_ {A = ℕ} 0 1 = cc in omega arith);
-    unchanged = λ k e. (refl, refl);
-  }
+  -- a part that gives way, whichever configuration is held
+  module _ (rule : ℕ) (rules : RuleRead d s (snapshotOf starts p) at (Moved rule)) {to : ℕ} {new : List ℕ}
+      (link : (ts : List Term) (h : Configuration) (k : ℕ) (x : MoveAt ts h d s starts n p k rule at) →
+      Alters ts h (after-move x) s starts n p at to new) where
+    part-can : NodeStands d s starts n p at → CanAlter s starts n p at to new
+    part-can x = record {
+      terms = x .terms;
+      configuration = x .configuration;
+      becomes = _;
+      alters = link (x .terms) (x .configuration) (x .node) (can-move x rule rules);
+    }
 
-  -- ---- a leaf
+    part-moved : {s′ starts′ : List ℕ} → Altered s starts n p at to new s′ starts′ →
+        NodeMoved d s starts n p at (Moved rule) s′ starts′
+    part-moved r =
+        moved-by rule rules
+        (record { found = λ ts h k x. rw (move-inside x .after) (r .found ts h _ (link ts h k x)) })
 
-  module _ (l : LeafHeld d s (snapshotOf starts p) at) {k : ℕ} (kind : ExpressionKindRead d (termAt s at) k) where
+  module _ {w : Redex} (read : RedexRead d s at w) where
     -- a read
-    module _ (e : k ≡ kindByte rdK) {w a : ℕ} (q : w ≡ termAt s at) (g : a ≡ firstAt d w) {r : Bool}
-        (tested : ReadTested s (snapshotOf starts p) at a r) where
-      logs-read : r ≡ true → RuleRead d s (snapshotOf starts p) at (Moved 8)
-      logs-read so =
-          read-rule-is d s (snapshotOf starts p) at l k kind w a (Moved 8) e q g
-          (read-allowed s (snapshotOf starts p) at a r tested so)
+    module _ {a : ℕ} (is : w ≡ Read a) where
+      pub read-can : NodeHeld d s (snapshotOf starts p) at → Loggable s at
+      unfolding pathLength
+      read-can x =
+          let (m, M, δ, was) = redex-here read is (x .there .tree) in
+          let l : LeafAt (x .terms) (rdT m a M) δ d s at = leaf-at (rw was at (x .there .tree)) in
+          let room = l .room in can-log l (l .fields .0) (omega arith)
 
-      fails-read : r ≡ false → RuleRead d s (snapshotOf starts p) at (Moved 9)
-      fails-read never =
-          read-rule-is d s (snapshotOf starts p) at l k kind w a (Moved 9) e q g
-          (read-failed s (snapshotOf starts p) at a r tested never)
-
-      pub read-moved : r ≡ true → {s′ : List ℕ} → s′ ≡ actionLogged d s at readOffset →
-          NodeMoved d s starts n p at (Moved 8) s′ starts
-      read-moved so {s′} b = moved-by 8 (logs-read so) (ardok-does d s starts n p 8 at s′ refl b)
-
-      pub fail-moved : r ≡ false → {s′ : List ℕ} → s′ ≡ set s (at + leafTerm) noRecord →
-          NodeMoved d s starts n p at (Moved 9) s′ starts
-      fail-moved never {s′} b = moved-by 9 (fails-read never) (ardf-does d s starts n p 9 at s′ refl b)
+      pub read-moved : {r : Reply} {s′ : List ℕ} → ReadMade d s (snapshotOf starts p) at a r s′ →
+          NodeMoved d s starts n p at r s′ starts
+      read-moved {r} {s′} m = rw (m .reply) (go (m .allowed) (m .tested) (m .bytes))
+        where
+          go : (b : Bool) → ReadTested s (snapshotOf starts p) at a b →
+              s′ ≡ cond b (logged d s at (readOffset + a)) (set s (at + leafTerm) noRecord) →
+              NodeMoved d s starts n p at (Moved (cond b 8 9)) s′ starts
+          go true tested bytes =
+              moved-by 8
+              (read-rule d s (snapshotOf starts p) at read is
+              (read-allowed s (snapshotOf starts p) at a true tested refl))
+              (record {
+                found = λ ts h k x.
+                    let (m, M, δ, was) = redex-here read is (move-inside x .stands) in rw bytes (ardok-link x was refl);
+              })
+          go false tested bytes =
+              moved-by 9
+              (read-rule d s (snapshotOf starts p) at read is
+              (read-failed s (snapshotOf starts p) at a false tested refl))
+              (record {
+                found = λ ts h k x.
+                    let (m, M, δ, was) = redex-here read is (move-inside x .stands) in rw bytes (ardf-link x was refl);
+              })
 
     -- a write
-    module _ (e : k ≡ kindByte wtK) where
-      writes : RuleRead d s (snapshotOf starts p) at (Moved 10)
-      writes = write-rule-is d s (snapshotOf starts p) at l k kind e
+    module _ {a : ℕ} (is : w ≡ Write a) where
+      written : NodeHeld d s (snapshotOf starts p) at → Loggable s at × (a < channels)
+      unfolding pathLength
+      written x =
+          let (m, M, δ, was) = redex-here read is (x .there .tree) in
+          let l : LeafAt (x .terms) (wtT m a M) δ d s at = leaf-at (rw was at (x .there .tree)) in
+          let room = l .room in (can-log l (l .fields .0) (omega arith), l .fields .2)
 
-      pub write-can : NodeStands d s starts n p at → Actionable d s at
-      write-can x = awr-can d s starts n p 10 at (can-move x 10 writes) refl
+      pub write-can : NodeHeld d s (snapshotOf starts p) at → Loggable s at
+      write-can x = written x .0
 
-      pub write-moved : {s′ : List ℕ} → s′ ≡ actionLogged d s at writeOffset →
+      pub write-fits : NodeHeld d s (snapshotOf starts p) at → Fits w8 (writeOffset + a)
+      write-fits x = let l = written x .1 in record { fits = omega arith }
+
+      pub write-moved : {s′ : List ℕ} → s′ ≡ logged d s at (writeOffset + a) →
           NodeMoved d s starts n p at (Moved 10) s′ starts
-      write-moved {s′} b = moved-by 10 writes (awr-does d s starts n p 10 at s′ refl b)
+      write-moved {s′} b =
+          moved-by 10 (write-rule d s (snapshotOf starts p) at read is)
+          (record {
+            found = λ ts h k x.
+                let (m, M, δ, was) = redex-here read is (move-inside x .stands) in rw b (awr-link x was);
+          })
 
-    -- a choice
-    module _ (e : k ≡ kindByte orElseK) where
-      chooses : RuleRead d s (snapshotOf starts p) at (Moved 11)
-      chooses = choice-rule-is d s (snapshotOf starts p) at l k kind e
+    -- an orElse
+    module _ (is : w ≡ OrElse) where
+      pub split-inside : NodeHeld d s (snapshotOf starts p) at → Splittable s at
+      split-inside x =
+          let (m, M, N, δ, was) = redex-here read is (x .there .tree) in
+          let l : LeafAt (x .terms) (orElseT m M N) δ d s at = leaf-at (rw was at (x .there .tree)) in
+          record { inside = l .inside; term = l .fields .0 }
 
-      pub choice-splits : NodeStands d s starts n p at → Splittable s at
-      choice-splits x = aoi-splits d s starts n p 11 at (can-move x 11 chooses) refl
+      split-link : (ts : List Term) (h : Configuration) (k : ℕ) (x : MoveAt ts h d s starts n p k 11 at) →
+          Alters ts h (after-move x) s starts n p at (at + leafSize) (forkBytes d s at)
+      split-link ts h k x = let (m, M, N, δ, was) = redex-here read is (move-inside x .stands) in aoi-link x was
 
-      pub choice-can : NodeStands d s starts n p at → CanAlter s starts n p at (at + leafSize) (forkBytes d s at)
-      choice-can x = aoi-can d s starts n p 11 at (can-move x 11 chooses) refl
+      pub split-can : NodeStands d s starts n p at → CanAlter s starts n p at (at + leafSize) (forkBytes d s at)
+      split-can x = part-can 11 (or-else-rule d s (snapshotOf starts p) at read is) split-link x
 
-      pub choice-moved : {s′ starts′ : List ℕ} → Altered s starts n p at (at + leafSize) (forkBytes d s at) s′ starts′ →
+      pub split-moved : {s′ starts′ : List ℕ} → Altered s starts n p at (at + leafSize) (forkBytes d s at) s′ starts′ →
           NodeMoved d s starts n p at (Moved 11) s′ starts′
-      choice-moved {s′} {starts′} r = moved-by 11 chooses (aoi-does d s starts n p 11 at s′ starts′ refl r)
+      split-moved r = part-moved 11 (or-else-rule d s (snapshotOf starts p) at read is) split-link r
 
-    pub leaf-stays : (k ≡ kindByte rdK → ⊥) → (k ≡ kindByte wtK → ⊥) → (k ≡ kindByte orElseK → ⊥) →
-        NodeMoved d s starts n p at (Refused 17) s starts
-    leaf-stays r w o = stays 17 (no-rule-is d s (snapshotOf starts p) at l k kind r w o)
+    -- a left side that says retry
+    module _ (is : w ≡ LeftRetries) where
+      pub drop-inside : NodeHeld d s (snapshotOf starts p) at → at + leftSize ≤ length s
+      drop-inside x =
+          let (m, δ, r, was) = redex-here read is (x .there .tree) in left-inside (rw was at (x .there .tree))
 
-  pub read-can : NodeStands d s starts n p at → (r : Bool) → r ≡ true → (a : ℕ) → ReadTested s (snapshotOf starts p) at a r → (w : ℕ) →
-      a ≡ firstAt d w → w ≡ termAt s at → (k : ℕ) → ExpressionKindRead d (termAt s at) k → k ≡ kindByte rdK →
-      LeafHeld d s (snapshotOf starts p) at → Actionable d s at
-  read-can x r so a tested w g q k kind e l = ardok-can d s starts n p 8 at (can-move x 8 (logs-read l kind e q g tested so)) refl
-
-  -- ---- a fork
-
-  module _ (f : getD s at 0 ≡ forkKind) {k : ℕ} (left : LeafKindRead d s (at + forkSize) k) where
-    by-left : (r : Reply) → r ≡ forkRule k → RuleRead d s (snapshotOf starts p) at r
-    by-left r q = fork-rule-is d s (snapshotOf starts p) at k r f left q
-
-    -- its left side ends
-    module _ (e : k ≡ kindByte endK) where
-      keeps : RuleRead d s (snapshotOf starts p) at (Moved 13)
-      keeps = by-left (Moved 13) (fork-ends k e)
-
-      pub keep-inside : NodeStands d s starts n p at → at + leftSize ≤ length s
-      keep-inside x =
-          aoe-inside d s starts n p 13 at (λ z. omega arith) (λ z. omega arith) (λ z. omega arith) (λ z. omega arith)
-          (λ z. omega arith) (can-move x 13 keeps)
-
-      pub keep-can : NodeStands d s starts n p at → CanAlter s starts n p at (treeEnd s at) (leftBytes s at)
-      keep-can x =
-          aoe-can d s starts n p 13 at (λ z. omega arith) (λ z. omega arith) (λ z. omega arith) (λ z. omega arith)
-          (λ z. omega arith) (can-move x 13 keeps)
-
-      pub keep-moved : {s′ starts′ : List ℕ} → Altered s starts n p at (treeEnd s at) (leftBytes s at) s′ starts′ →
-          NodeMoved d s starts n p at (Moved 13) s′ starts′
-      keep-moved {s′} {starts′} r =
-          moved-by 13 keeps
-          (aoe-does d s starts n p 13 at (λ z. omega arith) (λ z. omega arith) (λ z. omega arith) (λ z. omega arith)
-          (λ z. omega arith) s′ starts′ r)
-
-    -- its left side says retry
-    module _ (e : k ≡ kindByte retryK) where
-      drops : RuleRead d s (snapshotOf starts p) at (Moved 12)
-      drops = by-left (Moved 12) (fork-retries k e)
-
-      pub drop-inside : NodeStands d s starts n p at → at + leftSize ≤ length s
-      drop-inside x = aof-inside d s starts n p 12 at (can-move x 12 drops) refl
+      drop-link : (ts : List Term) (h : Configuration) (k : ℕ) (x : MoveAt ts h d s starts n p k 12 at) →
+          Alters ts h (after-move x) s starts n p at (at + leftSize) []
+      drop-link ts h k x = let (m, δ, r, was) = redex-here read is (move-inside x .stands) in aof-link x was
 
       pub drop-can : NodeStands d s starts n p at → CanAlter s starts n p at (at + leftSize) []
-      drop-can x = aof-can d s starts n p 12 at (can-move x 12 drops) refl
+      drop-can x = part-can 12 (left-retries-rule d s (snapshotOf starts p) at read is) drop-link x
 
       pub drop-moved : {s′ starts′ : List ℕ} → Altered s starts n p at (at + leftSize) [] s′ starts′ →
           NodeMoved d s starts n p at (Moved 12) s′ starts′
-      drop-moved {s′} {starts′} r = moved-by 12 drops (aof-does d s starts n p 12 at s′ starts′ refl r)
+      drop-moved r = part-moved 12 (left-retries-rule d s (snapshotOf starts p) at read is) drop-link r
 
-    pub fork-stays : (k ≡ kindByte endK → ⊥) → (k ≡ kindByte retryK → ⊥) →
-        NodeMoved d s starts n p at (Refused 17) s starts
-    fork-stays e r = stays 17 (by-left (Refused 17) (fork-waits k e r))
+    -- one that ends
+    module _ (is : w ≡ LeftEnds) where
+      pub keep-inside : NodeHeld d s (snapshotOf starts p) at → at + leftSize ≤ length s
+      keep-inside x =
+          let (m, δ, r, was) = redex-here read is (x .there .tree) in left-inside (rw was at (x .there .tree))
+
+      keep-link : (ts : List Term) (h : Configuration) (k : ℕ) (x : MoveAt ts h d s starts n p k 13 at) →
+          Alters ts h (after-move x) s starts n p at (treeEnd s at) (leftBytes s at)
+      keep-link ts h k x = let (m, δ, r, was) = redex-here read is (move-inside x .stands) in aoe-link x was
+
+      pub keep-can : NodeStands d s starts n p at → CanAlter s starts n p at (treeEnd s at) (leftBytes s at)
+      keep-can x = part-can 13 (left-ends-rule d s (snapshotOf starts p) at read is) keep-link x
+
+      pub keep-moved : {s′ starts′ : List ℕ} → Altered s starts n p at (treeEnd s at) (leftBytes s at) s′ starts′ →
+          NodeMoved d s starts n p at (Moved 13) s′ starts′
+      keep-moved r = part-moved 13 (left-ends-rule d s (snapshotOf starts p) at read is) keep-link r
+
+    -- none of these
+    pub stays : w ≡ Nothing → NodeMoved d s starts n p at (Refused 17) s starts
+    stays is = record {
+      read = no-rule d s (snapshotOf starts p) at read is;
+      made = λ k e. absurd (let z : _≡_ {A = ℕ} 0 1 = cc in omega arith);
+      unchanged = λ k e. (refl, refl);
+    }

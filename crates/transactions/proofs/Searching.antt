@@ -93,7 +93,8 @@ module _ {ts : List Term} {h : Configuration} {d s starts : List ℕ} {n p at : 
   found-node k place f =
       let o = there in
       let (y, u, w) =
-      node-found (x .holds) p (o .number) (o .block) (o .snapshot) (o .nodes) (o .there) k place (rw (x .begins) at f) in
+      node-found (x .holds) p (o .number) (o .block) (o .snapshot) (o .nodes) (o .there) k place
+      (rw (x .begins) at f) in
       let tree =
       node-at (x .decoded) (x .holds) p (o .number) (o .block) (o .snapshot) (o .nodes) (o .there) w in
       (y, u, w, record { tree = tree; counts = snapshot-at })

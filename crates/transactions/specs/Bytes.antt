@@ -16,26 +16,17 @@ sizeAt s at = getD s (at + leafLogLength) 0
 
 -- ---- ARDOK and AWR
 
--- another term, and one more action behind the log
-unfoldable pub logged : List ℕ → (at next action : ℕ) → List ℕ
-logged s at next action =
-    set (set (set s (at + leafTerm) next) (at + leafLogLength) (sizeAt s at + 1)) (at + (leafLog + sizeAt s at)) action
+-- the leaf goes on with its record's second field, and its log has one more action
+unfoldable pub logged : (d s : List ℕ) → (at action : ℕ) → List ℕ
+logged d s at action =
+    set (set (set s (at + leafTerm) (secondAt d (termAt s at))) (at + leafLogLength) (sizeAt s at + 1))
+    (at + (leafLog + sizeAt s at)) action
 
--- what follows the action, and the action: the term's second field, and its first with what a read or a write adds
-unfoldable pub actionLogged : (d s : List ℕ) → (at offset : ℕ) → List ℕ
-unfolding logged
-actionLogged d s at offset = logged s at (secondAt d (termAt s at)) (offset + firstAt d (termAt s at))
-
--- the log has room
+-- the term has a record, and the log has room
 pub record Loggable (s : List ℕ) (at : ℕ) : Type 0 where
   pub inside : at + leafSize ≤ length s
-  pub room : sizeAt s at < logSize
-
--- and the term's record has a channel
-pub record Actionable (d s : List ℕ) (at : ℕ) : Type 0 where
-  pub loggable : Loggable s at
   pub term : termAt s at < maxTerms
-  pub channel : firstAt d (termAt s at) < channels
+  pub room : sizeAt s at < logSize
 
 -- ---- AOI
 

@@ -4,23 +4,21 @@
 -- Assumes nothing.
 use Prim.Native.Nat.{ℕ, _+_, _≤_, _<_}
 use mathlib.Core.Path.{_≡_}
-use mathlib.Core.Bool.{Bool, cond}
+use mathlib.Core.Bool.{Bool}
 use mathlib.Core.List.{List, [], _∷_, _++_}
 use lib.ListN.{length}
-use lib.Dec.{eqb}
 use Rattle.calculus.specs.Syntax.{rd, Log, State}
-use Rattle.semantics.specs.Definitions.Terms.{Expression, Term}
+use Rattle.semantics.specs.Definitions.Terms.{Expression, endT, retryT, rdT, wtT, orElseT, Term}
 use Rattle.semantics.specs.Definitions.Logs.{readable}
-use Rattle.semantics.specs.Definitions.Configuration.{Tree, leaf, Configuration}
-use Rattle.semantics.specs.Definitions.Table.{endK, retryK, wtK, orElseK}
-use Rattle.semantics.specs.Checks.AcceptedTables.{kindByte}
+use Rattle.semantics.specs.Definitions.Configuration.{Tree, leaf, fork, Configuration}
 use Rattle.semantics.specs.Definitions.Moves.{Inner, evolves, noRule, outOfRange, reads, inner, inside, answerTo, ruleNumber, Reply, movedBy, refusedBy, replyOf}
 use Rattle.rules.specs.declared.Reply as code
-use Rattle.rules.specs.declared.Reply.the-variants as replies
 use Rattle.rules.specs.Replies.{replyIs}
 use Rattle.stored.specs.Layout.{channels, leafSize, leafLog, logSize}
 use Rattle.logs.specs.Places.{LogAt, CountsAt}
 use Rattle.leaves.specs.Leaves.{TreeAt, TransactionAt}
+use Rattle.transactions.specs.declared.redexes.Redex.{Redex}
+use Rattle.transactions.specs.declared.redexes.Redex.the-variants.{Read, Write, OrElse, LeftEnds, LeftRetries, Nothing}
 use Rattle.transactions.specs.Bytes.{sizeAt}
 
 -- ---- replies
@@ -58,19 +56,25 @@ pub record ReadTried (s : List ℕ) (snapshot at a : ℕ) (r : code.Reply) : Typ
   pub found : (δ : Log) (σ : State) (M : Expression) → ReadAt s snapshot at δ σ →
       replyIs r ≡ innerReply (reads σ a M δ)
 
--- ---- a leaf and a fork, by kind
+-- ---- a redex
 
--- of a leaf that reads nothing: rule 10 for a write, 11 for a choice
-unfoldable pub leafRule : ℕ → code.Reply
-leafRule k =
-    cond (eqb k (kindByte wtK)) (replies.Moved 10)
-    (cond (eqb k (kindByte orElseK)) (replies.Moved 11) (replies.Refused 17))
+-- what can move at the first node of a tree
+unfoldable pub redexOf : Tree → Redex
+redexOf (leaf (endT n) δ) = Nothing
+redexOf (leaf (retryT n) δ) = Nothing
+redexOf (leaf (rdT n a M) δ) = Read a
+redexOf (leaf (wtT n a M) δ) = Write a
+redexOf (leaf (orElseT n M N) δ) = OrElse
+redexOf (fork (leaf (endT n) δ) r) = LeftEnds
+redexOf (fork (leaf (retryT n) δ) r) = LeftRetries
+redexOf (fork (leaf (rdT n a M) δ) r) = Nothing
+redexOf (fork (leaf (wtT n a M) δ) r) = Nothing
+redexOf (fork (leaf (orElseT n M N) δ) r) = Nothing
+redexOf (fork (fork l m) r) = Nothing
 
--- of a fork, by the kind of its left side: rule 13 for an end, 12 for a retry
-unfoldable pub forkRule : ℕ → code.Reply
-forkRule k =
-    cond (eqb k (kindByte endK)) (replies.Moved 13)
-    (cond (eqb k (kindByte retryK)) (replies.Moved 12) (replies.Refused 17))
+-- r is the redex of the tree at an offset, whichever table and tree it is
+pub record RedexRead (d s : List ℕ) (at : ℕ) (r : Redex) : Type 0 where
+  pub found : (ts : List Term) (u : Tree) → TreeAt ts u d s at → r ≡ redexOf u
 
 -- ---- a node
 
@@ -86,15 +90,6 @@ pub record NodeHeld (d s : List ℕ) (snapshot at : ℕ) : Type 0 where
   pub counts : State
   pub there : HeldAt terms tree counts d s snapshot at
   pub inside : at < length s
-
--- and the tree is a leaf
-pub record LeafHeld (d s : List ℕ) (snapshot at : ℕ) : Type 0 where
-  pub terms : List Term
-  pub body : Expression
-  pub log : Log
-  pub counts : State
-  pub there : HeldAt terms (leaf body log) counts d s snapshot at
-  pub inside : at + leafSize ≤ length s
 
 -- r is what a move of the tree at its first node is answered, whatever the tree and the counts are
 pub record RuleRead (d s : List ℕ) (snapshot at : ℕ) (r : code.Reply) : Type 0 where

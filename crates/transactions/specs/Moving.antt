@@ -4,21 +4,23 @@
 -- Assumes nothing.
 use Prim.Native.Nat.{ℕ, _+_}
 use mathlib.Core.Path.{_≡_}
+use mathlib.Core.Bool.{Bool, cond}
 use mathlib.Core.List.{List}
-use lib.ListN.{getD}
+use lib.ListN.{getD, set}
 use Rattle.semantics.specs.Definitions.Terms.{Term}
 use Rattle.semantics.specs.Definitions.Configuration.{Configuration}
 use Rattle.semantics.specs.Definitions.Moves.{inside, answerTo, movedBy, replyOf}
 use Rattle.terms.specs.Decoded.{Decoded}
 use Rattle.stored.specs.declared.Place.the-variants.{At}
-use Rattle.stored.specs.Layout.{idleSize, transactionHead}
+use Rattle.stored.specs.Layout.{idleSize, transactionHead, leafTerm, noRecord, readOffset}
 use Rattle.stored.specs.Nodes.{nodeStart}
 use Rattle.index.specs.Holds.{Holds}
 use Rattle.index.specs.Choices.{afterwards}
 use Rattle.rules.specs.declared.Reply.{Reply}
 use Rattle.rules.specs.declared.Reply.the-variants.{Moved, Refused}
 use Rattle.leaves.specs.Leaves.{TransactionAt}
-use Rattle.transactions.specs.Finding.{RuleRead}
+use Rattle.transactions.specs.Bytes.{logged}
+use Rattle.transactions.specs.Finding.{ReadTested, RuleRead}
 
 -- node number k of the transaction at position p begins at this offset, and moves by the rule of this number
 pub record MoveAt (ts : List Term) (h : Configuration) (d s starts : List ℕ) (n p k rule at : ℕ) : Type 0 where
@@ -31,6 +33,15 @@ pub record MoveAt (ts : List Term) (h : Configuration) (d s starts : List ℕ) (
 pub record HasMoved (d s starts : List ℕ) (n p rule at : ℕ) (s′ starts′ : List ℕ) : Type 0 where
   pub found : (ts : List Term) (h : Configuration) (k : ℕ) → MoveAt ts h d s starts n p k rule at →
       Holds ts (afterwards (answerTo h (inside p k)) h) s′ starts′ n
+
+-- ---- a read that is made
+
+-- r is the rule by which a read of channel a moves, and the leaf with it logged, or become a retry, is in s′
+pub record ReadMade (d s : List ℕ) (snapshot at a : ℕ) (r : Reply) (s′ : List ℕ) : Type 0 where
+  pub allowed : Bool
+  pub tested : ReadTested s snapshot at a allowed
+  pub reply : r ≡ Moved (cond allowed 8 9)
+  pub bytes : s′ ≡ cond allowed (logged d s at (readOffset + a)) (set s (at + leafTerm) noRecord)
 
 -- ---- a node that moves, by what stands there
 

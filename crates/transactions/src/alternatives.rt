@@ -2,12 +2,6 @@
 use buffer::wide;
 use buffer::write_at;
 use index::replace_part;
-use records::END;
-use records::RETRY;
-use rules::AOE;
-use rules::AOF;
-use rules::NO_RULE;
-use rules::Reply;
 use stored::FORK_SIZE;
 use stored::INDEX_SIZE;
 use stored::KIND_FORK;
@@ -22,24 +16,12 @@ ghost use Rattle.stored.specs.Layout.{leafSize};
 ghost use Rattle.stored.specs.Nodes.{treeEnd};
 ghost use Rattle.index.specs.Holds.{CanAlter, Altered};
 ghost use Rattle.transactions.specs.Bytes.{leftSize, forkBytes, leftBytes, Splittable};
-ghost use Rattle.transactions.specs.Finding.{forkRule};
 
 // A fork and the leaf that is its left side.
 const LEFT_SIZE: usize = FORK_SIZE + LEAF_SIZE;
 
 // A fork of two leaves.
 const SPLIT_SIZE: usize = FORK_SIZE + 2 * LEAF_SIZE;
-
-// The rule for a fork, by the kind of its left side, or that there is none.
-pub fn fork_rule(left: u8) -> Reply
-    ensures { λ r. ⌜ r ≡ forkRule left ⌝ }
-{
-    match left {
-        END => Reply::Moved(AOE),
-        RETRY => Reply::Moved(AOF),
-        _ => Reply::Refused(NO_RULE),
-    }
-}
 
 // The leaf at an offset.
 fn leaf_bytes(hall: &[u8], at: usize) -> [u8; LEAF_SIZE]
@@ -58,14 +40,14 @@ fn fork_bytes(decoded: &[u8; DECODED], hall: &[u8], at: usize) -> [u8; SPLIT_SIZ
     ensures { λ r. ⌜ r ≡ forkBytes (now (decoded .entry)) (now (hall .entry)) at ⌝ }
 {
     let term = wide(hall[at + LEAF_TERM]);
-    let mut left = leaf_bytes(hall, at);
-    left[LEAF_TERM] = terms::first_of(decoded, term);
-    let mut right = leaf_bytes(hall, at);
-    right[LEAF_TERM] = terms::second_of(decoded, term);
+    let end = at + LEAF_SIZE;
+    let leaf = &hall[at..end];
     let mut new = [0u8; SPLIT_SIZE];
-    write_at(&mut new, FORK_SIZE, &left);
-    write_at(&mut new, FORK_SIZE + LEAF_SIZE, &right);
+    write_at(&mut new, FORK_SIZE, leaf);
+    write_at(&mut new, LEFT_SIZE, leaf);
     new[0] = KIND_FORK;
+    new[FORK_SIZE + LEAF_TERM] = terms::first_of(decoded, term);
+    new[LEFT_SIZE + LEAF_TERM] = terms::second_of(decoded, term);
     new
 }
 

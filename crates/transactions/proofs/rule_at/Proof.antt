@@ -1,38 +1,66 @@
 -- `rule_at` meets its contract. Assumes nothing.
-use Rattle.transactions.proofs.Finding.{left-stands, fork-rule-is, leaf-stands}
+use Rattle.transactions.proofs.Finding.{read-held, read-channel, read-rule, write-rule, or-else-rule, left-ends-rule, left-retries-rule, no-rule}
 use borrow.Author.Needs.{needs}
 use Rattle.transactions.proofs.rule_at.Statement.{statement}
 use Rattle.transactions.proofs.rule_at.Tie as tie
 
-shared-slice-read-if1 : tie.Need-shared-slice-read-if1
-shared-slice-read-if1 c = search needs
+redex-at-requires : tie.Need-redex-at-requires
+redex-at-requires c κs = search needs
 
-add-expression-kind-at : tie.Need-add-expression-kind-at
-add-expression-kind-at c = search needs
+enum-known-channel : tie.Need-enum-known-channel
+enum-known-channel c = search needs
 
-expression-kind-at-requires : tie.Need-expression-kind-at-requires
-expression-kind-at-requires c κs = search left-stands
+read-rule-requires : tie.Need-read-rule-requires
+read-rule-requires c κs = (search read-held, search read-channel)
 
-fork-rule-requires : tie.Need-fork-rule-requires
-fork-rule-requires c κs = search needs
+enum-told : tie.Need-enum-told
+enum-told c = search needs
+
+enum-told-2 : tie.Need-enum-told-2
+enum-told-2 c = search needs
+
+enum-told-3 : tie.Need-enum-told-3
+enum-told-3 c = search needs
+
+enum-told-4 : tie.Need-enum-told-4
+enum-told-4 c = search needs
+
+enum-told-5 : tie.Need-enum-told-5
+enum-told-5 c = search needs
 
 returns : tie.Need-returns
-returns c = search fork-rule-is
-
-leaf-rule-requires : tie.Need-leaf-rule-requires
-leaf-rule-requires c κs = search leaf-stands
+returns c = search read-rule
 
 returns-2 : tie.Need-returns-2
-returns-2 c = search needs
+returns-2 c = search write-rule
+
+returns-3 : tie.Need-returns-3
+returns-3 c = search or-else-rule
+
+returns-4 : tie.Need-returns-4
+returns-4 c = search left-ends-rule
+
+returns-5 : tie.Need-returns-5
+returns-5 c = search left-retries-rule
+
+returns-6 : tie.Need-returns-6
+returns-6 c = search no-rule
 
 pub rule-at-spec : {M : Type 1} → statement M
 rule-at-spec =
     tie.close
     (tie.spec
-    shared-slice-read-if1
-    add-expression-kind-at
-    expression-kind-at-requires
-    fork-rule-requires
+    redex-at-requires
+    enum-known-channel
+    read-rule-requires
+    enum-told
+    enum-told-2
+    enum-told-3
+    enum-told-4
+    enum-told-5
     returns
-    leaf-rule-requires
-    returns-2)
+    returns-2
+    returns-3
+    returns-4
+    returns-5
+    returns-6)

@@ -1,5 +1,7 @@
 -- `log_action` meets its contract. Assumes nothing.
-use Rattle.transactions.proofs.Bytes.{action-fits, action-logged-is}
+use native.Mathlib.Omega.{arith}
+use lib.ListN.{length-set}
+use Rattle.transactions.proofs.Bytes.{next-is, logged-is}
 use borrow.Author.Needs.{needs}
 use Rattle.transactions.proofs.actions.log_action.Statement.{statement}
 use Rattle.transactions.proofs.actions.log_action.Tie as tie
@@ -16,20 +18,44 @@ wide-requires c κs = search needs
 second-of-requires : tie.Need-second-of-requires
 second-of-requires c κs = search needs
 
-first-of-requires : tie.Need-first-of-requires
-first-of-requires c κs = search needs
+add-length : tie.Need-add-length
+add-length c = search needs
 
-add-action : tie.Need-add-action
-add-action c = search action-fits
+slice-read-length : tie.Need-slice-read-length
+slice-read-length c = search needs
 
-append-action-requires : tie.Need-append-action-requires
-append-action-requires c κs = search needs
+add-hall : tie.Need-add-hall
+add-hall c = search needs
+
+slice-write-hall : tie.Need-slice-write-hall
+slice-write-hall c = search needs
+
+add-hall-2 : tie.Need-add-hall-2
+add-hall-2 c = search needs
+
+add-hall-3 : tie.Need-add-hall-3
+add-hall-3 c = search needs
+
+slice-write-hall-2 : tie.Need-slice-write-hall-2
+slice-write-hall-2 c = simp length-set (omega arith)
+
+add-hall-4 : tie.Need-add-hall-4
+add-hall-4 c = search needs
+
+wide-requires-2 : tie.Need-wide-requires-2
+wide-requires-2 c κs = search needs
+
+add-hall-5 : tie.Need-add-hall-5
+add-hall-5 c = search needs
+
+slice-write-hall-3 : tie.Need-slice-write-hall-3
+slice-write-hall-3 c = simp length-set (omega arith)
 
 same-length : tie.Need-same-length
 same-length c = search needs
 
 returns : tie.Need-returns
-returns c = search action-logged-is
+returns c = logged-is _ _ _ _ _ _ (search next-is) (search needs)
 
 pub log-action-spec : {M : Type 1} → statement M
 log-action-spec =
@@ -39,8 +65,16 @@ log-action-spec =
     slice-read-wide
     wide-requires
     second-of-requires
-    first-of-requires
-    add-action
-    append-action-requires
+    add-length
+    slice-read-length
+    add-hall
+    slice-write-hall
+    add-hall-2
+    add-hall-3
+    slice-write-hall-2
+    add-hall-4
+    wide-requires-2
+    add-hall-5
+    slice-write-hall-3
     same-length
     returns)
