@@ -1,5 +1,5 @@
--- Writing a process's components meets its contract. The measure is the number, which falls at each call, and in the loop
--- over right sides.
+-- Writing a process's components meets its contract. The measure is the number, which falls at each call, and in the
+-- loop over right sides.
 -- Assumes nothing.
 use borrow.Author.Needs.{needs}
 use Rattle.opening.proofs.Components.{Walked, none-walked, rest-inside, rest-fits, rest-written, is-single, rest-side-fits, rest-side-inside, rest-side-less, rest-side-falls, right-walked}
