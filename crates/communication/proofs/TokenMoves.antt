@@ -13,6 +13,7 @@ use Rattle.calculus.specs.Reduction.{Rule}
 use Rattle.semantics.specs.Definitions.Layout.{maxCount, maxTerms}
 use Rattle.semantics.specs.Definitions.Terms.{Program, Term, process}
 use Rattle.semantics.specs.Definitions.Table.{takeK, repeatK}
+use Rattle.semantics.specs.Checks.AcceptedTables.{programNumber}
 use Rattle.semantics.specs.Definitions.Logs.{addToken, takeToken}
 use Rattle.semantics.specs.Definitions.Configuration.{Idle, taking, repeating, output, idle, Configuration}
 use Rattle.semantics.specs.Definitions.Stored.{componentBytes, ComponentOk}
@@ -52,26 +53,18 @@ module _ {ts : List Term} {d : List ℕ} (y : Decoded ts d) where
   number-inside : (m : ℕ) (t : Term) → getElem? ts m ≡ some t → m < maxTerms
   number-inside m t e = let l = found-below ts m t e in let f = y .good .few in omega arith
 
+  -- by what the table says of its term
+  told : (b : Bool) (m : ℕ) (a : Name) (P : Program) → m < maxTerms →
+      (kindAt d m ≡ takeKind b) × (firstAt d m ≡ a) × (secondAt d m ≡ programNumber P) × (secondAt d m < m) →
+      a < channels → getElem? ts (programNumber P) ≡ some (process P) → TakeIn ts d b m a P
+  told b m a P i r l c = record { inside = i; kind = r .0; channel = r .1; below = l; continuation = rw (r .2) c }
+
   pub take-in : (b : Bool) (m : ℕ) (a : Name) (P : Program) → getElem? ts m ≡ some (takeTerm b m a P) →
       TakeIn ts d b m a P
   take-in false m a P e =
-      let r = y .records m _ e in
-      record {
-        inside = number-inside m _ e;
-        kind = r .0;
-        channel = r .1;
-        below = y .good .channel m _ e;
-        continuation = rw (r .2) (y .good .subterms m _ e);
-      }
+      told false m a P (number-inside m _ e) (y .records m _ e) (y .good .channel m _ e) (y .good .subterms m _ e)
   take-in true m a P e =
-      let r = y .records m _ e in
-      record {
-        inside = number-inside m _ e;
-        kind = r .0;
-        channel = r .1;
-        below = y .good .channel m _ e;
-        continuation = rw (r .2) (y .good .subterms m _ e);
-      }
+      told true m a P (number-inside m _ e) (y .records m _ e) (y .good .channel m _ e) (y .good .subterms m _ e)
 
 -- ---- where an idle component stands
 
@@ -106,7 +99,7 @@ module _ {ts : List Term} {h : Configuration} {s starts : List ℕ} {n : ℕ} (x
   stored-and-laid a c r cs new pieces l m there bytes many q =
       record {
         from = withCounts (set (h .counts) a c) h;
-        laid = map idle cs;
+        successors = map idle cs;
         replaces = record {
           holds = count-stored x a c l m;
           there = there;

@@ -1,4 +1,5 @@
--- The cases of the answers on a hall are kept apart: two that say the same are the same, and so are the halls they leave.
+-- The cases of the answers on a hall are kept apart: two that say the same are the same, and so are the halls they
+-- leave.
 -- Assumes nothing.
 use Prim.Native.Nat.{ℕ}
 use native.Mathlib.Omega.{arith}

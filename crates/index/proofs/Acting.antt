@@ -76,18 +76,18 @@ acted h p k q =
 pub record Replacement (ts : List Term) (g : Configuration) (s starts : List ℕ) (n p : ℕ) (new : List ℕ) (pieces : ℕ) :
     Type 0 where
   pub from : Configuration
-  pub laid : List Component
-  pub replaces : Replaces ts from laid s starts n p new pieces
-  pub makes : g ≡ replacedAt p laid from
+  pub successors : List Component
+  pub replaces : Replaces ts from successors s starts n p new pieces
+  pub makes : g ≡ replacedAt p successors from
 
 module _ {ts : List Term} {g : Configuration} {s starts : List ℕ} {n p : ℕ} {new : List ℕ} {pieces : ℕ}
     (x : Replacement ts g s starts n p new pieces) where
   pub replacement-can : CanReplace s starts n p new pieces
-  replacement-can = record { terms = ts; configuration = x .from; laid = x .laid; replaces = x .replaces }
+  replacement-can = record { terms = ts; configuration = x .from; successors = x .successors; replaces = x .replaces }
 
   pub replacement-held : {s′ starts′ : List ℕ} {n′ : ℕ} → Replaced s starts n p new pieces s′ starts′ n′ →
       Holds ts g s′ starts′ n′
-  replacement-held r = rw (x .makes) (r .found ts (x .from) (x .laid) (x .replaces))
+  replacement-held r = rw (x .makes) (r .found ts (x .from) (x .successors) (x .replaces))
 
   -- by one component: there are as many as before
   pub replaced-by-one : pieces ≡ 1 → {s′ starts′ : List ℕ} {n′ : ℕ} → Replaced s starts n p new pieces s′ starts′ n′ →
@@ -97,8 +97,8 @@ module _ {ts : List Term} {g : Configuration} {s starts : List ℕ} {n p : ℕ} 
       let c = x .replaces .holds .counted in
       let l = x .replaces .there in
       let m = x .replaces .many in
-      let after : n′ ≡ length (replaceAt p (x .laid) (x .from .components)) = rw (x .makes) at (y .counted) in
-      let k = length-replaceAt (x .from .components) (x .laid) p (rw c at l) in
+      let after : n′ ≡ length (replaceAt p (x .successors) (x .from .components)) = rw (x .makes) at (y .counted) in
+      let k = length-replaceAt (x .from .components) (x .successors) p (rw c at l) in
       let same : n′ ≡ n = omega arith in rw same at y
 
 -- an act is one, once the counts are those that it leaves
@@ -114,7 +114,7 @@ acted-replacement {h} {p} m {ts} x y new pieces b l e =
     let form : WellFormed ts (m .result) = well-formed-step (act p) (x .good) (x .form) (m .answer) in
     record {
       from = withCounts (m .result .counts) h;
-      laid = m .laid;
+      successors = m .laid;
       replaces = record {
         holds = y;
         there = position-below x p (m .component) (m .found);

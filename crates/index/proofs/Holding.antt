@@ -1,5 +1,5 @@
--- What a run may rely on while a configuration is held: how long the bytes are, where each part stands in them, and what
--- code finds there.
+-- What a run may rely on while a configuration is held: how long the bytes are, where each part stands in them, and
+-- what code finds there.
 -- Assumes nothing.
 use Prim.Native.Nat.{ℕ, zero, suc, _+_, _-_, _≤_, _<_}
 use native.Mathlib.Omega.{arith}

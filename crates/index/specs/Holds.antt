@@ -65,8 +65,8 @@ pub record Replaces (ts : List Term) (h : Configuration) (ds : List Component) (
 pub record CanReplace (s starts : List ℕ) (n p : ℕ) (new : List ℕ) (pieces : ℕ) : Type 0 where
   pub terms : List Term
   pub configuration : Configuration
-  pub laid : List Component
-  pub replaces : Replaces terms configuration laid s starts n p new pieces
+  pub successors : List Component
+  pub replaces : Replaces terms configuration successors s starts n p new pieces
 
 -- whichever configuration was held, the one in which the component has given way is held now
 pub record Replaced (s starts : List ℕ) (n p : ℕ) (new : List ℕ) (pieces : ℕ) (s′ starts′ : List ℕ) (n′ : ℕ) :

@@ -38,6 +38,6 @@ walkable d n x i h =
         inside = omega arith;
         own = x .decoded .records i (t .0) (t .1);
         subterms = good .subterms i (t .0) (t .1);
-        entry = λ g. t .1;
+        listed = λ g. t .1;
       };
     }

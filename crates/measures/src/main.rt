@@ -171,14 +171,14 @@ fn same(m: Measures, breadth: u8, length: u8) -> bool {
 fn print_term(decoded: &[u8; DECODED], i: usize)
     requires { ⌜ Measurable (now decoded) 0 i ⌝ }
 {
-    let walked = terms::measures_of(decoded, 0, i);
+    let measures = terms::measures_of(decoded, 0, i);
     io::write_all(1, b"T");
     print_field(i as u64);
     print_field(terms::kind_of(decoded, i) as u64);
-    print_field(walked.breadth as u64);
-    print_field(walked.length as u64);
+    print_field(measures.breadth as u64);
+    print_field(measures.length as u64);
     if same(
-        walked,
+        measures,
         terms::breadth_of(decoded, i),
         terms::length_of(decoded, i),
     ) {

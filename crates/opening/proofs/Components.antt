@@ -3,6 +3,7 @@
 use Prim.Native.Nat.{ℕ, _+_, _*_, _≤_, _<_}
 use native.Mathlib.Omega.{arith}
 use mathlib.Core.Path.{_≡_, refl, sym, ap, _∙_}
+use mathlib.Core.Logic.{_⊎_, inl, inr, ⊎-elim}
 use mathlib.Core.Option.{some}
 use mathlib.Core.List.{List, [], _∷_, _++_, map, map-append}
 use lib.ListN.{length, getElem?, length-append}
@@ -116,17 +117,30 @@ module _ (d : List ℕ) (i k : ℕ) (kind : k ≡ kindAt d i) where
     sides-of : k ≡ 5 → SidesAt (x .terms) (x .tree) (x .decoded) (x .at)
     sides-of h = sides-at (x .terms) (x .tree) (x .decoded) (x .at) h
 
-    module _ (h : k ≡ 5) (f : ℕ) (o : f ≡ firstAt d i) (l : ℕ) (p : l ≡ f) where
-      pub left-fits : ComponentsFit d l s at
-      left-fits =
+    -- either side fits where both do, and has a smaller number
+    module _ (h : k ≡ 5) (f : ℕ) (o : (f ≡ firstAt d i) ⊎ (f ≡ secondAt d i)) (l : ℕ) (p : l ≡ f) where
+      pub side-fits : ComponentsFit d l s at
+      side-fits = go o
+        where
+          go : (f ≡ firstAt d i) ⊎ (f ≡ secondAt d i) → ComponentsFit d l s at
+          go (inl e) =
+              let v = sides-of h in
+              let z = v .sum in
+              let n = x .fits in
+              record { terms = x .terms; tree = v .left; decoded = x .decoded; at = rw (p, e) (v .at-left); fits = omega arith }
+          go (inr e) =
+              let v = sides-of h in
+              let z = v .sum in
+              let n = x .fits in
+              record { terms = x .terms; tree = v .right; decoded = x .decoded; at = rw (p, e) (v .at-right); fits = omega arith }
+
+      pub side-falls : l < i
+      side-falls =
           let v = sides-of h in
-          let z = v .sum in
-          let f = x .fits in
-          record { terms = x .terms; tree = v .left; decoded = x .decoded; at = rw (p, o) (v .at-left); fits = omega arith }
+          let b = v .below-left in
+          let c = v .below-right in ⊎-elim (λ e. omega arith) (λ e. omega arith) o
 
-      pub left-falls : (t : ℕ) → i ≡ t → l < t
-      left-falls t q = let v = sides-of h .below-left in omega arith
-
+    module _ (h : k ≡ 5) (f : ℕ) (o : f ≡ firstAt d i) (l : ℕ) (p : l ≡ f) where
       module _ (s′ : List ℕ) (middle : ℕ) (w : ComponentsWritten d l s at s′ middle) (g : ℕ) (u : g ≡ secondAt d i) (r : ℕ) (q : r ≡ g) where
         left-length : length s′ ≡ length s
         left-length =
@@ -160,9 +174,6 @@ module _ (d : List ℕ) (i k : ℕ) (kind : k ≡ kindAt d i) where
                 let n = length-append (componentsBytes (v .left)) (componentsBytes (v .right)) in
                 let twice = written-twice s (componentsBytes (v .left)) (componentsBytes (v .right)) at (omega arith) in
                 rw (v .bytes) (omega (arith, a .0, b .0), b .1 ∙ rw (a .1, a .0) twice)
-
-    pub right-falls : k ≡ 5 → (g : ℕ) → g ≡ secondAt d i → (r : ℕ) → r ≡ g → (t : ℕ) → i ≡ t → r < t
-    right-falls h g u r q t e = let v = sides-of h .below-right in omega arith
 
     -- ---- one component
 
@@ -234,24 +245,24 @@ module _ (d : List ℕ) (i : ℕ) (s₀ : List ℕ) (at : ℕ) (rest : ℕ) (s :
   rest-written = x .whole
 
   module _ (k : ℕ) (kind : k ≡ kindAt d rest) where
-    module _ (h : k ≡ 5) (f : ℕ) (o : f ≡ firstAt d rest) (l : ℕ) (p : l ≡ f) where
-      pub rest-left-fits : ComponentsFit d l s end
-      rest-left-fits = left-fits d rest k kind s end (x .fits) h f o l p
+    module _ (h : k ≡ 5) (f : ℕ) (o : (f ≡ firstAt d rest) ⊎ (f ≡ secondAt d rest)) (l : ℕ) (p : l ≡ f) where
+      pub rest-side-fits : ComponentsFit d l s end
+      rest-side-fits = side-fits d rest k kind s end (x .fits) h f o l p
 
-      pub rest-left-inside : l < maxTerms
-      rest-left-inside = inside d l s end rest-left-fits
+      pub rest-side-inside : l < maxTerms
+      rest-side-inside = inside d l s end rest-side-fits
 
-      pub rest-left-falls : (t : ℕ) → i ≡ t → l < t
-      rest-left-falls t q = let a = left-falls d rest k kind s end (x .fits) h f o l p rest refl in let b = x .last in omega arith
+      pub rest-side-less : l < rest
+      rest-side-less = side-falls d rest k kind s end (x .fits) h f o l p
 
-      module _ (g : ℕ) (u : g ≡ secondAt d rest) (r : ℕ) (q : r ≡ g) where
-        pub right-less : r < rest
-        right-less = right-falls d rest k kind s end (x .fits) h g u r q rest refl
+      pub rest-side-falls : (t : ℕ) → i ≡ t → l < t
+      rest-side-falls t q = let a = rest-side-less in let b = x .last in omega arith
 
-        pub right-walked : (s′ : List ℕ) (middle : ℕ) → ComponentsWritten d l s end s′ middle → Walked d i s₀ at r s′ middle
-        right-walked s′ middle w = record {
-          fits = right-fits d rest k kind s end (x .fits) h f o l p s′ middle w g u r q;
-          last = let a = right-less in let b = x .last in omega arith;
-          sized = left-length d rest k kind s end (x .fits) h f o l p s′ middle w g u r q ∙ x .sized;
-          whole = λ s″ e v. x .whole s″ e (both-written d rest k kind s end (x .fits) h f o l p s′ middle w g u r q s″ e v);
-        }
+    pub right-walked : k ≡ 5 → (f : ℕ) → f ≡ firstAt d rest → (l : ℕ) → l ≡ f → (g : ℕ) → g ≡ secondAt d rest → (r : ℕ) → r ≡ g →
+        (s′ : List ℕ) (middle : ℕ) → ComponentsWritten d l s end s′ middle → Walked d i s₀ at r s′ middle
+    right-walked h f o l p g u r q s′ middle w = record {
+      fits = right-fits d rest k kind s end (x .fits) h f o l p s′ middle w g u r q;
+      last = let a = rest-side-less h g (inr u) r q in let b = x .last in omega arith;
+      sized = left-length d rest k kind s end (x .fits) h f o l p s′ middle w g u r q ∙ x .sized;
+      whole = λ s″ e v. x .whole s″ e (both-written d rest k kind s end (x .fits) h f o l p s′ middle w g u r q s″ e v);
+    }

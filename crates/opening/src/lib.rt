@@ -79,8 +79,8 @@ pub fn write_components(decoded: &[u8; DECODED], term: usize, hall: &mut [u8], a
     write_single(decoded, term, hall, at)
 }
 
-// How many components the process at a term number opens into: written into a buffer, and counted there. A process is at
-// most as wide as a hall has components.
+// How many components the process at a term number opens into: written into a buffer, and counted there. A process is
+// at most as wide as a hall has components.
 pub fn component_count(decoded: &[u8; DECODED], term: usize) -> usize
     requires { ⌜ AProcess (now decoded) term ⌝ }
     ensures { λ r. ⌜ ComponentsCounted (now (decoded .entry)) term r ⌝ }

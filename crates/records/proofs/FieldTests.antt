@@ -4,14 +4,15 @@ use Prim.Native.Nat.{ℕ, zero, suc, _≤_, _<_}
 use native.Mathlib.Omega.{arith}
 use mathlib.Core.Path.{_≡_, refl, ap}
 use mathlib.Core.Bool.{Bool, true, false, _||_}
-use mathlib.Core.Option.{some}
+use mathlib.Core.Option.{Option, none, some}
 use mathlib.Core.List.{List, [], _∷_}
 use lib.ListN.{length, getElem?}
 use lib.Dec.{leb}
 use Rattle.semantics.specs.Definitions.Layout.{channels}
 use Rattle.semantics.specs.Definitions.Terms.{Term}
-use Rattle.semantics.specs.Definitions.Table.{Kind, kindByNumber, Field, channelF, programF, amountF, fields, anyField, channelOutOfRange, forwardReference}
-use Rattle.records.specs.Shapes.{bodyOf, fieldNumber, fieldFrom, failsAt}
+use Rattle.semantics.specs.Definitions.Table.{Kind, kindByNumber, Field, channelF, programF, expressionF, amountF, fields, anyField, channelOutOfRange, forwardReference}
+use Rattle.records.specs.declared.Shape.{Shape}
+use Rattle.records.specs.Shapes.{bodyOf, fieldNumber, fieldFrom, failsAt, numberOf, shapeOf}
 use Rattle.records.proofs.Shapes.{body-of-kind, body-few}
 
 -- ---- 4
@@ -49,6 +50,14 @@ no-reference (suc (suc (suc (suc f)))) b ts h = refl
 
 -- ---- both fields
 
+from-number : (o : Option Field) → fieldFrom (numberOf o) ≡ o
+unfolding fieldFrom
+from-number none = refl
+from-number (some channelF) = refl
+from-number (some programF) = refl
+from-number (some expressionF) = refl
+from-number (some amountF) = refl
+
 module _ (fails : Field → ℕ → Bool) (l r : ℕ) where
   two-fields : (fs : List Field) → length fs ≤ 2 →
       anyField fails fs (l ∷ r ∷ []) ≡ (failsAt fails (getElem? fs 0) l || failsAt fails (getElem? fs 1) r)
@@ -62,8 +71,10 @@ module _ (fails : Field → ℕ → Bool) (l r : ℕ) where
       last false = refl
   two-fields (f ∷ e ∷ d ∷ fs) h = absurd (omega arith)
 
-  -- of a record of kind k, whose fields are those with the numbers f and g
-  pub both-fields : (k : ℕ) (K : Kind) → kindByNumber k ≡ some K → (f : ℕ) → fieldFrom f ≡ getElem? (bodyOf k) 0 →
-      (g : ℕ) → fieldFrom g ≡ getElem? (bodyOf k) 1 →
-      anyField fails (fields K) (l ∷ r ∷ []) ≡ (failsAt fails (fieldFrom f) l || failsAt fails (fieldFrom g) r)
-  both-fields k K named f p g q = rw (p, q, ← (body-of-kind k K named)) (two-fields (bodyOf k) (body-few k (length (bodyOf k)) refl))
+  -- of a record of kind k, whose shape is y
+  pub both-fields : (k : ℕ) (K : Kind) → kindByNumber k ≡ some K → (y : Shape) → y ≡ shapeOf k →
+      anyField fails (fields K) (l ∷ r ∷ []) ≡ (failsAt fails (fieldFrom (y .1)) l || failsAt fails (fieldFrom (y .2)) r)
+  unfolding shapeOf
+  both-fields k K named y p =
+      rw (p, from-number (getElem? (bodyOf k) 0), from-number (getElem? (bodyOf k) 1), ← (body-of-kind k K named))
+      (two-fields (bodyOf k) (body-few k (length (bodyOf k)) refl))

@@ -16,6 +16,13 @@ pub record IsKind (k : ℕ) : Type 0 where
   pub low : kindByte nilK ≤ k
   pub high : k ≤ lastKind
 
+-- a record of kind k begins at an offset; another is the one behind it
+pub record RecordBegins (s : List ℕ) (at k next : ℕ) : Type 0 where
+  pub inside : at < length s
+  pub known : IsKind k
+  pub kind : k ≡ getD s at 0
+  pub behind : next ≡ at + 1 + length (bodyOf k)
+
 -- a whole record stands at an offset
 pub record WholeRecord (s : List ℕ) (at : ℕ) (x : Record) : Type 0 where
   pub known : IsKind (x .kind)

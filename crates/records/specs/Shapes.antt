@@ -5,9 +5,11 @@ use Prim.Native.Nat.{ℕ, zero, suc}
 use mathlib.Core.Bool.{Bool, false}
 use mathlib.Core.Option.{Option, none, some}
 use mathlib.Core.List.{List, []}
+use lib.ListN.{getElem?}
 use Rattle.semantics.specs.Definitions.Terms.{Term, process, expression}
 pub use Rattle.semantics.specs.Checks.AcceptedTables.{kindByte}
 use Rattle.semantics.specs.Definitions.Table.{Kind, startK, kindByNumber, Field, channelF, programF, expressionF, amountF, fields, Content, termRecord, tokensRecord, startRecord, recordContent}
+use Rattle.records.specs.declared.Shape.{Shape}
 
 -- no byte past it is a kind
 abbrev pub lastKind : ℕ
@@ -68,3 +70,15 @@ classOfKind (some K) = contentClass (recordContent [] [] K)
 unfoldable pub classOf : ℕ → ℕ
 unfolding kindByNumber classOfKind
 classOf k = classOfKind (kindByNumber k)
+
+-- ---- all of it
+
+-- the number of a field, 0 for none
+abbrev pub numberOf : Option Field → ℕ
+numberOf none = 0
+numberOf (some f) = fieldNumber f
+
+-- by the byte of a kind: its class, and the numbers of its fields
+unfoldable pub shapeOf : ℕ → Shape
+unfolding bodyOf classOf
+shapeOf k = (classOf k, numberOf (getElem? (bodyOf k) 0), numberOf (getElem? (bodyOf k) 1))

@@ -1,5 +1,5 @@
-// The records of a rule table: their kinds, the body and the class of each kind, the record at an offset, the reader that
-// draws it, and the tests on one field that need no earlier term.
+// The records of a rule table: their kinds, the class and the fields of each kind, the record at an offset, the reader
+// that draws it, and the tests on one field that need no earlier term.
 mod reader;
 
 use buffer::byte_at;
@@ -8,12 +8,11 @@ pub use reader::Reader;
 pub use reader::parse;
 ghost use mathlib.Core.Path.{_≡_};
 ghost use mathlib.Core.List.{List};
-ghost use Prim.Native.Nat.{_<_};
 ghost use lib.ListN.{length};
 ghost use Rattle.semantics.specs.Definitions.Terms.{Term};
 ghost use Rattle.semantics.specs.Definitions.Table.{channelOutOfRange, forwardReference};
-ghost use Rattle.records.specs.Shapes.{kindsEnd, bodyOf, fieldFrom, failsAt, classOf};
-ghost use Rattle.records.specs.Parsing.{ParsedAs};
+ghost use Rattle.records.specs.Shapes.{fieldFrom, failsAt, classOf, shapeOf};
+ghost use Rattle.records.specs.Parsing.{RecordBegins, ParsedAs};
 
 // The kinds: processes, expressions, and the two that are no terms.
 pub const NIL: u8 = 1;
@@ -62,9 +61,39 @@ pub const COUNT: u8 = 4;
 // The class of a record that is no term.
 pub const NO_CLASS: u8 = 0;
 
-// How long the bodies are, two bits for each kind, from START down to kind 0, which there is not. A number, and not an
-// array: reading it takes no memory.
-const BODY_LENGTHS: usize = 0b01_10_10_10_10_00_00_01_10_10_10_01_00_00;
+// The class of a kind's records, and their first and second field.
+pub struct Shape(pub u8, pub u8, pub u8);
+
+// What the records of a kind are, in a line for each: nothing else tells it, least of all the order of the kinds. A
+// body has a byte for each field.
+pub fn shape_of(kind: u8) -> Shape
+    ensures { λ r. ⌜ r ≡ shapeOf kind ⌝ }
+{
+    match kind {
+        NIL => Shape(PROCESS, NO_FIELD, NO_FIELD),
+        PUT => Shape(PROCESS, CHANNEL, NO_FIELD),
+        TAKE => Shape(PROCESS, CHANNEL, PROCESS),
+        REPEATED_TAKE => Shape(PROCESS, CHANNEL, PROCESS),
+        PAR => Shape(PROCESS, PROCESS, PROCESS),
+        ATOM => Shape(PROCESS, EXPRESSION, NO_FIELD),
+        END => Shape(EXPRESSION, NO_FIELD, NO_FIELD),
+        RETRY => Shape(EXPRESSION, NO_FIELD, NO_FIELD),
+        RD => Shape(EXPRESSION, CHANNEL, EXPRESSION),
+        WT => Shape(EXPRESSION, CHANNEL, EXPRESSION),
+        OR_ELSE => Shape(EXPRESSION, EXPRESSION, EXPRESSION),
+        TOKENS => Shape(NO_CLASS, CHANNEL, COUNT),
+        START => Shape(NO_CLASS, PROCESS, NO_FIELD),
+        _ => Shape(NO_CLASS, NO_FIELD, NO_FIELD),
+    }
+}
+
+// The class of a kind's records: PROCESS, EXPRESSION or NO_CLASS.
+pub fn class_of(kind: u8) -> u8
+    ensures { λ r. ⌜ r ≡ classOf kind ⌝ }
+{
+    let Shape(class, _, _) = shape_of(kind);
+    class
+}
 
 // A record: its kind, the two bytes behind the kind (0 past the table's end), which are its body where that has as
 // many, and the offset behind it.
@@ -85,27 +114,26 @@ pub enum Parsed {
     Whole(Record),
 }
 
-// The class of a kind's records: PROCESS, EXPRESSION or NO_CLASS. Nothing else tells it, least of all the order of the
-// kinds.
-pub fn class_of(kind: u8) -> u8
-    ensures { λ r. ⌜ r ≡ classOf kind ⌝ }
+// The record of a kind that begins at an offset, with the offset behind it.
+fn record_up_to(table: &[u8], at: usize, kind: u8, next: usize) -> Parsed
+    requires { ⌜ RecordBegins (now table) at kind next ⌝ }
+    ensures { λ r. ⌜ ParsedAs (now (table .entry)) at r ⌝ }
 {
-    match kind {
-        NIL | PUT | TAKE | REPEATED_TAKE | PAR | ATOM => PROCESS,
-        END | RETRY | RD | WT | OR_ELSE => EXPRESSION,
-        _ => NO_CLASS,
+    if table.len() < next {
+        return Parsed::CutShort;
     }
+    let first = byte_at(table, at + 1);
+    let second = byte_at(table, at + 2);
+    Parsed::Whole(Record {
+        kind,
+        first,
+        second,
+        next,
+    })
 }
 
-// How many bytes the body of a kind's records has.
-fn body_length(kind: u8) -> usize
-    requires { ⌜ kind < kindsEnd ⌝ }
-    ensures { λ r. ⌜ r ≡ length (bodyOf kind) ⌝ }
-{
-    (BODY_LENGTHS >> (2 * wide(kind))) & 3
-}
-
-// What stands at an offset: the work beneath the reader.
+// What stands at an offset: the work beneath the reader. Each length of a body has a way of its own, so that where the
+// next record begins is foreseen, and need not wait for this one's kind.
 fn record_at(table: &[u8], at: usize) -> Parsed
     ensures { λ r. ⌜ ParsedAs (now (table .entry)) at r ⌝ }
 {
@@ -119,18 +147,14 @@ fn record_at(table: &[u8], at: usize) -> Parsed
     if LAST_KIND < kind {
         return Parsed::UnknownKind;
     }
-    let next = at + 1 + body_length(kind);
-    if table.len() < next {
-        return Parsed::CutShort;
+    let Shape(_, first, second) = shape_of(kind);
+    if first == NO_FIELD {
+        return record_up_to(table, at, kind, at + 1);
     }
-    let first = byte_at(table, at + 1);
-    let second = byte_at(table, at + 2);
-    Parsed::Whole(Record {
-        kind,
-        first,
-        second,
-        next,
-    })
+    if second == NO_FIELD {
+        return record_up_to(table, at, kind, at + 2);
+    }
+    record_up_to(table, at, kind, at + 3)
 }
 
 // 4, on one field: a channel that no hall has.

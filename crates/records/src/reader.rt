@@ -1,5 +1,5 @@
-// The reader that draws a table's records. Its functions are thin: each takes it apart or puts it together, and the work
-// is done on a slice and an offset.
+// The reader that draws a table's records. Its functions are thin: each takes it apart or puts it together, and the
+// work is done on a slice and an offset.
 use crate::Parsed;
 use crate::record_at;
 ghost use mathlib.Core.Path.{_≡_};

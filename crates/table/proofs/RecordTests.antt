@@ -1,6 +1,5 @@
 -- The tests on a record: a law for each way that each ends, and what each call on the way asks.
 -- Assumes nothing.
-use Prim.{Unit}
 use Prim.Native.Nat.{ℕ, zero, suc, _≤_, _<_}
 use native.Mathlib.Omega.{arith}
 use mathlib.Core.Path.{_≡_, refl, sym, _∙_}
@@ -13,28 +12,26 @@ use lib.Dec.{leb, eqb}
 use borrow.Author.Tests.{leb-false, ne-eqb}
 use Rattle.semantics.specs.Definitions.Layout.{channels, maxTerms}
 use Rattle.semantics.specs.Definitions.Terms.{Term, process, expression}
-use Rattle.semantics.specs.Definitions.Table.{putK, takeK, repeatK, parK, atomK, rdK, wtK, orElseK, tokensK, startK, Field, programF, amountF, fields, Content, termRecord, tokensRecord, startRecord, isProgram, isExpression, anyField, tooManyTerms, channelOutOfRange, forwardReference, classMismatch, badTokens}
+use Rattle.semantics.specs.Definitions.Table.{Field, programF, amountF, fields, Content, termRecord, tokensRecord, startRecord, isProgram, isExpression, anyField, tooManyTerms, channelOutOfRange, forwardReference, classMismatch, badTokens}
 use Rattle.theorems.proofs.Lists.{found-at}
 use Rattle.records.specs.declared.Record.{Record}
-use Rattle.records.specs.Shapes.{kindByte, bodyOf, fieldNumber, fieldFrom, failsAt, termClass, contentClass, classOf}
-use Rattle.records.specs.Parsing.{IsKind}
+use Rattle.records.specs.declared.Shape.{Shape}
+use Rattle.records.specs.Shapes.{fieldNumber, fieldFrom, failsAt, termClass, contentClass, classOf, shapeOf}
+use Rattle.records.proofs.Shapes.{shape-class}
 use Rattle.records.proofs.Classes.{class-of-content}
 use Rattle.records.proofs.FieldTests.{both-fields}
 use Rattle.terms.specs.Decoded.{tokensIn, kindAt, Decoded}
 use Rattle.terms.proofs.TermKinds.{record-class}
-use Rattle.tablelaws.specs.Refusals.{KindAt, fieldRefusal}
-use Rattle.table.specs.RecordTests.{DecodedSoFar, TermLimitTested, EarlierReference, ClassTested, HasFields, FieldsTested}
+use Rattle.tablelaws.specs.Refusals.{KindAt, content, fieldRefusal}
+use Rattle.table.specs.RecordTests.{DecodedSoFar, TermLimitTested, EarlierReference, ClassTested, FieldsTested}
 
 -- ---- 3
 
--- c is the class of kind k
-module _ (k n c : ℕ) (class : c ≡ classOf k) where
-  by-content : (b : Bool) → ((ts : List Term) (x : Content) → length ts ≡ n → c ≡ contentClass x → b ≡ tooManyTerms ts x) → TermLimitTested k n b
-  by-content b f = record { found = λ ts K l r count. f ts _ count (class ∙ rw (← (K .byte)) at (class-of-content ts (l ∷ r ∷ []) (K .kind))) }
-
-  pub other-room : c ≡ 0 → TermLimitTested k n false
+-- c is the class of a record
+module _ (n c : ℕ) where
+  pub other-room : c ≡ 0 → TermLimitTested c n false
   unfolding tooManyTerms
-  other-room h = by-content false go
+  other-room h = record { found = go }
     where
       go : (ts : List Term) (x : Content) → length ts ≡ n → c ≡ contentClass x → false ≡ tooManyTerms ts x
       go ts (termRecord (process P)) count s = absurd (omega arith)
@@ -42,9 +39,9 @@ module _ (k n c : ℕ) (class : c ≡ classOf k) where
       go ts (tokensRecord a m) count s = refl
       go ts (startRecord P) count s = refl
 
-  pub term-room : (c ≡ 0 → ⊥) → TermLimitTested k n (leb maxTerms n)
+  pub term-room : (c ≡ 0 → ⊥) → TermLimitTested c n (leb maxTerms n)
   unfolding tooManyTerms
-  term-room h = by-content (leb maxTerms n) go
+  term-room h = record { found = go }
     where
       go : (ts : List Term) (x : Content) → length ts ≡ n → c ≡ contentClass x → leb maxTerms n ≡ tooManyTerms ts x
       go ts (termRecord t) count s = rw (← count)
@@ -111,29 +108,6 @@ module _ (d : List ℕ) (a n : ℕ) where
   unfolding badTokens
   given-before h l x p t q = rw (ne-eqb n 0 h, getD-take channels d a 0 l, q, p)
 
--- ---- the kinds that have no field
-
-abbrev Others : ℕ → Type 0
-Others k = (((((((((Unit {0} × (k ≡ kindByte putK → ⊥)) × (k ≡ kindByte takeK → ⊥)) × (k ≡ kindByte repeatK → ⊥)) × (k ≡ kindByte parK → ⊥)) × (k ≡ kindByte atomK → ⊥)) × (k ≡ kindByte rdK → ⊥)) × (k ≡ kindByte wtK → ⊥)) × (k ≡ kindByte orElseK → ⊥)) × (k ≡ kindByte tokensK → ⊥)) × (k ≡ kindByte startK → ⊥)
-
-pub no-fields : (k : ℕ) → IsKind k → Others k → HasFields k 0 0
-unfolding bodyOf fieldFrom
-no-fields zero h r = record { first = refl; second = refl }
-no-fields (suc zero) h r = record { first = refl; second = refl }
-no-fields (suc (suc zero)) h r = absurd (r .0 .0 .0 .0 .0 .0 .0 .0 .0 .1 refl)
-no-fields (suc (suc (suc zero))) h r = absurd (r .0 .0 .0 .0 .0 .0 .0 .0 .1 refl)
-no-fields (suc (suc (suc (suc zero)))) h r = absurd (r .0 .0 .0 .0 .0 .0 .0 .1 refl)
-no-fields (suc (suc (suc (suc (suc zero))))) h r = absurd (r .0 .0 .0 .0 .0 .0 .1 refl)
-no-fields (suc (suc (suc (suc (suc (suc zero)))))) h r = absurd (r .0 .0 .0 .0 .0 .1 refl)
-no-fields (suc (suc (suc (suc (suc (suc (suc zero))))))) h r = record { first = refl; second = refl }
-no-fields (suc (suc (suc (suc (suc (suc (suc (suc zero)))))))) h r = record { first = refl; second = refl }
-no-fields (suc (suc (suc (suc (suc (suc (suc (suc (suc zero))))))))) h r = absurd (r .0 .0 .0 .0 .1 refl)
-no-fields (suc (suc (suc (suc (suc (suc (suc (suc (suc (suc zero)))))))))) h r = absurd (r .0 .0 .0 .1 refl)
-no-fields (suc (suc (suc (suc (suc (suc (suc (suc (suc (suc (suc zero))))))))))) h r = absurd (r .0 .0 .1 refl)
-no-fields (suc (suc (suc (suc (suc (suc (suc (suc (suc (suc (suc (suc zero)))))))))))) h r = absurd (r .0 .1 refl)
-no-fields (suc (suc (suc (suc (suc (suc (suc (suc (suc (suc (suc (suc (suc zero))))))))))))) h r = absurd (r .1 refl)
-no-fields (suc (suc (suc (suc (suc (suc (suc (suc (suc (suc (suc (suc (suc (suc k)))))))))))))) h r = absurd (omega arith)
-
 -- ---- 3 to 6 in number order
 
 -- a test that passed
@@ -145,20 +119,26 @@ pub earlier : (d : List ℕ) (n : ℕ) → DecodedSoFar d n → (f byte : ℕ) (
     ((ts : List Term) → length ts ≡ n → b ≡ failsAt (forwardReference ts) (fieldFrom f) byte) → b ≡ false → EarlierReference d f byte
 earlier d n x f byte b e h = record { terms = x .terms; decoded = x .decoded; earlier = passes b _ (e (x .terms) (x .counted)) h }
 
-module _ (d : List ℕ) (n : ℕ) (x : Record) (f : ℕ) (pf : fieldFrom f ≡ getElem? (bodyOf (x .kind)) 0)
-    (g : ℕ) (pg : fieldFrom g ≡ getElem? (bodyOf (x .kind)) 1) where
+-- y is the shape of the record's kind
+module _ (d : List ℕ) (n : ℕ) (x : Record) (k : ℕ) (same : x .kind ≡ k) (y : Shape) (p : y ≡ shapeOf k) where
+  shape : y ≡ shapeOf (x .kind)
+  shape = rw same p
+
   -- a test on the first field, on the second, on both
   abbrev first-fails : (Field → ℕ → Bool) → Bool
-  first-fails fails = failsAt fails (fieldFrom f) (x .first)
+  first-fails fails = failsAt fails (fieldFrom (y .1)) (x .first)
 
   abbrev second-fails : (Field → ℕ → Bool) → Bool
-  second-fails fails = failsAt fails (fieldFrom g) (x .second)
+  second-fails fails = failsAt fails (fieldFrom (y .2)) (x .second)
 
   on-both : (fails : Field → ℕ → Bool) (K : KindAt (x .kind)) →
       anyField fails (fields (K .kind)) (x .first ∷ x .second ∷ []) ≡ (first-fails fails || second-fails fails)
-  on-both fails K = both-fields fails (x .first) (x .second) (x .kind) (K .kind) (K .named) f pf g pg
+  on-both fails K = both-fields fails (x .first) (x .second) (x .kind) (K .kind) (K .named) y shape
 
-  module _ (b3 : Bool) (e3 : TermLimitTested (x .kind) n b3) where
+  class : (K : KindAt (x .kind)) (ts : List Term) → y .0 ≡ contentClass (content ts (K .kind) (x .first) (x .second))
+  class K ts = shape-class (x .kind) y shape ∙ rw (← (K .byte)) at (class-of-content ts (x .first ∷ x .second ∷ []) (K .kind))
+
+  module _ (b3 : Bool) (e3 : TermLimitTested (y .0) n b3) where
     in-order : (ts : List Term) (K : KindAt (x .kind)) → length ts ≡ n →
         fieldRefusal ts (K .kind) (x .first) (x .second) 0
         ≡ cond b3 3
@@ -166,49 +146,49 @@ module _ (d : List ℕ) (n : ℕ) (x : Record) (f : ℕ) (pf : fieldFrom f ≡ g
         (cond (first-fails (forwardReference ts) || second-fails (forwardReference ts)) 5
         (cond (first-fails (classMismatch ts) || second-fails (classMismatch ts)) 6 0)))
     unfolding fieldRefusal
-    in-order ts K count = rw (← (e3 .found ts K (x .first) (x .second) count), on-both channelOutOfRange K, on-both (forwardReference ts) K, on-both (classMismatch ts) K)
+    in-order ts K count = rw (← (e3 .found ts (content ts (K .kind) (x .first) (x .second)) count (class K ts)), on-both channelOutOfRange K, on-both (forwardReference ts) K, on-both (classMismatch ts) K)
 
     pub refused-3 : b3 ≡ true → FieldsTested d n x 3
-    refused-3 h3 = record { found = λ ts K y count. rw (in-order ts K count, h3) }
+    refused-3 h3 = record { found = λ ts K z count. rw (in-order ts K count, h3) }
 
     module _ (h3 : b3 ≡ false) (a4 : Bool) (p4 : a4 ≡ first-fails channelOutOfRange) where
       pub refused-4 : a4 ≡ true → FieldsTested d n x 4
-      refused-4 h = record { found = λ ts K y count. rw (in-order ts K count, h3, ← p4, h) }
+      refused-4 h = record { found = λ ts K z count. rw (in-order ts K count, h3, ← p4, h) }
 
       module _ (h4 : a4 ≡ false) (b4 : Bool) (q4 : b4 ≡ second-fails channelOutOfRange) where
         pub refused-4-second : b4 ≡ true → FieldsTested d n x 4
-        refused-4-second h = record { found = λ ts K y count. rw (in-order ts K count, h3, ← p4, h4, ← q4, h) }
+        refused-4-second h = record { found = λ ts K z count. rw (in-order ts K count, h3, ← p4, h4, ← q4, h) }
 
         module _ (g4 : b4 ≡ false) (a5 : Bool) (p5 : (ts : List Term) → length ts ≡ n → a5 ≡ first-fails (forwardReference ts)) where
           pub refused-5 : a5 ≡ true → FieldsTested d n x 5
-          refused-5 h = record { found = λ ts K y count. rw (in-order ts K count, h3, ← p4, h4, ← q4, g4, ← (p5 ts count), h) }
+          refused-5 h = record { found = λ ts K z count. rw (in-order ts K count, h3, ← p4, h4, ← q4, g4, ← (p5 ts count), h) }
 
           module _ (h5 : a5 ≡ false) (b5 : Bool) (q5 : (ts : List Term) → length ts ≡ n → b5 ≡ second-fails (forwardReference ts)) where
             pub refused-5-second : b5 ≡ true → FieldsTested d n x 5
-            refused-5-second h = record { found = λ ts K y count. rw (in-order ts K count, h3, ← p4, h4, ← q4, g4, ← (p5 ts count), h5, ← (q5 ts count), h) }
+            refused-5-second h = record { found = λ ts K z count. rw (in-order ts K count, h3, ← p4, h4, ← q4, g4, ← (p5 ts count), h5, ← (q5 ts count), h) }
 
-            module _ (g5 : b5 ≡ false) (a6 : Bool) (r6 : ClassTested d f (x .first) a6) where
+            module _ (g5 : b5 ≡ false) (a6 : Bool) (r6 : ClassTested d (y .1) (x .first) a6) where
               p6 : (ts : List Term) → Decoded ts d → length ts ≡ n → a6 ≡ first-fails (classMismatch ts)
-              p6 ts y count = r6 .found ts y (passes a5 _ (p5 ts count) h5)
+              p6 ts z count = r6 .found ts z (passes a5 _ (p5 ts count) h5)
 
               pub refused-6 : a6 ≡ true → FieldsTested d n x 6
               refused-6 h = record {
-                found = λ ts K y count.
-                    rw (in-order ts K count, h3, ← p4, h4, ← q4, g4, ← (p5 ts count), h5, ← (q5 ts count), g5, ← (p6 ts y count), h);
+                found = λ ts K z count.
+                    rw (in-order ts K count, h3, ← p4, h4, ← q4, g4, ← (p5 ts count), h5, ← (q5 ts count), g5, ← (p6 ts z count), h);
               }
 
-              module _ (h6 : a6 ≡ false) (b6 : Bool) (s6 : ClassTested d g (x .second) b6) where
+              module _ (h6 : a6 ≡ false) (b6 : Bool) (s6 : ClassTested d (y .2) (x .second) b6) where
                 q6 : (ts : List Term) → Decoded ts d → length ts ≡ n → b6 ≡ second-fails (classMismatch ts)
-                q6 ts y count = s6 .found ts y (passes b5 _ (q5 ts count) g5)
+                q6 ts z count = s6 .found ts z (passes b5 _ (q5 ts count) g5)
 
                 pub refused-6-second : b6 ≡ true → FieldsTested d n x 6
                 refused-6-second h = record {
-                  found = λ ts K y count.
-                      rw (in-order ts K count, h3, ← p4, h4, ← q4, g4, ← (p5 ts count), h5, ← (q5 ts count), g5, ← (p6 ts y count), h6, ← (q6 ts y count), h);
+                  found = λ ts K z count.
+                      rw (in-order ts K count, h3, ← p4, h4, ← q4, g4, ← (p5 ts count), h5, ← (q5 ts count), g5, ← (p6 ts z count), h6, ← (q6 ts z count), h);
                 }
 
                 pub none-refused : b6 ≡ false → FieldsTested d n x 0
                 none-refused h = record {
-                  found = λ ts K y count.
-                      rw (in-order ts K count, h3, ← p4, h4, ← q4, g4, ← (p5 ts count), h5, ← (q5 ts count), g5, ← (p6 ts y count), h6, ← (q6 ts y count), h);
+                  found = λ ts K z count.
+                      rw (in-order ts K count, h3, ← p4, h4, ← q4, g4, ← (p5 ts count), h5, ← (q5 ts count), g5, ← (p6 ts z count), h6, ← (q6 ts z count), h);
                 }

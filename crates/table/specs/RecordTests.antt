@@ -4,13 +4,13 @@ use Prim.Native.Nat.{ℕ}
 use mathlib.Core.Path.{_≡_}
 use mathlib.Core.Bool.{Bool, false}
 use mathlib.Core.List.{List}
-use lib.ListN.{length, getElem?}
+use lib.ListN.{length}
 use Rattle.semantics.specs.Definitions.Terms.{Term}
-use Rattle.semantics.specs.Definitions.Table.{tooManyTerms, forwardReference, classMismatch}
+use Rattle.semantics.specs.Definitions.Table.{Content, tooManyTerms, forwardReference, classMismatch}
 use Rattle.records.specs.declared.Record.{Record}
-use Rattle.records.specs.Shapes.{bodyOf, fieldFrom, failsAt}
+use Rattle.records.specs.Shapes.{fieldFrom, failsAt, contentClass}
 use Rattle.terms.specs.Decoded.{Decoded}
-use Rattle.tablelaws.specs.Refusals.{KindAt, content, fieldRefusal}
+use Rattle.tablelaws.specs.Refusals.{KindAt, fieldRefusal}
 
 -- d is the decoded table of some n terms
 pub record DecodedSoFar (d : List ℕ) (n : ℕ) : Type 0 where
@@ -18,9 +18,9 @@ pub record DecodedSoFar (d : List ℕ) (n : ℕ) : Type 0 where
   pub decoded : Decoded terms d
   pub counted : length terms ≡ n
 
--- 3, of a record of kind k after n terms
-pub record TermLimitTested (k n : ℕ) (b : Bool) : Type 0 where
-  pub found : (ts : List Term) (K : KindAt k) (l r : ℕ) → length ts ≡ n → b ≡ tooManyTerms ts (content ts (K .kind) l r)
+-- 3, of a record of class c after n terms
+pub record TermLimitTested (c n : ℕ) (b : Bool) : Type 0 where
+  pub found : (ts : List Term) (x : Content) → length ts ≡ n → c ≡ contentClass x → b ≡ tooManyTerms ts x
 
 -- a field that is no reference, or one to an earlier term
 pub record EarlierReference (d : List ℕ) (f byte : ℕ) : Type 0 where
@@ -32,11 +32,6 @@ pub record EarlierReference (d : List ℕ) (f byte : ℕ) : Type 0 where
 pub record ClassTested (d : List ℕ) (f byte : ℕ) (b : Bool) : Type 0 where
   pub found : (ts : List Term) → Decoded ts d → failsAt (forwardReference ts) (fieldFrom f) byte ≡ false →
       b ≡ failsAt (classMismatch ts) (fieldFrom f) byte
-
--- f and g are the numbers of the fields of kind k
-pub record HasFields (k f g : ℕ) : Type 0 where
-  pub first : fieldFrom f ≡ getElem? (bodyOf k) 0
-  pub second : fieldFrom g ≡ getElem? (bodyOf k) 1
 
 -- q is the number of the first of the tests 3 to 6 that fails on a record after n terms, 0 for none
 pub record FieldsTested (d : List ℕ) (n : ℕ) (x : Record) (q : ℕ) : Type 0 where

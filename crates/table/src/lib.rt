@@ -1,11 +1,8 @@
 // Reading a rule table: record by record, the tests in number order, the terms decoded on the way.
 use buffer::wide;
 use records::ATOM;
-use records::CHANNEL;
-use records::COUNT;
 use records::EXPRESSION;
 use records::NO_CLASS;
-use records::NO_FIELD;
 use records::OR_ELSE;
 use records::PAR;
 use records::PROCESS;
@@ -15,6 +12,7 @@ use records::RD;
 use records::REPEATED_TAKE;
 use records::Record;
 use records::START;
+use records::Shape;
 use records::TAKE;
 use records::TOKENS;
 use records::WT;
@@ -26,9 +24,9 @@ ghost use lib.ListN.{length, replicate};
 ghost use Rattle.semantics.specs.Definitions.Layout.{channels};
 ghost use Rattle.semantics.specs.Definitions.Table.{tokensRecord, badTokens, readTable};
 ghost use Rattle.semantics.specs.Definitions.Calls.{checkTable};
-ghost use Rattle.records.specs.Parsing.{IsKind, WholeRecord};
+ghost use Rattle.records.specs.Parsing.{WholeRecord};
 ghost use Rattle.terms.specs.Decoded.{decodedBytes, tokensIn};
-ghost use Rattle.table.specs.RecordTests.{DecodedSoFar, TermLimitTested, EarlierReference, ClassTested, HasFields, FieldsTested};
+ghost use Rattle.table.specs.RecordTests.{DecodedSoFar, TermLimitTested, EarlierReference, ClassTested, FieldsTested};
 ghost use Rattle.table.specs.RecordRead.{startRead, TokensRead, TermReady, TermRead, ReadsRecord};
 ghost use Rattle.table.specs.Answers.{Answers, verdictOf};
 
@@ -72,10 +70,10 @@ pub enum TableVerdict {
 }
 
 // 3: a term record comes after as many terms as a table may have.
-fn too_many_terms(kind: u8, terms: usize) -> bool
-    ensures { λ r. ⌜ TermLimitTested kind terms r ⌝ }
+fn too_many_terms(class: u8, terms: usize) -> bool
+    ensures { λ r. ⌜ TermLimitTested class terms r ⌝ }
 {
-    if records::class_of(kind) == NO_CLASS {
+    if class == NO_CLASS {
         return false;
     }
     TERMS <= terms
@@ -103,20 +101,15 @@ fn bad_tokens(decoded: &[u8; DECODED], channel: u8, count: u8) -> bool
     terms::tokens_of(decoded, wide(channel)) != 0
 }
 
-// The tests 3 to 6 on a record that has these fields, in number order, each on both fields before the next: the number
-// of the first that fails, 0 for none.
-fn fields_refusal(
-    decoded: &[u8; DECODED],
-    terms: usize,
-    parsed: Record,
-    first: u8,
-    second: u8,
-) -> u8
+// The tests 3 to 6 on a record of this kind, in number order, each on both fields before the next: the number of the
+// first that fails, 0 for none.
+fn kind_refusal(decoded: &[u8; DECODED], terms: usize, kind: u8, parsed: Record) -> u8
     requires { ⌜ DecodedSoFar (now decoded) terms ⌝ }
-    requires { ⌜ HasFields (parsed .kind) first second ⌝ }
+    requires { ⌜ parsed .kind ≡ kind ⌝ }
     ensures { λ q. ⌜ FieldsTested (now (decoded .entry)) terms parsed q ⌝ }
 {
-    if too_many_terms(parsed.kind, terms) {
+    let Shape(class, first, second) = records::shape_of(kind);
+    if too_many_terms(class, terms) {
         return TOO_MANY_TERMS;
     }
     if records::channel_out_of_range(first, parsed.first) {
@@ -140,26 +133,23 @@ fn fields_refusal(
     0
 }
 
-// The same of any record, by the fields of its kind: NIL, END and RETRY have none. Each kind has a line of its own, so
-// that the compiler leaves out the tests that its fields do not need.
+// The same of any record. The lines say nothing of their kinds: in each the compiler knows the kind, and leaves out the
+// tests that its fields do not need. A kind without a line is tested no less.
 fn record_refusal(decoded: &[u8; DECODED], terms: usize, parsed: Record) -> u8
     requires { ⌜ DecodedSoFar (now decoded) terms ⌝ }
-    requires { ⌜ IsKind (parsed .kind) ⌝ }
     ensures { λ q. ⌜ FieldsTested (now (decoded .entry)) terms parsed q ⌝ }
 {
     let kind = parsed.kind;
     match kind {
-        PUT => fields_refusal(decoded, terms, parsed, CHANNEL, NO_FIELD),
-        TAKE => fields_refusal(decoded, terms, parsed, CHANNEL, PROCESS),
-        REPEATED_TAKE => fields_refusal(decoded, terms, parsed, CHANNEL, PROCESS),
-        PAR => fields_refusal(decoded, terms, parsed, PROCESS, PROCESS),
-        ATOM => fields_refusal(decoded, terms, parsed, EXPRESSION, NO_FIELD),
-        RD => fields_refusal(decoded, terms, parsed, CHANNEL, EXPRESSION),
-        WT => fields_refusal(decoded, terms, parsed, CHANNEL, EXPRESSION),
-        OR_ELSE => fields_refusal(decoded, terms, parsed, EXPRESSION, EXPRESSION),
-        TOKENS => fields_refusal(decoded, terms, parsed, CHANNEL, COUNT),
-        START => fields_refusal(decoded, terms, parsed, PROCESS, NO_FIELD),
-        _ => fields_refusal(decoded, terms, parsed, NO_FIELD, NO_FIELD),
+        PUT => kind_refusal(decoded, terms, PUT, parsed),
+        TAKE => kind_refusal(decoded, terms, TAKE, parsed),
+        REPEATED_TAKE => kind_refusal(decoded, terms, REPEATED_TAKE, parsed),
+        PAR => kind_refusal(decoded, terms, PAR, parsed),
+        ATOM => kind_refusal(decoded, terms, ATOM, parsed),
+        RD => kind_refusal(decoded, terms, RD, parsed),
+        WT => kind_refusal(decoded, terms, WT, parsed),
+        OR_ELSE => kind_refusal(decoded, terms, OR_ELSE, parsed),
+        _ => kind_refusal(decoded, terms, kind, parsed),
     }
 }
 

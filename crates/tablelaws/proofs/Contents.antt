@@ -5,8 +5,8 @@
 use Prim.Native.Nat.{ℕ, _≤_, _<_}
 use native.Mathlib.Omega.{arith}
 use mathlib.Core.Path.{_≡_, refl, sym}
-use mathlib.Core.Bool.{Bool, true, false, not, cond, true≢false}
-use mathlib.Core.Option.{Option, none, some}
+use mathlib.Core.Bool.{Bool, true, false, not, cond}
+use mathlib.Core.Option.{some}
 use mathlib.Core.List.{List, [], _∷_}
 use lib.ListN.{length, getElem?}
 use borrow.Author.Tests.{le-ltb}
@@ -16,7 +16,7 @@ use Rattle.semantics.specs.Definitions.Terms.{Program, Term, process, expressio
 use Rattle.semantics.specs.Checks.AcceptedTables.{programNumber, termNumber, GoodTable}
 use Rattle.semantics.specs.Definitions.Table.{Kind, nilK, putK, takeK, repeatK, parK, atomK, endK, retryK, rdK, wtK, orElseK, tokensK, startK, Field, fields, Content, termRecord, tokensRecord, startRecord, recordContent, programIn, expressionIn, isProgram, isExpression, asProgram, asExpression, anyField, tooManyTerms, channelOutOfRange, forwardReference, classMismatch}
 use Rattle.theorems.proofs.Lists.{found-below, all-every}
-use Rattle.theorems.proofs.GoodTable.{NextTerm, Sound, sound, first-fails, second-fails, channel-below}
+use Rattle.theorems.proofs.GoodTable.{a-program, an-expression, NextTerm, Sound, sound, first-fails, second-fails, channel-below}
 use Rattle.records.specs.Shapes.{kindByte, classOf}
 use Rattle.terms.specs.Decoded.{RecordOf}
 use Rattle.terms.proofs.TermKinds.{record-class}
@@ -70,19 +70,6 @@ module _ (ts : List Term) (K : Kind) (l r : ℕ) where
   fields-then p then = rw (p .room, p .channels, p .earlier, p .classes) refl
 
 -- ---- references
-
--- a term of the class that was asked for
-a-program : (o : Option Term) → not (isProgram o) ≡ false → o ≡ some (process (asProgram o))
-unfolding isProgram asProgram
-a-program none e = absurd (true≢false e)
-a-program (some (process P)) e = refl
-a-program (some (expression M)) e = absurd (true≢false e)
-
-an-expression : (o : Option Term) → not (isExpression o) ≡ false → o ≡ some (expression (asExpression o))
-unfolding isExpression asExpression
-an-expression none e = absurd (true≢false e)
-an-expression (some (process P)) e = absurd (true≢false e)
-an-expression (some (expression M)) e = refl
 
 module _ (ts : List Term) (g : GoodTable ts) where
   record Reference (b : ℕ) (t : Term) : Type 0 where

@@ -116,7 +116,7 @@ module _ (d : List ℕ) (n k l r : ℕ) where
       inside = room;
       own = record-stored u e;
       subterms = s;
-      entry = λ h. absurd (omega arith);
+      listed = λ h. absurd (omega arith);
     }
 
     module _ (b m : ℕ) where

@@ -118,7 +118,7 @@ into d kept i ts t x b u e = record {
   inside = let h = found-below ts b u e in let f = x .good .few in omega arith;
   own = x .records b u e;
   subterms = x .good .subterms b u e;
-  entry = λ h. e;
+  listed = λ h. e;
 }
 
 -- a subterm at number p, which a field has, as the number b: it can be walked, and the walk goes down
@@ -135,7 +135,7 @@ module _ (d : List ℕ) (kept i : ℕ) (m : Measurable d kept i) where
   inside = m .there .inside
 
   pub looked-up : i < kept → (b : ℕ) → b ≡ breadthAt d i → (l : ℕ) → l ≡ lengthAt d i → MeasuresOf d kept i b l
-  looked-up h b p l q = record { found = λ ts t x. let m = x .measures i t (x .entry h) h in (p ∙ m .0, q ∙ m .1) }
+  looked-up h b p l q = record { found = λ ts t x. let m = x .measures i t (x .listed h) h in (p ∙ m .0, q ∙ m .1) }
 
   module _ (k : ℕ) (p : k ≡ kindAt d i) where
     module _ (ts : List Term) (t : Term) (x : TermAt d kept i ts t) where

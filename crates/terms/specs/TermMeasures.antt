@@ -20,7 +20,7 @@ pub record TermAt (d : List ℕ) (measured i : ℕ) (ts : List Term) (t : Term) 
   pub inside : i < maxTerms
   pub own : RecordAt d i t
   pub subterms : SubtermsIn ts t
-  pub entry : i < measured → getElem? ts i ≡ some t
+  pub listed : i < measured → getElem? ts i ≡ some t
 
 -- what the walk asks: there is such a term
 pub record Measurable (d : List ℕ) (measured i : ℕ) : Type 0 where

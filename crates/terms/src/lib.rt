@@ -165,8 +165,9 @@ fn stored_measures(decoded: &[u8; DECODED], i: usize) -> Measures
     }
 }
 
-// The walk: the measures of the term at a number, over the unfolded term. References go to smaller numbers. The measures
-// of the first `measured` terms stand in the decoded table and are looked up; with none stored, the whole term is walked.
+// The walk: the measures of the term at a number, over the unfolded term. References go to smaller numbers. The
+// measures of the first `measured` terms stand in the decoded table and are looked up; with none stored, the whole term
+// is walked.
 fn recursive_measures(decoded: &[u8; DECODED], measured: usize, at: usize) -> Measures
     requires { ⌜ Measurable (now decoded) measured at ⌝ }
     ensures { λ m. ⌜ MeasuresOf (now (decoded .entry)) measured at (m .breadth) (m .length) ⌝ }

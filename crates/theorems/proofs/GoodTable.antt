@@ -10,7 +10,7 @@ use mathlib.Core.Option.{Option, none, some}
 use mathlib.Core.List.{List, [], _∷_, _++_}
 use lib.ListN.{length, drop, getElem?, length-append, length-set}
 use lib.Dec.{ltb}
-use borrow.Author.Tests.{leb-false, not-false}
+use borrow.Author.Tests.{leb-false}
 use Rattle.calculus.specs.Syntax.{State}
 use Rattle.semantics.specs.Definitions.Basics.{firstOf, All}
 use Rattle.semantics.specs.Definitions.Terms.{endT, retryT, rdT, wtT, orElseT, Program, nilT, putT, takeT, repeatT, parT, atomT, Term, process, expression, number, width, branches, pathLength}
@@ -72,24 +72,27 @@ empty-good = record {
 
 -- ---- what the tests on a record give
 
--- a reference of the right class is to an entry at its own number
+-- a term of the class that was asked for
+pub a-program : (o : Option Term) → not (isProgram o) ≡ false → o ≡ some (process (asProgram o))
+unfolding isProgram asProgram
+a-program none e = absurd (true≢false e)
+a-program (some (process P)) e = refl
+a-program (some (expression M)) e = absurd (true≢false e)
+
+pub an-expression : (o : Option Term) → not (isExpression o) ≡ false → o ≡ some (expression (asExpression o))
+unfolding isExpression asExpression
+an-expression none e = absurd (true≢false e)
+an-expression (some (process P)) e = absurd (true≢false e)
+an-expression (some (expression M)) e = refl
+
+-- a reference to it is to an entry at its own number
 program-in : (ts : List Term) → GoodTable ts → (n : ℕ) → not (isProgram (getElem? ts n)) ≡ false → ProgramIn ts (asProgram (getElem? ts n))
-unfolding isProgram asProgram termNumber
-program-in ts g n e = go (getElem? ts n) refl (not-false (isProgram (getElem? ts n)) e)
-  where
-    go : (o : Option Term) → getElem? ts n ≡ o → isProgram o ≡ true → ProgramIn ts (asProgram o)
-    go none p q = let z : _≡_ {A = ℕ} 0 1 = cc in absurd (omega arith)
-    go (some (process P)) p q = rw (g .numbered n (process P) p) p
-    go (some (expression M)) p q = let z : _≡_ {A = ℕ} 0 1 = cc in absurd (omega arith)
+unfolding termNumber
+program-in ts g n e = let p = a-program (getElem? ts n) e in rw (g .numbered n (process (asProgram (getElem? ts n))) p) p
 
 expression-in : (ts : List Term) → GoodTable ts → (n : ℕ) → not (isExpression (getElem? ts n)) ≡ false → ExpressionIn ts (asExpression (getElem? ts n))
-unfolding isExpression asExpression termNumber
-expression-in ts g n e = go (getElem? ts n) refl (not-false (isExpression (getElem? ts n)) e)
-  where
-    go : (o : Option Term) → getElem? ts n ≡ o → isExpression o ≡ true → ExpressionIn ts (asExpression o)
-    go none p q = let z : _≡_ {A = ℕ} 0 1 = cc in absurd (omega arith)
-    go (some (process P)) p q = let z : _≡_ {A = ℕ} 0 1 = cc in absurd (omega arith)
-    go (some (expression M)) p q = rw (g .numbered n (expression M) p) p
+unfolding termNumber
+expression-in ts g n e = let p = an-expression (getElem? ts n) e in rw (g .numbered n (expression (asExpression (getElem? ts n))) p) p
 
 -- where no test of a list is found to hold, each fails
 none-holds : (ts : List Test) → firstOf (λ t. t .holds) ts ≡ none → All (λ t. t .holds ≡ false) ts

@@ -1,8 +1,9 @@
--- Writing a process's components meets its contract. The measure is the number, which falls at each call, and in the loop
--- over right sides.
+-- Writing a process's components meets its contract. The measure is the number, which falls at each call, and in the
+-- loop over right sides.
 -- Assumes nothing.
 use borrow.Author.Needs.{needs}
-use Rattle.opening.proofs.Components.{Walked, none-walked, rest-inside, rest-fits, rest-written, is-single, rest-left-fits, rest-left-inside, rest-left-falls, right-less, right-walked}
+use Rattle.opening.proofs.Components.{Walked, none-walked, rest-inside, rest-fits, rest-written, is-single, rest-side-fits, rest-side-inside, rest-side-less, rest-side-falls, right-walked}
+use mathlib.Core.Logic.{inl, inr}
 use Prim.Native.Nat.{ℕ, _<_}
 use borrow.Fn.Kinds.{In}
 use borrow.Fn.PlainCycle.{Measures, is, falls, and}
@@ -64,36 +65,28 @@ write-sides-wide-requires-2 : (t : ℕ) → write-sides-lts.Need-wide-requires-2
 write-sides-wide-requires-2 t c κs = search needs
 
 write-sides-kind-of-requires-2 : (t : ℕ) → write-sides-lts.Need-kind-of-requires-2 (callees t) (write-sides-at t) write-sides.Post write-sides-Inv-loop write-sides-μ-loop
-write-sides-kind-of-requires-2 t c κs = search rest-left-inside
+write-sides-kind-of-requires-2 t c κs = search (rest-side-inside, inl, inr)
 
 write-sides-write-sides-requires : (t : ℕ) → write-sides-lts.Need-write-sides-requires (callees t) (write-sides-at t) write-sides.Post write-sides-Inv-loop write-sides-μ-loop
 write-sides-write-sides-requires t c κs = (
-  search rest-left-falls,
-  let wide = c .before .before .before .before .before in
-      let first = wide .before in
-      let par = first .before in
-      let kind = par .before in
-      rest-left-fits _ _ _ _ _ _ _ (kind .before .loop .inv) _ (kind .kind-of .ensures) (par .if1 .taken) _ (first .first-of .ensures) _ (wide .wide .ensures),
+  search (rest-side-falls, inl, inr),
+  let fits = rest-side-fits _ _ _ _ _ _ _ (c .before .before .before .before .before .before .before .before .before .loop .inv) in search (fits, inl, inr),
 )
 
 write-sides-loop-less : (t : ℕ) → write-sides-lts.Need-loop-less (callees t) (write-sides-at t) write-sides.Post write-sides-Inv-loop write-sides-μ-loop
-write-sides-loop-less t c = search right-less
+write-sides-loop-less t c = search (rest-side-less, inl, inr)
 
 write-sides-loop-again : (t : ℕ) → write-sides-lts.Need-loop-again (callees t) (write-sides-at t) write-sides.Post write-sides-Inv-loop write-sides-μ-loop
 write-sides-loop-again t c = search right-walked
 
 write-sides-write-single-requires : (t : ℕ) → write-sides-lts.Need-write-single-requires (callees t) (write-sides-at t) write-sides.Post write-sides-Inv-loop write-sides-μ-loop
 write-sides-write-single-requires t c κs = (
-  let wide = c .before .before .before .before .before in
-      let first = wide .before in
-      let par = first .before in
-      let kind = par .before in
-      rest-left-fits _ _ _ _ _ _ _ (kind .before .loop .inv) _ (kind .kind-of .ensures) (par .if1 .taken) _ (first .first-of .ensures) _ (wide .wide .ensures),
+  let fits = rest-side-fits _ _ _ _ _ _ _ (c .before .before .before .before .before .before .before .before .before .loop .inv) in search (fits, inl, inr),
   search is-single,
 )
 
 write-sides-loop-less-2 : (t : ℕ) → write-sides-lts.Need-loop-less-2 (callees t) (write-sides-at t) write-sides.Post write-sides-Inv-loop write-sides-μ-loop
-write-sides-loop-less-2 t c = search right-less
+write-sides-loop-less-2 t c = search (rest-side-less, inl, inr)
 
 write-sides-loop-again-2 : (t : ℕ) → write-sides-lts.Need-loop-again-2 (callees t) (write-sides-at t) write-sides.Post write-sides-Inv-loop write-sides-μ-loop
 write-sides-loop-again-2 t c = search right-walked

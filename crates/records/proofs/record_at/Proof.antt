@@ -1,8 +1,7 @@
 -- `records::record_at` meets its contract: the tests on the way to each return say what stands at the offset.
 -- Assumes nothing.
-use native.Mathlib.Omega.{arith}
 use mathlib.Core.Logic.{inl, inr}
-use Rattle.records.proofs.Shapes.{body-few}
+use Rattle.records.proofs.Shapes.{begins-alone, begins-with-one, begins-with-two}
 use borrow.Author.Needs.{needs}
 use Rattle.records.proofs.record_at.Statement.{statement}
 use Rattle.records.proofs.record_at.Tie as tie
@@ -19,32 +18,35 @@ returns-2 c = (search needs, inl (search needs))
 returns-3 : tie.Need-returns-3
 returns-3 c = (search needs, inr (search needs))
 
-add-next : tie.Need-add-next
-add-next c = search needs
+shape-of-requires : tie.Need-shape-of-requires
+shape-of-requires c κs = search needs
 
-body-length-requires : tie.Need-body-length-requires
-body-length-requires c κs = search needs
+add-record-up-to : tie.Need-add-record-up-to
+add-record-up-to c = search needs
 
-add-next-2 : tie.Need-add-next-2
-add-next-2 c = omega (arith, body-few _ _ (c .body-length .ensures))
+record-up-to-requires : tie.Need-record-up-to-requires
+record-up-to-requires c κs = search begins-alone
 
 returns-4 : tie.Need-returns-4
 returns-4 c = search needs
 
-add-byte-at : tie.Need-add-byte-at
-add-byte-at c = search needs
+add-record-up-to-2 : tie.Need-add-record-up-to-2
+add-record-up-to-2 c = search needs
 
-byte-at-requires : tie.Need-byte-at-requires
-byte-at-requires c κs = search needs
-
-add-byte-at-2 : tie.Need-add-byte-at-2
-add-byte-at-2 c = search needs
-
-byte-at-requires-2 : tie.Need-byte-at-requires-2
-byte-at-requires-2 c κs = search needs
+record-up-to-requires-2 : tie.Need-record-up-to-requires-2
+record-up-to-requires-2 c κs = search begins-with-one
 
 returns-5 : tie.Need-returns-5
 returns-5 c = search needs
+
+add-record-up-to-3 : tie.Need-add-record-up-to-3
+add-record-up-to-3 c = search needs
+
+record-up-to-requires-3 : tie.Need-record-up-to-requires-3
+record-up-to-requires-3 c κs = search begins-with-two
+
+returns-6 : tie.Need-returns-6
+returns-6 c = search needs
 
 pub record-at-spec : {M : Type 1} → statement M
 record-at-spec =
@@ -54,12 +56,13 @@ record-at-spec =
     shared-slice-read-kind
     returns-2
     returns-3
-    add-next
-    body-length-requires
-    add-next-2
+    shape-of-requires
+    add-record-up-to
+    record-up-to-requires
     returns-4
-    add-byte-at
-    byte-at-requires
-    add-byte-at-2
-    byte-at-requires-2
-    returns-5)
+    add-record-up-to-2
+    record-up-to-requires-2
+    returns-5
+    add-record-up-to-3
+    record-up-to-requires-3
+    returns-6)

@@ -1,12 +1,8 @@
 -- `table::too_many_terms` meets its contract: at each return the law of its case.
 -- Assumes nothing.
 use Rattle.table.proofs.RecordTests.{term-room, other-room}
-use borrow.Author.Needs.{needs}
 use Rattle.table.proofs.too_many_terms.Statement.{statement}
 use Rattle.table.proofs.too_many_terms.Tie as tie
-
-class-of-requires : tie.Need-class-of-requires
-class-of-requires c κs = search needs
 
 returns : tie.Need-returns
 returns c = search other-room
@@ -15,4 +11,4 @@ returns-2 : tie.Need-returns-2
 returns-2 c = search term-room
 
 pub too-many-terms-spec : {M : Type 1} → statement M
-too-many-terms-spec = tie.close (tie.spec class-of-requires returns returns-2)
+too-many-terms-spec = tie.close (tie.spec returns returns-2)

@@ -1,9 +1,8 @@
 -- `reader::parse` meets its contract: a walk of its MIR, by hand. The reader that `new` returns is held in a local and
--- passed to `seek`, and the one that `seek` returns to `parse_next`. All that the proof knows of the three is that each meets
--- its contract.
--- A machine value that a call returns is stored and passed on as it is. In a local of a body MIR erases the lifetime of
--- the struct's type, so the value is shown to have the type at `erased`: what the struct owns does not say the lifetime's
--- name.
+-- passed to `seek`, and the one that `seek` returns to `parse_next`. All that the proof knows of the three is that each
+-- meets its contract. A machine value that a call returns is stored and passed on as it is. In a local of a body MIR
+-- erases the lifetime of the struct's type, so the value is shown to have the type at `erased`: what the struct owns
+-- does not say the lifetime's name.
 -- Assumes nothing.
 use mathlib.Core.Path.{_≡_, refl, ap, _∙_, subst}
 use Prim.Native.Nat.{ℕ, _<_, _^_}

@@ -1,7 +1,7 @@
--- `Reader::parse_next` meets its contract: a walk of its MIR, by hand. The reader is taken apart, and `record_at` is called on
--- the slice and the number. All that the proof knows of `record_at` is that it meets its contract.
--- A reader is Copy, so what it owns is had twice: one copy is kept whole for the exit, and of the other what the table
--- owns goes to the callee, beside the lifetime's token, which comes back.
+-- `Reader::parse_next` meets its contract: a walk of its MIR, by hand. The reader is taken apart, and `record_at` is
+-- called on the slice and the number. All that the proof knows of `record_at` is that it meets its contract. A reader
+-- is Copy, so what it owns is had twice: one copy is kept whole for the exit, and of the other what the table owns goes
+-- to the callee, beside the lifetime's token, which comes back.
 -- Assumes nothing.
 use mathlib.Core.Path.{_≡_, refl}
 use Prim.Native.Nat.{_<_, _^_}

@@ -1,9 +1,12 @@
--- `table::fields_refusal` meets its contract: at each return the law of its case.
+-- `table::kind_refusal` meets its contract: at each return the law of its case.
 -- Assumes nothing.
 use Rattle.table.proofs.RecordTests.{earlier, refused-3, refused-4, refused-4-second, refused-5, refused-5-second, refused-6, refused-6-second, none-refused}
 use borrow.Author.Needs.{needs}
-use Rattle.table.proofs.fields_refusal.Statement.{statement}
-use Rattle.table.proofs.fields_refusal.Tie as tie
+use Rattle.table.proofs.kind_refusal.Statement.{statement}
+use Rattle.table.proofs.kind_refusal.Tie as tie
+
+shape-of-requires : tie.Need-shape-of-requires
+shape-of-requires c κs = search needs
 
 too-many-terms-requires : tie.Need-too-many-terms-requires
 too-many-terms-requires c κs = search needs
@@ -50,10 +53,11 @@ returns-7 c = search refused-6-second
 returns-8 : tie.Need-returns-8
 returns-8 c = search none-refused
 
-pub fields-refusal-spec : {M : Type 1} → statement M
-fields-refusal-spec =
+pub kind-refusal-spec : {M : Type 1} → statement M
+kind-refusal-spec =
     tie.close
     (tie.spec
+    shape-of-requires
     too-many-terms-requires
     returns
     channel-out-of-range-requires
