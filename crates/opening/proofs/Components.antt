@@ -50,6 +50,16 @@ opened-fits P =
     let l = opened-length P in
     let w = width-bounds-opening P in omega arith
 
+-- a process is one wide or more
+width-some : (P : Program) → 1 ≤ width P
+unfolding width
+width-some (nilT n) = omega arith
+width-some (putT n a) = omega arith
+width-some (takeT n a P) = omega arith
+width-some (repeatT n a P) = omega arith
+width-some (parT n P Q) = let p = width-some P in omega arith
+width-some (atomT n M) = omega arith
+
 -- ---- by the kind of a process
 
 module _ (ts : List Term) (i l r : ℕ) where
@@ -175,21 +185,6 @@ module _ (d : List ℕ) (i k : ℕ) (kind : k ≡ kindAt d i) where
                 let twice = written-twice s (componentsBytes (v .left)) (componentsBytes (v .right)) at (omega arith) in
                 rw (v .bytes) (omega (arith, a .0, b .0), b .1 ∙ rw (a .1, a .0) twice)
 
-    -- ---- one component
-
-    -- it is no longer than what fits
-    one-fits : (a b : ℕ) → componentsBytes (x .tree) ≡ a ∷ b ∷ [] → at + idleSize ≤ length s
-    one-fits a b o =
-        let n = ap length o in
-        let g = opened-fits (x .tree) in
-        let f = x .fits in omega arith
-
-    pub output-fits : k ≡ 2 → at + idleSize ≤ length s
-    output-fits h = one-fits _ _ (output-at (x .terms) (x .tree) (x .decoded) (x .at) h)
-
-    pub waiting-fits : (k ≡ 5 → ⊥) → (k ≡ 1 → ⊥) → (k ≡ 2 → ⊥) → at + idleSize ≤ length s
-    waiting-fits h f g = one-fits _ _ (waiting-at (x .terms) (x .tree) (x .decoded) (x .at) h f g)
-
   module _ (s : List ℕ) (at : ℕ) where
     pub nothing-written : k ≡ 1 → ComponentsWritten d i s at s at
     nothing-written h = record { found = λ ts P x e. rw (nothing-at ts P x e h) (omega arith, written-none s at []) }
@@ -204,9 +199,6 @@ module _ (d : List ℕ) (i k : ℕ) (kind : k ≡ kindAt d i) where
   -- ---- a component of a process that is not two side by side
 
   module _ (single : kindAt d i ≡ 5 → ⊥) where
-    pub single-fits : (s : List ℕ) (at : ℕ) → ComponentsFit d i s at → (k ≡ 1 → ⊥) → (k ≡ 2 → ⊥) → at + idleSize ≤ length s
-    single-fits s at x f g = waiting-fits s at x (λ e. single (sym kind ∙ e)) f g
-
     pub single-written : (s : List ℕ) (at : ℕ) (s′ : List ℕ) (end : ℕ) → end ≡ at + idleSize → (k ≡ 1 → ⊥) → (k ≡ 2 → ⊥) →
         s′ ≡ written s at (waitingKind ∷ i ∷ []) idleSize → ComponentsWritten d i s at s′ end
     single-written s at s′ end p f g q = waiting-written s at s′ end p (λ e. single (sym kind ∙ e)) f g q
@@ -215,6 +207,10 @@ module _ (d : List ℕ) (i k : ℕ) (kind : k ≡ kindAt d i) where
 module _ (d : List ℕ) (i : ℕ) (s : List ℕ) (at : ℕ) (x : ComponentsFit d i s at) where
   pub inside : i < maxTerms
   inside = let h = found-below (x .terms) i (process (x .tree)) (x .at) in let g = x .decoded .good .few in omega arith
+
+  -- whatever it is, one component fits
+  pub one-fits : at + idleSize ≤ length s
+  one-fits = let w = width-some (x .tree) in let f = x .fits in omega arith
 
   pub number-fits : Fits w8 i
   number-fits = let h = inside in record { fits = omega arith }

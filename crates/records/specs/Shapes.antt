@@ -15,9 +15,6 @@ use Rattle.records.specs.declared.Shape.{Shape}
 abbrev pub lastKind : ℕ
 lastKind = kindByte startK
 
-abbrev pub kindsEnd : ℕ
-kindsEnd = suc lastKind
-
 -- the fields behind a byte of kind; none where the byte is no kind
 unfoldable pub fieldsOf : Option Kind → List Field
 unfolding fields

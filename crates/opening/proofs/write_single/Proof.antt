@@ -1,6 +1,6 @@
 -- `opening::write_single` meets its contract: at each need the law of its case.
 -- Assumes nothing.
-use Rattle.opening.proofs.Components.{output-fits, single-fits, nothing-written, output-written, single-written, inside, number-fits}
+use Rattle.opening.proofs.Components.{one-fits, nothing-written, output-written, single-written, inside, number-fits}
 use borrow.Author.Needs.{needs}
 use Rattle.opening.proofs.write_single.Statement.{statement}
 use Rattle.opening.proofs.write_single.Tie as tie
@@ -12,13 +12,13 @@ first-of-requires : tie.Need-first-of-requires
 first-of-requires c κs = search inside
 
 write-idle-requires : tie.Need-write-idle-requires
-write-idle-requires c κs = search output-fits
+write-idle-requires c κs = search one-fits
 
 cast-write-idle : tie.Need-cast-write-idle
 cast-write-idle c = search number-fits
 
 write-idle-requires-2 : tie.Need-write-idle-requires-2
-write-idle-requires-2 c κs = search single-fits
+write-idle-requires-2 c κs = search one-fits
 
 returns : tie.Need-returns
 returns c = search nothing-written
