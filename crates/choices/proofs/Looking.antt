@@ -25,30 +25,31 @@ use Rattle.rules.specs.Replies.{replyIs}
 use Rattle.index.specs.Holds.{Holds, Running}
 use Rattle.index.specs.Choices.{Looked}
 use Rattle.index.proofs.Acting.{held-position}
-use Rattle.index.proofs.Holding.{hall-length, component-at, no-component, component-inside, position-below, kind-here}
+use Rattle.index.proofs.Holding.{hall-length, component-at, no-component, position-below, kind-here}
 use Rattle.communication.specs.Tokens.{OutputHeld, OutputLooked, TakeHeld, TakeLooked}
 use Rattle.leaves.specs.Leaves.{TransactionAt}
 use Rattle.blocks.proofs.Beginning.{block-begins}
 use Rattle.blocks.specs.Ends.{CanLookEnd, EndLooked}
 use Rattle.transactions.specs.Finding.{NodeHeld, RuleRead, Findable, Searched}
 use Rattle.transactions.proofs.Searching.{findable-inside, node-standing, search-missing, search-read}
+use Rattle.choices.proofs.Occupancy.{kind-inside}
 use Rattle.choices.specs.declared.occupants.Occupant.{Occupant}
 use Rattle.choices.specs.declared.occupants.Occupant.the-variants.{Nothing, Transaction, Output, Block, Take}
-use Rattle.choices.specs.declared.inside.NodeSearch.{NodeSearch}
-use Rattle.choices.specs.declared.inside.NodeSearch.the-variants as search
-use Rattle.choices.specs.Occupants.{OccupantRead, CanSeek, NodeThere, NodeSought}
+use Rattle.choices.specs.declared.inside.NodePlace.{NodePlace}
+use Rattle.choices.specs.declared.inside.NodePlace.the-variants as node
+use Rattle.choices.specs.Occupants.{OccupantRead, CanFind, NodeThere, NodeFound}
 
 -- ---- kind 1, by the occupant
 
--- by another name
-pub known : {d s starts : List ℕ} {n p : ℕ} {r x : Occupant} → OccupantRead d s starts n p r → r ≡ x → OccupantRead d s starts n p x
-known f e = rw e at f
+-- as what it is
+pub occupant-is : {d s starts : List ℕ} {n p : ℕ} {r x : Occupant} → OccupantRead d s starts n p r → r ≡ x → OccupantRead d s starts n p x
+occupant-is f e = rw e at f
 
 module _ {d s starts : List ℕ} {n p : ℕ} {o : Occupant} (f : OccupantRead d s starts n p o) where
   -- refusal 14
   pub nothing-looked : {q : ℕ} → o ≡ Nothing → p ≡ q → Looked d s starts n (act q) (Refused 14)
   unfolding answerTo atPosition replyOf replyIs
-  nothing-looked is e = rw (← e) (record { found = λ ts h y x. rw (known f is .found ts h y x) refl })
+  nothing-looked is e = rw (← e) (record { found = λ ts h y x. rw (occupant-is f is .found ts h y x) refl })
 
   -- a transaction
   module _ (is : o ≡ Transaction) where
@@ -56,7 +57,7 @@ module _ {d s starts : List ℕ} {n p : ℕ} {o : Occupant} (f : OccupantRead d 
         TransactionAt ts h d s starts n p (getD starts p 0)
     unfolding componentBytes
     open-here {ts} {h} y x =
-        let (m, M, σ, t, e) = known f is .found ts h y x in
+        let (m, M, σ, t, e) = occupant-is f is .found ts h y x in
         record {
           decoded = y;
           holds = x;
@@ -90,26 +91,26 @@ module _ {d s starts : List ℕ} {n p : ℕ} {o : Occupant} (f : OccupantRead d 
       components = n;
       position = p;
       holds = x .holds;
-      there = known f is .found (x .terms) (x .configuration) (x .decoded) (x .holds);
+      there = occupant-is f is .found (x .terms) (x .configuration) (x .decoded) (x .holds);
     }
 
     pub output-looked : {q : ℕ} {r : Reply} → OutputLooked s a r → p ≡ q → Looked d s starts n (act q) r
     output-looked g e = rw (← e) (record {
-      found = λ ts h y x. g .found ts h starts n p x (known f is .found ts h y x);
+      found = λ ts h y x. g .found ts h starts n p x (occupant-is f is .found ts h y x);
     })
 
   -- a block: ATST
   pub block-looked : {q : ℕ} → o ≡ Block → p ≡ q → Looked d s starts n (act q) (Moved 4)
   unfolding replyIs
   block-looked is e = rw (← e) (record {
-    found = λ ts h y x. let (m, M, there) = known f is .found ts h y x in sym (block-begins x p m M there);
+    found = λ ts h y x. let (m, M, there) = occupant-is f is .found ts h y x in sym (block-begins x p m M there);
   })
 
   -- a take or a repeated take
   module _ {m : ℕ} (is : o ≡ Take m) where
     pub take-held : Running d s starts n → TakeHeld d s n m
     take-held x =
-        let (b, a, P, e) = known f is .found (x .terms) (x .configuration) (x .decoded) (x .holds) in
+        let (b, a, P, e) = occupant-is f is .found (x .terms) (x .configuration) (x .decoded) (x .holds) in
         record {
           terms = x .terms;
           configuration = x .configuration;
@@ -125,7 +126,7 @@ module _ {d s starts : List ℕ} {n p : ℕ} {o : Occupant} (f : OccupantRead d 
 
     pub take-looked : {q : ℕ} {r : Reply} → TakeLooked d s n m r → p ≡ q → Looked d s starts n (act q) r
     take-looked g e = rw (← e) (record {
-      found = λ ts h y x. let (b, a, P, there) = known f is .found ts h y x in g .found ts h starts p b a P y x there;
+      found = λ ts h y x. let (b, a, P, there) = occupant-is f is .found ts h y x in g .found ts h starts p b a P y x there;
     })
 
 -- ---- kind 2, by the node
@@ -142,9 +143,9 @@ find-held {starts = starts} {n = n} {p = p} l t x = record {
   there = record { decoded = x .decoded; holds = x .holds; there = l; begins = refl; kind = t };
 }
 
--- what is asked for the search is what a run holds
-pub can-seek : {d s starts : List ℕ} {n : ℕ} → Running d s starts n → CanSeek s starts n
-can-seek {d} x = record { decoded = d; running = x }
+-- what a run holds is all that is asked to find a node
+pub can-find : {d s starts : List ℕ} {n : ℕ} → Running d s starts n → CanFind s starts n
+can-find {d} x = record { decoded = d; running = x }
 
 module _ {d s starts : List ℕ} {n k : ℕ} where
   -- refusal 14 before refusal 15
@@ -170,20 +171,20 @@ module _ {d s starts : List ℕ} {n k : ℕ} where
           f .found ts h starts n p (record { decoded = y; holds = x; there = l; begins = refl; kind = t });
     }
 
--- ---- the search
+-- ---- finding a node
 
 module _ {s starts : List ℕ} {n p : ℕ} where
   module _ {k : ℕ} where
-    pub sought-past : n ≤ p → NodeSought s starts n p k (search.Refused 14)
-    sought-past l = record { found = λ d. inside-past l }
+    pub found-past : n ≤ p → NodeFound s starts n p k (node.Refused 14)
+    found-past l = record { found = λ d. inside-past l }
 
-    pub sought-idle : p < n → (getD s (getD starts p 0) 0 ≡ transactionKind → ⊥) →
-        NodeSought s starts n p k (search.Refused 15)
-    sought-idle l other = record { found = λ d. inside-idle l other }
+    pub found-idle : p < n → (getD s (getD starts p 0) 0 ≡ transactionKind → ⊥) →
+        NodeFound s starts n p k (node.Refused 15)
+    found-idle l other = record { found = λ d. inside-idle l other }
 
-  module _ (x : CanSeek s starts n) (l : p < n) where
-    pub seek-inside : getD starts p 0 < length s
-    seek-inside = let (c, e) = component-at (x .running .holds) p l in let i = component-inside (x .running .holds) p c e .0 in omega arith
+  module _ (x : CanFind s starts n) (l : p < n) where
+    pub begin-inside : getD starts p 0 < length s
+    begin-inside = kind-inside (x .running) l
 
     module _ (t : getD s (getD starts p 0) 0 ≡ transactionKind) where
       pub nodes-inside : getD starts p 0 + transactionHead ≤ length s
@@ -194,21 +195,21 @@ module _ {s starts : List ℕ} {n p : ℕ} where
 
   module _ (l : p < n) (t : getD s (getD starts p 0) 0 ≡ transactionKind) (k : ℕ) {place : Place}
       (f : place ≡ nodeStart s (getD starts p 0 + transactionHead) k) where
-    pub sought-missing : place ≡ Nowhere → NodeSought s starts n p k (search.Refused 16)
-    sought-missing g = record {
+    pub found-missing : place ≡ Nowhere → NodeFound s starts n p k (node.Refused 16)
+    found-missing g = record {
       found = λ d. find-looked l t (search-missing d s (getD starts p 0) k place f g);
     }
 
-    pub sought-found : {at : ℕ} → place ≡ At at → NodeSought s starts n p k (search.Found at)
-    sought-found g = record { found = record { there = l; kind = t; place = sym f ∙ g } }
+    pub found-there : {at : ℕ} → place ≡ At at → NodeFound s starts n p k (node.Found at)
+    found-there g = record { found = record { there = l; kind = t; place = sym f ∙ g } }
 
 -- ---- what was found
 
-module _ {s starts : List ℕ} {n p k : ℕ} {r : NodeSearch} (f : NodeSought s starts n p k r) where
-  pub refused-there : {m : ℕ} → r ≡ search.Refused m → {d : List ℕ} {q : ℕ} → p ≡ q → Looked d s starts n (inside q k) (Refused m)
+module _ {s starts : List ℕ} {n p k : ℕ} {r : NodePlace} (f : NodeFound s starts n p k r) where
+  pub refused-there : {m : ℕ} → r ≡ node.Refused m → {d : List ℕ} {q : ℕ} → p ≡ q → Looked d s starts n (inside q k) (Refused m)
   refused-there is {d} e = let g = rw is at f in rw (← e) (g .found d)
 
-  module _ {at : ℕ} (is : r ≡ search.Found at) where
+  module _ {at : ℕ} (is : r ≡ node.Found at) where
     pub node-there : NodeThere s starts n p k at
     node-there = let g = rw is at f in g .found
 

@@ -1,7 +1,7 @@
 -- An entry that is made, by the occupant of its position or by its node: what a look would find may be made, and after
 -- it the configuration that the definitions give is held.
 -- Assumes nothing.
-use Prim.Native.Nat.{ℕ, _+_, _-_, _≤_, _<_}
+use Prim.Native.Nat.{ℕ, _≤_, _<_}
 use native.Mathlib.Decide.{ℕ-discrete}
 use native.Mathlib.Omega.{arith}
 use mathlib.Core.Path.{_≡_, refl, sym, ap, _∙_}
@@ -9,9 +9,7 @@ use mathlib.Core.Logic.{inl, inr}
 use mathlib.Core.Bool.{Bool, true, false}
 use mathlib.Core.Option.{some}
 use mathlib.Core.List.{List}
-use lib.ListN.{length, getD, getElem?}
-use mir.Syntax.{w64}
-use mir.Val.{Fits}
+use lib.ListN.{getD, getElem?}
 use Rattle.calculus.specs.Syntax.{Name, State}
 use Rattle.semantics.specs.Definitions.Terms.{Expression, Program}
 use Rattle.semantics.specs.Definitions.Configuration.{output, Tree, Component, idle, transaction, Configuration}
@@ -26,10 +24,10 @@ use Rattle.index.specs.Holds.{Running}
 use Rattle.transactions.specs.Moving.{NodeStands, NodeMoved}
 use Rattle.choices.specs.declared.occupants.Occupant.{Occupant}
 use Rattle.choices.specs.declared.occupants.Occupant.the-variants.{Nothing, Transaction, Output, Block, Take}
-use Rattle.choices.specs.declared.inside.NodeSearch.{NodeSearch}
-use Rattle.choices.specs.declared.inside.NodeSearch.the-variants as search
-use Rattle.choices.specs.Occupants.{OccupantRead, NodeSought}
-use Rattle.choices.proofs.Looking.{known, nothing-looked, output-looked, end-looked, block-looked, take-looked, refused-there, node-there, node-looked}
+use Rattle.choices.specs.declared.inside.NodePlace.{NodePlace}
+use Rattle.choices.specs.declared.inside.NodePlace.the-variants as node
+use Rattle.choices.specs.Occupants.{OccupantRead, NodeFound}
+use Rattle.choices.proofs.Looking.{occupant-is, nothing-looked, output-looked, end-looked, block-looked, take-looked, refused-there, node-there, node-looked}
 use Rattle.schedule.specs.declared.Entry as choices
 use Rattle.schedule.specs.declared.Entry.the-variants.{Act, Inside}
 use Rattle.schedule.specs.Entries.{entryOf}
@@ -158,14 +156,14 @@ module _ {d s starts : List ℕ} {n p : ℕ} {o : Occupant} (f : OccupantRead d 
     accepts-put = looked-accepts x (output-looked f is g refl) moves
 
     pub can-put : CanPut s starts n p
-    can-put = record { decoded = d; accepts = renamed (output-number accepts-put (known f is)) accepts-put }
+    can-put = record { decoded = d; accepts = renamed (output-number accepts-put (occupant-is f is)) accepts-put }
 
     pub act-put : {q : ℕ} {s′ starts′ : List ℕ} {n′ : ℕ} → TokenPut s starts n p s′ starts′ n′ → p ≡ q →
         Chosen d s starts n (act q) (Moved rule) s′ starts′ n′
     act-put t e =
         act-named
         (chosen-moved (output-looked f is g refl) moves
-        (renamed-back (output-number accepts-put (known f is)) (t .applied d))) e
+        (renamed-back (output-number accepts-put (occupant-is f is)) (t .applied d))) e
 
   pub act-put-refused : {a q m : ℕ} → o ≡ Output a → {r : Reply} → OutputLooked s a r → r ≡ Refused m → p ≡ q →
       Chosen d s starts n (act q) (Refused m) s starts n
@@ -188,13 +186,13 @@ module _ {d s starts : List ℕ} {n p : ℕ} {o : Occupant} (f : OccupantRead d 
 
     pub can-take : CanTake d s starts n p
     can-take =
-        let (b, same) = take-number accepts-take (known f is) in
+        let (b, same) = take-number accepts-take (occupant-is f is) in
         record { repeated = b; accepts = renamed same accepts-take }
 
     pub act-take : {s′ starts′ : List ℕ} {n′ : ℕ} → TokenTaken d s starts n p s′ starts′ n′ →
         Chosen d s starts n (act p) (Moved rule) s′ starts′ n′
     act-take t =
-        let (b, same) = take-number accepts-take (known f is) in
+        let (b, same) = take-number accepts-take (occupant-is f is) in
         chosen-moved (take-looked f is g refl) moves (renamed-back same (t .applied b))
 
   -- ATOK, ATRE and ATFAIL
@@ -213,7 +211,7 @@ module _ {d s starts : List ℕ} {n p : ℕ} {o : Occupant} (f : OccupantRead d 
     module _ (other : rule ≡ 7 → ⊥) where
       restarts : Restarts rule
       restarts =
-          let b = end-number accepts-end (known f is) in
+          let b = end-number accepts-end (occupant-is f is) in
           elim (ℕ-discrete rule 5) [ yes same ↦ inl same | no z ↦ inr (omega arith) ]
 
       pub can-restart : CanRestart s starts n p
@@ -225,11 +223,11 @@ module _ {d s starts : List ℕ} {n p : ℕ} {o : Occupant} (f : OccupantRead d 
 
 -- ---- kind 2, by the node
 
-module _ {s starts : List ℕ} {n p k : ℕ} {r : NodeSearch} (f : NodeSought s starts n p k r) {d : List ℕ} where
-  pub node-refused : {m : ℕ} → r ≡ search.Refused m → {q : ℕ} → p ≡ q → Chosen d s starts n (inside q k) (Refused m) s starts n
+module _ {s starts : List ℕ} {n p k : ℕ} {r : NodePlace} (f : NodeFound s starts n p k r) {d : List ℕ} where
+  pub node-refused : {m : ℕ} → r ≡ node.Refused m → {q : ℕ} → p ≡ q → Chosen d s starts n (inside q k) (Refused m) s starts n
   node-refused is e = chosen-refused (refused-there f is e) refl
 
-  module _ {at : ℕ} (is : r ≡ search.Found at) where
+  module _ {at : ℕ} (is : r ≡ node.Found at) where
     pub node-stands : Running d s starts n → NodeStands d s starts n p at
     node-stands x =
         let g = node-there f is in

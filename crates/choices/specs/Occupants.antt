@@ -23,8 +23,8 @@ use Rattle.index.specs.Choices.{Looked}
 use Rattle.communication.specs.Tokens.{takeOf}
 use Rattle.choices.specs.declared.occupants.Occupant.{Occupant}
 use Rattle.choices.specs.declared.occupants.Occupant.the-variants.{Nothing, Transaction, Output, Block, Take}
-use Rattle.choices.specs.declared.inside.NodeSearch.{NodeSearch}
-use Rattle.choices.specs.declared.inside.NodeSearch.the-variants.{Found, Refused}
+use Rattle.choices.specs.declared.inside.NodePlace.{NodePlace}
+use Rattle.choices.specs.declared.inside.NodePlace.the-variants.{Found, Refused}
 
 -- ---- at a position
 
@@ -44,7 +44,7 @@ pub record OccupantRead (d s starts : List ℕ) (n p : ℕ) (r : Occupant) : Typ
 -- ---- at a node
 
 -- some configuration of some table is held
-pub record CanSeek (s starts : List ℕ) (n : ℕ) : Type 0 where
+pub record CanFind (s starts : List ℕ) (n : ℕ) : Type 0 where
   pub decoded : List ℕ
   pub running : Running decoded s starts n
 
@@ -55,9 +55,9 @@ pub record NodeThere (s starts : List ℕ) (n p k at : ℕ) : Type 0 where
   pub place : nodeStart s (getD starts p 0 + transactionHead) k ≡ place.At at
 
 -- where the node begins; or what the entry is refused by, whatever the table
-abbrev pub SoughtAs : (s starts : List ℕ) (n p k : ℕ) → NodeSearch → Type 0
-SoughtAs s starts n p k (Found at) = NodeThere s starts n p k at
-SoughtAs s starts n p k (Refused m) = (d : List ℕ) → Looked d s starts n (inside p k) (reply.Refused m)
+abbrev pub FoundAs : (s starts : List ℕ) (n p k : ℕ) → NodePlace → Type 0
+FoundAs s starts n p k (Found at) = NodeThere s starts n p k at
+FoundAs s starts n p k (Refused m) = (d : List ℕ) → Looked d s starts n (inside p k) (reply.Refused m)
 
-pub record NodeSought (s starts : List ℕ) (n p k : ℕ) (r : NodeSearch) : Type 0 where
-  pub found : SoughtAs s starts n p k r
+pub record NodeFound (s starts : List ℕ) (n p k : ℕ) (r : NodePlace) : Type 0 where
+  pub found : FoundAs s starts n p k r

@@ -13,10 +13,10 @@ use terms::DECODED;
 ghost use Rattle.semantics.specs.Definitions.Moves.{inside};
 ghost use Rattle.index.specs.Holds.{Running};
 ghost use Rattle.index.specs.Choices.{Looked, Chosen};
-ghost use Rattle.choices.specs.Occupants.{CanSeek, NodeSought};
+ghost use Rattle.choices.specs.Occupants.{CanFind, NodeFound};
 
 // Where the node that an entry names begins; or the entry's refusal, where there is no such node.
-pub enum NodeSearch {
+pub enum NodePlace {
     Found { at: usize },
     Refused(u8),
 }
@@ -28,20 +28,20 @@ fn find_node(
     components: usize,
     position: usize,
     node: u8,
-) -> NodeSearch
-    requires { ⌜ CanSeek (now hall) (now starts) components ⌝ }
-    ensures { λ r. ⌜ NodeSought (now (hall .entry)) (now (starts .entry)) components position node r ⌝ }
+) -> NodePlace
+    requires { ⌜ CanFind (now hall) (now starts) components ⌝ }
+    ensures { λ r. ⌜ NodeFound (now (hall .entry)) (now (starts .entry)) components position node r ⌝ }
 {
     if components <= position {
-        return NodeSearch::Refused(NO_COMPONENT);
+        return NodePlace::Refused(NO_COMPONENT);
     }
     let transaction = starts[position];
     if hall[transaction] != KIND_TRANSACTION {
-        return NodeSearch::Refused(WRONG_COMPONENT);
+        return NodePlace::Refused(WRONG_COMPONENT);
     }
     match stored::node_start(hall, transaction + TRANSACTION_HEAD, node) {
-        Place::Nowhere => NodeSearch::Refused(NO_NODE),
-        Place::At(at) => NodeSearch::Found { at },
+        Place::Nowhere => NodePlace::Refused(NO_NODE),
+        Place::At(at) => NodePlace::Found { at },
     }
 }
 
@@ -60,15 +60,15 @@ pub fn look_inside(
 {
     let p = wide(position);
     match find_node(hall, starts, components, p, node) {
-        NodeSearch::Refused(number) => Reply::Refused(number),
-        NodeSearch::Found { at } => {
+        NodePlace::Refused(number) => Reply::Refused(number),
+        NodePlace::Found { at } => {
             let snapshot = starts[p] + IDLE_SIZE;
             transactions::rule_at(decoded, hall, snapshot, at)
         }
     }
 }
 
-// The entry made, where it is accepted, by what stands at its node. As many components stay.
+// The entry made, where it is accepted, by what stands at its node. There are as many components afterwards.
 pub fn act_inside(
     decoded: &[u8; DECODED],
     hall: &mut [u8],
@@ -83,8 +83,8 @@ pub fn act_inside(
 {
     let p = wide(position);
     match find_node(hall, starts, components, p, node) {
-        NodeSearch::Refused(number) => Reply::Refused(number),
-        NodeSearch::Found { at } => {
+        NodePlace::Refused(number) => Reply::Refused(number),
+        NodePlace::Found { at } => {
             transactions::move_at(decoded, hall, starts, components, p, at)
         }
     }

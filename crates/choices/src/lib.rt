@@ -44,8 +44,8 @@ pub fn look(
     }
 }
 
-// An entry of either kind made, where it is accepted. A run is its one caller, so that the compiler can make the two one
-// loop.
+// An entry of either kind made, where it is accepted. A run is its one caller, so that the compiler makes one loop of
+// the two.
 pub fn make(
     decoded: &[u8; DECODED],
     hall: &mut [u8],

@@ -9,7 +9,7 @@ use terms::DECODED;
 ghost use Rattle.index.specs.Holds.{Running};
 ghost use Rattle.choices.specs.Occupants.{OccupantRead};
 
-// A component (station), by what it does when it acts.
+// What stands at a position, by what it does when it acts.
 pub enum Occupant {
     // No component has this position.
     Nothing,

@@ -9,11 +9,11 @@ use mathlib.Core.List.{List, [], _∷_, _++_, map, flatten, map-append}
 use lib.ListN.{length, getD, take, set, getElem?, length-append, length-take}
 use lib.Seq.{take-at, take-length}
 use lib.Dec.{ltb}
-use borrow.Author.Tests.{eq-eqb, ne-eqb, ltb-true, ltb-false, le-ltb}
+use borrow.Author.Tests.{ltb-true, ltb-false, le-ltb}
 use Rattle.calculus.specs.Syntax.{Name}
 use Rattle.semantics.specs.Definitions.Layout.{maxTerms, maxComponents}
 use Rattle.semantics.specs.Definitions.Terms.{Program, nilT, putT, takeT, repeatT, parT, atomT, Term, process, width}
-use Rattle.semantics.specs.Definitions.Table.{repeatK, parK}
+use Rattle.semantics.specs.Definitions.Table.{parK}
 use Rattle.semantics.specs.Definitions.Configuration.{repeating, idle, Configuration, opens}
 use Rattle.semantics.specs.Definitions.Stored.{componentBytes}
 use Rattle.semantics.specs.Definitions.Moves as moves
@@ -76,25 +76,19 @@ module _ (d : List ℕ) (i more n : ℕ) where
 
 -- by the kind of the term
 module _ (kind : ℕ) where
-  a-repeat : kind ≡ kindByte repeatK → repeats kind ≡ true
-  unfolding repeats
-  a-repeat e = eq-eqb kind (kindByte repeatK) e
+  -- as the code tests it
+  module _ {r : Bool} (f : r ≡ repeats kind) where
+    pub rep-rule : r ≡ true → 3 ≡ takeNumber (repeats kind)
+    rep-rule e = rw (sym f ∙ e)
 
-  no-repeat : (kind ≡ kindByte repeatK → ⊥) → repeats kind ≡ false
-  unfolding repeats
-  no-repeat e = ne-eqb kind (kindByte repeatK) e
+    pub in-rule : r ≡ false → 2 ≡ takeNumber (repeats kind)
+    in-rule e = rw (sym f ∙ e)
 
-  pub rep-rule : kind ≡ kindByte repeatK → 3 ≡ takeNumber (repeats kind)
-  rep-rule e = rw (a-repeat e)
+    pub one-stays : r ≡ true → 1 ≡ staying (repeats kind)
+    one-stays e = rw (sym f ∙ e)
 
-  pub in-rule : (kind ≡ kindByte repeatK → ⊥) → 2 ≡ takeNumber (repeats kind)
-  in-rule e = rw (no-repeat e)
-
-  pub one-stays : kind ≡ kindByte repeatK → 1 ≡ staying (repeats kind)
-  one-stays e = rw (a-repeat e)
-
-  pub none-stays : (kind ≡ kindByte repeatK → ⊥) → 0 ≡ staying (repeats kind)
-  none-stays e = rw (no-repeat e)
+    pub none-stays : r ≡ false → 0 ≡ staying (repeats kind)
+    none-stays e = rw (sym f ∙ e)
 
   repeats-is : (b : Bool) → kind ≡ takeKind b → b ≡ repeats kind
   unfolding repeats
@@ -266,21 +260,21 @@ module _ (d : List ℕ) (m i : ℕ) (same : i ≡ m) (s : List ℕ) (x : CanWrit
         of-kind : kind ≡ kindAt d m
         of-kind = rw same at u
 
-        pub take-laid : (kind ≡ kindByte repeatK → ⊥) → SuccessorsWritten d m s₁ end
+        pub take-laid : {r : Bool} → r ≡ repeats kind → r ≡ false → SuccessorsWritten d m s₁ end
         unfolding componentsBytes
-        take-laid h = record {
+        take-laid f h = record {
           found = λ ts b a P y e.
-              let like = repeats-is kind b (of-kind ∙ take-in y b m a P e .kind) ∙ no-repeat kind h in
+              let like = repeats-is kind b (of-kind ∙ take-in y b m a P e .kind) ∙ (sym f ∙ h) in
               let q = opened ts b a P y e in
               let z : end ≡ length (componentsBytes P) = omega (arith, q .0) in
               rw (like, z, q .1) (refl, written-front s (componentsBytes P));
         }
 
-        pub repeat-laid : kind ≡ kindByte repeatK → (r : ℕ) → r ≡ end + idleSize → (s₂ : List ℕ) →
+        pub repeat-laid : {t : Bool} → t ≡ repeats kind → t ≡ true → (r : ℕ) → r ≡ end + idleSize → (s₂ : List ℕ) →
             s₂ ≡ written s₁ end (waitingKind ∷ m ∷ []) idleSize → SuccessorsWritten d m s₂ r
-        repeat-laid h r j s₂ p = record {
+        repeat-laid f h r j s₂ p = record {
           found = λ ts b a P y e.
-              let like = repeats-is kind b (of-kind ∙ take-in y b m a P e .kind) ∙ a-repeat kind h in
+              let like = repeats-is kind b (of-kind ∙ take-in y b m a P e .kind) ∙ (sym f ∙ h) in
               let q = opened ts b a P y e in
               let v = componentsBytes P ++ (waitingKind ∷ m ∷ []) in
               let l = length-append (componentsBytes P) (waitingKind ∷ m ∷ []) in

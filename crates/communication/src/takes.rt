@@ -27,17 +27,23 @@ const SUCCESSORS_SIZE: usize = IDLE_SIZE * (MAX_COMPONENTS + 1);
 // The same where its continuation opens into one component at most.
 const SUCCESSOR_SIZE: usize = IDLE_SIZE * 2;
 
-// By the kind of a take's record: its rule, and how many stay of it.
+// By the kind of a take's record: whether it is repeated, its rule, and how many stay of it.
+fn is_repeated(kind: u8) -> bool
+    ensures { λ r. ⌜ r ≡ repeats kind ⌝ }
+{
+    kind == REPEATED_TAKE
+}
+
 fn take_rule(kind: u8) -> u8
     ensures { λ r. ⌜ r ≡ takeNumber (repeats kind) ⌝ }
 {
-    if kind == REPEATED_TAKE { REP } else { IN }
+    if is_repeated(kind) { REP } else { IN }
 }
 
 fn staying_of(kind: u8) -> usize
     ensures { λ r. ⌜ r ≡ staying (repeats kind) ⌝ }
 {
-    if kind == REPEATED_TAKE { 1 } else { 0 }
+    if is_repeated(kind) { 1 } else { 0 }
 }
 
 // Whether there are too many components once one has given way to what a process opens into and so many more. The width
@@ -81,7 +87,7 @@ fn write_successors(decoded: &[u8; DECODED], term: u8, successors: &mut [u8]) ->
 {
     let i = wide(term);
     let end = write_components(decoded, wide(terms::second_of(decoded, i)), successors, 0);
-    if terms::kind_of(decoded, i) == REPEATED_TAKE {
+    if is_repeated(terms::kind_of(decoded, i)) {
         return write_idle(successors, end, KIND_WAITING, term);
     }
     end

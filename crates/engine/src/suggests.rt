@@ -14,8 +14,8 @@ pub enum SuggestAnswer {
     Refused { number: u8, place: usize },
 }
 
-// Suggests a choice that is accepted. The contract leaves free which one it is: here the first, at the lowest position
-// and there at the lowest node.
+// Suggests a choice that is accepted. The contract leaves free which one it is: here the first, at the lowest position,
+// there kind 1 before kind 2, and of kind 2 at the lowest node.
 pub fn suggest(table: &[u8], hall: &[u8]) -> SuggestAnswer
     ensures { λ r. ⌜ SuggestAllowed (now (table .entry)) (now (hall .entry)) (suggestAnswerOf r) ⌝ }
 {

@@ -1,4 +1,4 @@
--- The code's lengths of bodies are the definitions', and no body has more than two bytes.
+-- The shape of a kind: how long its body is, where its record ends, which bytes are no kind.
 -- Assumes nothing.
 use Prim.{Unit}
 use Prim.Native.Nat.{ℕ, zero, suc, _+_, _≤_, _<_}

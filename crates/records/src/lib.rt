@@ -64,8 +64,8 @@ pub const NO_CLASS: u8 = 0;
 // The class of a kind's records, and their first and second field.
 pub struct Shape(pub u8, pub u8, pub u8);
 
-// What the records of a kind are, in a line for each: nothing else tells it, least of all the order of the kinds. A
-// body has a byte for each field.
+// What the records of a kind are, in a line for each. A body has a byte for each field: lengths of bodies, classes and
+// the tests of fields are made from this.
 pub fn shape_of(kind: u8) -> Shape
     ensures { λ r. ⌜ r ≡ shapeOf kind ⌝ }
 {

@@ -41,7 +41,7 @@ abbrev pub SuggestableOr : (Configuration → Type 0) → Suggestion → Configu
 SuggestableOr Q (Accepted e) h = Suggestable h (suggested (entryOf e))
 SuggestableOr Q Still h = Q h
 
--- of the entries of kind 2 at a position one may be suggested, or none is accepted; the same of all entries there
+-- an entry that may be suggested, whichever it is; or none of kind 2, or none at all, is accepted at position p
 pub record SuggestsInside (d s starts : List ℕ) (n p : ℕ) (r : Suggestion) : Type 0 where
   pub found : Always d s starts n (SuggestableOr (QuiescentInside p) r)
 

@@ -1,5 +1,5 @@
 // A suggestion: the first entry that is accepted, at the lowest position, there kind 1 before kind 2, and of kind 2 at
-// the lowest node.
+// the lowest node. The contracts promise one that is accepted, and leave free which.
 use buffer::wide;
 use choices::look_act;
 use choices::look_inside;
@@ -19,7 +19,7 @@ pub enum Suggestion {
     Still,
 }
 
-// The first entry of kind 2 that is accepted at the position of a transaction. Its tree has no more nodes than these.
+// The first entry of kind 2 that is accepted at the position of a transaction, whose tree has at most MAX_NODES nodes.
 fn first_inside(
     decoded: &[u8; DECODED],
     hall: &[u8],

@@ -1,5 +1,5 @@
 -- `act` meets its contract. Assumes nothing.
-use Rattle.choices.proofs.Looking.{known, output-held}
+use Rattle.choices.proofs.Looking.{occupant-is, output-held}
 use Rattle.choices.proofs.Making.{act-named, act-nothing, can-put, act-put, act-put-refused, can-begin, act-begin}
 use borrow.Author.Needs.{needs}
 use Rattle.choices.proofs.acts.act.Statement.{statement}
@@ -19,7 +19,7 @@ enum-told-2 c = search needs
 
 act-end-requires : tie.Need-act-end-requires
 act-end-requires c κs = let told = c .before .before in
-    (search needs, known (told .before .before .occupant-at .ensures) (told .enum-told2 .given .1))
+    (search needs, occupant-is (told .before .before .occupant-at .ensures) (told .enum-told2 .given .1))
 
 enum-known-channel : tie.Need-enum-known-channel
 enum-known-channel c = search needs
@@ -55,7 +55,7 @@ enum-known-term : tie.Need-enum-known-term
 enum-known-term c = search needs
 
 act-take-requires : tie.Need-act-take-requires
-act-take-requires c κs = (search needs, search known)
+act-take-requires c κs = (search needs, search occupant-is)
 
 same-length : tie.Need-same-length
 same-length c = search needs

@@ -1,5 +1,5 @@
 -- `act_inside` meets its contract. Assumes nothing.
-use Rattle.choices.proofs.Looking.{can-seek}
+use Rattle.choices.proofs.Looking.{can-find}
 use Rattle.choices.proofs.Making.{node-refused, node-stands, node-chosen}
 use borrow.Author.Needs.{needs}
 use Rattle.choices.proofs.inside.act_inside.Statement.{statement}
@@ -9,7 +9,7 @@ wide-requires : tie.Need-wide-requires
 wide-requires c κs = search needs
 
 find-node-requires : tie.Need-find-node-requires
-find-node-requires c κs = search can-seek
+find-node-requires c κs = search can-find
 
 enum-known-number : tie.Need-enum-known-number
 enum-known-number c = search needs

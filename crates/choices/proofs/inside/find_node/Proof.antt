@@ -1,11 +1,11 @@
 -- `find_node` meets its contract. Assumes nothing.
-use Rattle.choices.proofs.Looking.{sought-past, sought-idle, seek-inside, nodes-inside, nodes-fit, sought-missing, sought-found}
+use Rattle.choices.proofs.Looking.{found-past, found-idle, begin-inside, nodes-inside, nodes-fit, found-missing, found-there}
 use borrow.Author.Needs.{needs}
 use Rattle.choices.proofs.inside.find_node.Statement.{statement}
 use Rattle.choices.proofs.inside.find_node.Tie as tie
 
 returns : tie.Need-returns
-returns c = search sought-past
+returns c = search found-past
 
 mul-transaction : tie.Need-mul-transaction
 mul-transaction c = search needs
@@ -14,10 +14,10 @@ element-copy-out-transaction : tie.Need-element-copy-out-transaction
 element-copy-out-transaction c = search needs
 
 shared-slice-read-if2 : tie.Need-shared-slice-read-if2
-shared-slice-read-if2 c = search seek-inside
+shared-slice-read-if2 c = search begin-inside
 
 returns-2 : tie.Need-returns-2
-returns-2 c = search sought-idle
+returns-2 c = search found-idle
 
 add-node-start : tie.Need-add-node-start
 add-node-start c = search nodes-fit
@@ -32,10 +32,10 @@ enum-known-at : tie.Need-enum-known-at
 enum-known-at c = search needs
 
 returns-3 : tie.Need-returns-3
-returns-3 c = search sought-missing
+returns-3 c = search found-missing
 
 returns-4 : tie.Need-returns-4
-returns-4 c = search sought-found
+returns-4 c = search found-there
 
 pub find-node-spec : {M : Type 1} → statement M
 find-node-spec =

@@ -1,5 +1,5 @@
 -- `look_inside` meets its contract. Assumes nothing.
-use Rattle.choices.proofs.Looking.{can-seek, refused-there, node-position, node-held, snapshot-fits, node-looked}
+use Rattle.choices.proofs.Looking.{can-find, refused-there, node-position, node-held, snapshot-fits, node-looked}
 use borrow.Author.Needs.{needs}
 use Rattle.choices.proofs.inside.look_inside.Statement.{statement}
 use Rattle.choices.proofs.inside.look_inside.Tie as tie
@@ -8,7 +8,7 @@ wide-requires : tie.Need-wide-requires
 wide-requires c κs = search needs
 
 find-node-requires : tie.Need-find-node-requires
-find-node-requires c κs = search can-seek
+find-node-requires c κs = search can-find
 
 enum-known-number : tie.Need-enum-known-number
 enum-known-number c = search needs

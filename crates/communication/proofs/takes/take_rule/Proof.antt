@@ -1,7 +1,11 @@
 -- `take_rule` meets its contract. Assumes nothing.
 use Rattle.communication.proofs.Taking.{rep-rule, in-rule}
+use borrow.Author.Needs.{needs}
 use Rattle.communication.proofs.takes.take_rule.Statement.{statement}
 use Rattle.communication.proofs.takes.take_rule.Tie as tie
+
+is-repeated-requires : tie.Need-is-repeated-requires
+is-repeated-requires c κs = search needs
 
 returns : tie.Need-returns
 returns c = search rep-rule
@@ -10,4 +14,4 @@ returns-2 : tie.Need-returns-2
 returns-2 c = search in-rule
 
 pub take-rule-spec : {M : Type 1} → statement M
-take-rule-spec = tie.close (tie.spec returns returns-2)
+take-rule-spec = tie.close (tie.spec is-repeated-requires returns returns-2)

@@ -24,9 +24,12 @@ write-components-requires c κs =
 kind-of-requires : tie.Need-kind-of-requires
 kind-of-requires c κs = search write-successors-inside
 
+is-repeated-requires : tie.Need-is-repeated-requires
+is-repeated-requires c κs = search needs
+
 write-idle-requires : tie.Need-write-idle-requires
 write-idle-requires c κs =
-    let written = c .before .before .before .before .before in
+    let written = c .before .before .before .before .before .before in
     let wide2 = written .before .before in
     let second = wide2 .before in
     let wide = second .before in
@@ -54,6 +57,7 @@ write-successors-spec =
     wide-requires-2
     write-components-requires
     kind-of-requires
+    is-repeated-requires
     write-idle-requires
     same-length
     returns
