@@ -9,25 +9,23 @@ use lib.ListN.{length, getD, take, set, replicate, getElem?, length-append, leng
 use lib.Seq.{take-length, length-take-le}
 use Rattle.semantics.specs.Definitions.Basics.{padded}
 use Rattle.semantics.specs.Definitions.Terms.{Expression, Term, process, atomT, number}
-use Rattle.semantics.specs.Definitions.Table.{atomK}
 use Rattle.semantics.specs.Definitions.Logs.{emptyLog}
 use Rattle.semantics.specs.Definitions.Configuration.{block, leaf, Component, idle, transaction, Configuration}
 use Rattle.semantics.specs.Definitions.Stored.{treeBytes, componentBytes, ComponentOk}
 use Rattle.semantics.specs.Definitions.Moves.{act, acts, answerTo, ruleNumber, movedBy, replyOf}
 use Rattle.theorems.proofs.Lists.{found-below, length-replaceAt}
 use Rattle.theorems.proofs.Moves.{positionOf, localMove, accepted-made}
-use Rattle.records.specs.Shapes.{kindByte}
-use Rattle.terms.specs.Decoded.{Decoded, maxTerms, kindAt, firstAt}
+use Rattle.terms.specs.Decoded.{Decoded, maxTerms, firstAt}
 use Rattle.buffer.specs.Splice.{written}
 use Rattle.buffer.proofs.Written.{written-twice}
-use Rattle.stored.specs.Layout.{channels, indexSize, waitingKind, transactionKind, leafKind, leafTerm, leafLogLength, leafLog, leafSize, idleSize, componentBody, transactionHead}
+use Rattle.stored.specs.Layout.{channels, indexSize, transactionKind, leafKind, leafTerm, leafLogLength, leafLog, leafSize, idleSize, componentBody, transactionHead}
 use Rattle.storedlaws.proofs.Configurations.{one-bytes}
 use Rattle.storedlaws.proofs.Starts.{idle-size}
 use Rattle.logs.specs.declared.Log.{Log}
 use Rattle.logs.specs.Values.{LogIs}
 use Rattle.index.specs.Holds.{Holds, Replaced, CanReplace}
 use Rattle.index.specs.Choices.{Accepts, Applied, afterwards}
-use Rattle.index.proofs.Holding.{takes, repeats, blocks, hall-length, counts-here, start-below-used, used-inside, component-at, position-below, component-ok, component-ends, body-here, waiting-here}
+use Rattle.index.proofs.Holding.{hall-length, counts-here, start-below-used, used-inside, position-below, component-ok, component-ends, body-here}
 use Rattle.index.proofs.Replacing.{one-spaced}
 use Rattle.blocks.specs.Begins.{begunSize, firstLeaf, begunBytes}
 use Rattle.index.proofs.Acting.{Replacement, replacement-can, replaced-by-one, held-position, acted-replacement}

@@ -1,5 +1,4 @@
--- What the bytes at a node of a transaction tell: the kind of its expression, the shape of the expression by its kind,
--- and the fields of its record.
+-- What the bytes at a node of a transaction tell: the kind of its expression, and the fields of its record.
 -- Assumes nothing.
 use Prim.Native.Nat.{ℕ, _+_, _≤_, _<_}
 use native.Mathlib.Omega.{arith}
@@ -11,11 +10,11 @@ use lib.ListN.{length, getD, drop, getElem?, length-append, length-drop}
 use lib.Seq.{getD-drop}
 use lib.Dec.{eqb}
 use borrow.Author.Tests.{ne-eqb, eqb-true, eqb-false}
-use Rattle.calculus.specs.Syntax.{Name, Log, State}
+use Rattle.calculus.specs.Syntax.{Log, State}
 use Rattle.semantics.specs.Definitions.Terms.{Expression, endT, retryT, rdT, wtT, orElseT, Term, process, expression, number}
 use Rattle.semantics.specs.Definitions.Configuration.{Tree, leaf, fork, transaction, Configuration}
 use Rattle.semantics.specs.Definitions.Stored.{leafExpression, treeBytes, TreeOk, ComponentOk}
-use Rattle.semantics.specs.Definitions.Table.{endK, retryK, rdK, wtK, orElseK}
+use Rattle.semantics.specs.Definitions.Table.{retryK}
 use Rattle.semantics.specs.Checks.AcceptedTables.{kindByte, ChannelBelow}
 use Rattle.theorems.proofs.Lists.{found-below}
 use Rattle.terms.specs.Decoded.{channels, maxTerms, kindAt, firstAt, secondAt, RecordOf, Decoded}
@@ -112,12 +111,7 @@ node-inside d s at x = go (x .tree) (node-bytes s at (x .tree) (x .there .rest) 
     go (leaf M δ) n = let l = n .2 in omega arith
     go (fork l r) n = let m = n .1 in omega arith
 
--- a leaf's byte of kind, and its term behind it
-pub leaf-first : {ts : List Term} {M : Expression} {δ : Log} {d s : List ℕ} {at : ℕ} → TreeAt ts (leaf M δ) d s at →
-    getD s at 0 ≡ forkKind → ⊥
-leaf-first {M = M} {δ = δ} {s = s} {at = at} x f =
-    let n = node-bytes s at (leaf M δ) (x .rest) (x .bytes) .0 in omega arith
-
+-- a leaf's term, behind its byte of kind
 pub leaf-term : {ts : List Term} {M : Expression} {δ : Log} {d s : List ℕ} {at : ℕ} → TreeAt ts (leaf M δ) d s at →
     getD s (at + leafTerm) 0 ≡ number M
 leaf-term {M = M} {δ = δ} {s = s} {at = at} x = node-bytes s at (leaf M δ) (x .rest) (x .bytes) .1
@@ -213,7 +207,7 @@ opened {h = h} {p = p} x =
     let tree = whole-at (x .decoded) (x .holds) p _ M σ t there in
     record { number = _; block = M; snapshot = σ; nodes = t; there = there; stands = rw (← x .begins) at tree }
 
--- ---- the shape of an expression
+-- ---- the fields of a leaf's expression
 
 -- what the record of a leaf's term has: its channel, and the numbers of its subterms
 abbrev pub FieldsOf : (d : List ℕ) → (b : ℕ) → Expression → Type 0
@@ -243,19 +237,3 @@ leaf-fields ts d b M x e = go (eqb b noRecord) refl
         let there = named-entry ts M b other e in
         entry-fields d b M (term-below d b b (record { terms = ts; named = M; decoded = x; there = e }) other refl)
         (x .records b (expression M) there) (x .good .channel b (expression M) there)
-
--- by its kind
-pub data Shape (M : Expression) (k : ℕ) : Type 0 where
-  ending : (n : ℕ) → M ≡ endT n → k ≡ kindByte endK → Shape M k
-  retrying : (n : ℕ) → M ≡ retryT n → k ≡ kindByte retryK → Shape M k
-  reading : (n : ℕ) (a : Name) (N : Expression) → M ≡ rdT n a N → k ≡ kindByte rdK → Shape M k
-  writing : (n : ℕ) (a : Name) (N : Expression) → M ≡ wtT n a N → k ≡ kindByte wtK → Shape M k
-  choosing : (n : ℕ) (N N′ : Expression) → M ≡ orElseT n N N′ → k ≡ kindByte orElseK → Shape M k
-
-pub shape : (M : Expression) (k : ℕ) → k ≡ termKind (expression M) → Shape M k
-unfolding termKind
-shape (endT n) k e = ending n refl e
-shape (retryT n) k e = retrying n refl e
-shape (rdT n a N) k e = reading n a N refl e
-shape (wtT n a N) k e = writing n a N refl e
-shape (orElseT n N N′) k e = choosing n N N′ refl e

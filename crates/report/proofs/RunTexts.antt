@@ -21,7 +21,9 @@ use Rattle.stored.specs.Layout.{channels, hallBytes}
 use Rattle.counters.specs.declared.Counters.{Counters}
 use Rattle.counters.specs.Counted.{countersOf}
 use Rattle.runs.specs.declared.RunAnswer.{RunAnswer}
+use Rattle.runs.specs.declared.RunNumbers.{RunNumbers}
 use Rattle.runs.specs.Answers.{runCallOf}
+use Rattle.runs.specs.Numbers.{callOf, NumbersAre}
 use Rattle.admission.specs.declared.Admission.{Admission}
 use Rattle.admission.specs.declared.Admission.the-variants as admit
 use Rattle.admission.specs.Answers.{Held, AdmissionIs}
@@ -29,10 +31,9 @@ use Rattle.engine.specs.declared.opens.OpenAnswer.{OpenAnswer}
 use Rattle.engine.specs.declared.opens.OpenAnswer.the-variants as answer
 use Rattle.engine.specs.Answers.{openAnswerOf, openingOf, buffersOf}
 use Rattle.engine.proofs.Admitted.{admitted-hall, refused-hall}
-use Rattle.sections.specs.declared.totals.RunTotals.{RunTotals}
 use Rattle.sections.specs.Limits.{runMost, linesMost}
 use Rattle.sections.specs.Printed.{Printed, ComponentsHeld}
-use Rattle.sections.specs.Totals.{callOf, TotalsAre, LinesPrinted}
+use Rattle.sections.specs.Totals.{LinesPrinted}
 use Rattle.sections.proofs.Texts.{printed-wider}
 use Rattle.sections.proofs.Counts.{front-again}
 use Rattle.report.specs.Runs.{HallPrinted, RunPrinted}
@@ -49,7 +50,7 @@ module _ (d table s starts : List ℕ) (a : Admission) (w : AdmissionIs a d s st
   admitted-standing n e = admitted-hall d table s starts a w n e
       (λ t h q x. record { terms = t .terms; configuration = h; holds = x .holds })
 
-  module _ (first : List ℕ) (o : RunTotals) (out₀ out₁ : List ℕ) (r : ℕ) where
+  module _ (first : List ℕ) (o : RunNumbers) (out₀ out₁ : List ℕ) (r : ℕ) where
     pub admitted-printed : (n : ℕ) → a ≡ admit.Admitted n → LinesPrinted s starts n first o out₀ out₁ r →
         HallPrinted table s first o out₀ out₁ r
     admitted-printed n e x = record {
@@ -109,7 +110,7 @@ module _ (table choices hall₀ hall₁ : List ℕ) (a : OpenAnswer) (w : openin
     (out₀ out₁ : List ℕ) (r : ℕ) where
   pub opened-printed : (c : Counters) → a ≡ answer.Opened c → (first : List ℕ) → first ≡ take channels hall₁ →
       (ans : RunAnswer) (hall₂ : List ℕ) → runCallOf ans hall₂ ≡ runCall table (buffersOf hall₁ c) choices →
-      length hall₂ ≡ hallBytes → (o : RunTotals) → TotalsAre ans o → HallPrinted table hall₂ first o out₀ out₁ r →
+      length hall₂ ≡ hallBytes → (o : RunNumbers) → NumbersAre ans o → HallPrinted table hall₂ first o out₀ out₁ r →
       RunPrinted table choices hall₀ out₀ out₁ r
   unfolding openAnswerOf answer-of
   opened-printed c e first f ans hall₂ ran size o same x = record {

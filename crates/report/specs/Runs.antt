@@ -13,14 +13,14 @@ use Rattle.semantics.specs.Definitions.Stored.{configurationOf}
 use Rattle.semantics.specs.Definitions.Report.{runLine, lines}
 use Rattle.semantics.specs.Checks.PrintedRun.{PrintsCalls}
 use Rattle.stored.specs.Layout.{channels, hallBytes}
-use Rattle.sections.specs.declared.totals.RunTotals.{RunTotals}
+use Rattle.runs.specs.declared.RunNumbers.{RunNumbers}
 use Rattle.sections.specs.Limits.{linesMost}
 use Rattle.sections.specs.Printed.{Printed}
 use Rattle.sections.specs.Totals.{answerOf}
 
 -- behind whichever first configuration has these counts, whichever configuration the hall stores behind an accepted
 -- table
-pub record HallPrinted (table s first : List ℕ) (o : RunTotals) (before after : List ℕ) (to : ℕ) : Type 0 where
+pub record HallPrinted (table s first : List ℕ) (o : RunNumbers) (before after : List ℕ) (to : ℕ) : Type 0 where
   pub found : (t : Table) (f l : Configuration) → readTable table ≡ accepted t → f .counts ≡ take channels first →
       length s ≡ hallBytes → configurationOf (t .terms) s ≡ some l →
       Printed linesMost before 0 (lines f (answerOf o l)) after to

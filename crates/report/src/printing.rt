@@ -1,11 +1,11 @@
 // What is printed of a table that is opened in a hall and of a run over choices there.
 use admission::Admission;
 use engine::OpenAnswer;
-use sections::RunTotals;
+use runs::RunNumbers;
+use runs::numbers_of;
 use sections::counts_of;
 use sections::print_lines;
 use sections::run_line;
-use sections::totals_of;
 use stored::INDEX_SIZE;
 use terms::DECODED;
 ghost use mathlib.Core.Path.{_≡_};
@@ -16,16 +16,16 @@ ghost use Rattle.sections.specs.Limits.{linesMost};
 ghost use Rattle.report.specs.Runs.{HallPrinted, RunPrinted};
 
 // The lines of a run whose last hall is not held yet. One that a run left behind is never refused.
-fn print_hall(table: &[u8], hall: &[u8], first: &[u8], totals: RunTotals, out: &mut [u8]) -> usize
+fn print_hall(table: &[u8], hall: &[u8], first: &[u8], numbers: RunNumbers, out: &mut [u8]) -> usize
     requires { ⌜ (Layout·channels ≤ length (now first)) × (linesMost ≤ length (now out)) ⌝ }
-    ensures { λ r. ⌜ HallPrinted (now (table .entry)) (now (hall .entry)) (now (first .entry)) totals
+    ensures { λ r. ⌜ HallPrinted (now (table .entry)) (now (hall .entry)) (now (first .entry)) numbers
         (now (out .entry)) (now (out .exit)) r ⌝ }
 {
     let mut decoded = [0u8; DECODED];
     let mut starts = [0usize; INDEX_SIZE];
     match admission::admit(table, hall, &mut decoded, &mut starts) {
         Admission::Admitted { components } => {
-            print_lines(hall, &starts, components, first, totals, out)
+            print_lines(hall, &starts, components, first, numbers, out)
         }
         Admission::Refused {
             number: _,
@@ -43,8 +43,8 @@ pub fn print_run(table: &[u8], choices: &[u8], hall: &mut [u8], out: &mut [u8]) 
     match engine::open_hall(table, hall) {
         OpenAnswer::Opened(counters) => {
             let first = counts_of(hall);
-            let totals = totals_of(engine::run(table, hall, choices, counters));
-            print_hall(table, hall, &first, totals, out)
+            let numbers = numbers_of(engine::run(table, hall, choices, counters));
+            print_hall(table, hall, &first, numbers, out)
         }
         OpenAnswer::Refused { number, place } => run_line(out, number, place, 0),
     }

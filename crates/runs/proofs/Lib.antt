@@ -1,3 +1,4 @@
 pub mod Entries
 pub mod RunSteps
 pub mod Cases
+pub mod Numbers

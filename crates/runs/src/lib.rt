@@ -9,6 +9,7 @@ use terms::DECODED;
 ghost use Rattle.counters.specs.Counted.{countersOf};
 ghost use Rattle.index.specs.Holds.{Running};
 ghost use Rattle.runs.specs.Answers.{Ran};
+ghost use Rattle.runs.specs.Numbers.{NumbersAre};
 
 // The answer of a run: where it stopped, how many entries were done, and the counters after them. A run that is refused
 // has the refusal's number, and the place of the entry that was refused.
@@ -24,6 +25,42 @@ pub enum RunAnswer {
         done: usize,
         counters: Counters,
     },
+}
+
+// The same as numbers: number 0 stands for a run that was completed.
+pub struct RunNumbers {
+    pub number: u8,
+    pub place: usize,
+    pub done: usize,
+    pub counters: Counters,
+}
+
+pub fn numbers_of(answer: RunAnswer) -> RunNumbers
+    ensures { λ r. ⌜ NumbersAre answer r ⌝ }
+{
+    match answer {
+        RunAnswer::Completed {
+            place,
+            done,
+            counters,
+        } => RunNumbers {
+            number: 0,
+            place,
+            done,
+            counters,
+        },
+        RunAnswer::Refused {
+            number,
+            place,
+            done,
+            counters,
+        } => RunNumbers {
+            number,
+            place,
+            done,
+            counters,
+        },
+    }
 }
 
 // Runs a schedule. A refused entry ends the run and is not counted.

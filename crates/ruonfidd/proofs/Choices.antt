@@ -10,14 +10,14 @@ use Rattle.schedule.specs.declared.Entry.{Entry}
 use Rattle.schedule.specs.declared.Entry.the-variants as entry
 use Rattle.schedule.specs.Entries.{entryOf}
 use Rattle.runs.specs.declared.RunAnswer.{RunAnswer}
+use Rattle.runs.specs.declared.RunNumbers.{RunNumbers}
 use Rattle.runs.specs.Answers.{runCallOf}
+use Rattle.runs.specs.Numbers.{callOf, NumbersAre}
 use Rattle.engine.specs.declared.steps.StepAnswer.{StepAnswer}
 use Rattle.engine.specs.declared.steps.StepAnswer.the-variants as step
 use Rattle.engine.specs.declared.suggests.SuggestAnswer.{SuggestAnswer}
 use Rattle.engine.specs.declared.suggests.SuggestAnswer.the-variants as suggest
 use Rattle.engine.specs.Answers.{buffersOf, stepCallOf, suggestAnswerOf}
-use Rattle.sections.specs.declared.totals.RunTotals.{RunTotals}
-use Rattle.sections.specs.Totals.{callOf, TotalsAre}
 use Rattle.ruonfidd.specs.Answered.{tallyWords, countersIn, buffersIn, RunAnswered, StepAnswered, choiceWords, SuggestionAnswered}
 
 -- ---- a choice
@@ -31,8 +31,8 @@ inside-words e p k h = rw h refl
 -- ---- a run
 
 module _ (table hall choices tally : List ℕ) (c : Counters) (l : countersOf c ≡ countersIn tally) (a : RunAnswer)
-    (hall′ : List ℕ) (e : runCallOf a hall′ ≡ runCall table (buffersOf hall c) choices) (o : RunTotals)
-    (same : TotalsAre a o) where
+    (hall′ : List ℕ) (e : runCallOf a hall′ ≡ runCall table (buffersOf hall c) choices) (o : RunNumbers)
+    (same : NumbersAre a o) where
   called : callOf o hall′ ≡ runCall table (buffersIn hall tally) choices
   called = same .same hall′ ∙ rw l at e
 

@@ -11,10 +11,10 @@ use engine::OpenAnswer;
 use engine::StepAnswer;
 use engine::SuggestAnswer;
 use report::OUTPUT;
+use runs::numbers_of;
 use schedule::Entry;
 use schedule::KIND_ACT;
 use schedule::KIND_INSIDE;
-use sections::totals_of;
 use table::TableVerdict;
 ghost use mathlib.Core.Path.{_≡_};
 ghost use mathlib.Core.List.{[], _∷_};
@@ -117,12 +117,12 @@ pub extern "C" fn ruonfidd_run(
         (runCall (now (table .entry)) (buffersIn (now (hall .entry)) (now (tally .entry))) (now (choices .entry)))
         r (now (place .exit)) (now (done .exit)) (now (hall .exit)) (now (tally .exit)) ⌝ }
 {
-    let totals = totals_of(engine::run(table, hall, choices, counters_in(tally)));
-    let counters = totals.counters;
-    *place = totals.place;
-    *done = totals.done;
+    let numbers = numbers_of(engine::run(table, hall, choices, counters_in(tally)));
+    let counters = numbers.counters;
+    *place = numbers.place;
+    *done = numbers.done;
     *tally = tally_of(counters);
-    totals.number
+    numbers.number
 }
 
 // Makes one choice: 0, with the rule by which it moved and the choice's length as the place; or the number of the

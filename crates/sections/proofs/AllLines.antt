@@ -10,8 +10,8 @@ use Rattle.semantics.specs.Definitions.Run as run
 use Rattle.semantics.specs.Definitions.Report.{runLine, countersLine, channelLines, componentLine, lines}
 use Rattle.stored.specs.Layout.{channels}
 use Rattle.counters.specs.Counted.{countersOf}
+use Rattle.runs.specs.declared.RunNumbers.{RunNumbers}
 use Rattle.index.proofs.Holding.{hall-length, counts-here}
-use Rattle.sections.specs.declared.totals.RunTotals.{RunTotals}
 use Rattle.sections.specs.Limits.{runMost, countersMost, channelsMost, componentsMost, linesMost}
 use Rattle.sections.specs.Printed.{Printed, ComponentsHeld, ComponentsPrinted}
 use Rattle.sections.specs.Totals.{answerOf, LinesPrinted}
@@ -35,7 +35,7 @@ lines-are f a c e =
     let y = flatten (map componentLine (a .configuration .components)) in
     ap (λ x. v ++ (w ++ (x ++ y))) e ∙ sym (regrouped v w c y)
 
-module _ (s starts : List ℕ) (n : ℕ) (first : List ℕ) (o : RunTotals) (out₀ out₁ out₂ out₃ out₄ : List ℕ)
+module _ (s starts : List ℕ) (n : ℕ) (first : List ℕ) (o : RunNumbers) (out₀ out₁ out₂ out₃ out₄ : List ℕ)
     (i₁ i₂ i₃ i₄ : ℕ) where
   pub lines-printed : linesMost ≤ length out₀ →
       Printed runMost out₀ 0 (runLine (o .number) (o .place) (o .done)) out₁ i₁ →

@@ -20,7 +20,7 @@ use Rattle.stored.specs.declared.Walk.{Walk}
 use Rattle.stored.specs.Layout.{maxNodes, outputKind, waitingKind, transactionKind, componentBody, transactionHead, forkKind, leafKind, forkSize}
 use Rattle.stored.specs.Nodes.{passed, nodeSize, pendingBehind}
 use Rattle.storedlaws.proofs.Cursors.{over, first-byte}
-use Rattle.storedlaws.proofs.Nodes.{few-nodes, leaf-bytes}
+use Rattle.storedlaws.proofs.Nodes.{few-nodes, leaf-bytes, past-fork}
 use Rattle.index.specs.Holds.{Holds}
 use Rattle.index.proofs.Holding.{hall-length, few-components, component-at, component-ok, component-ends, component-inside, component-here, kind-here, body-here, output-here, waiting-here, transaction-here, snapshot-sixteen, Waiting, takes, repeats, blocks}
 use Rattle.decimals.specs.Wrote.{Wrote}
@@ -32,11 +32,6 @@ use Rattle.sections.proofs.Texts.{printed-none, printed-length, printed
 use Rattle.sections.proofs.NumberLines.{line-one, line-two, one-length, two-length, byte-short}
 
 -- ---- the walk over all nodes of a tree
-
-past-fork : (s : List ℕ) (k p at : ℕ) → getD s at 0 ≡ forkKind →
-    passed s (suc k) (suc p) at ≡ passed s k (suc (suc p)) (at + forkSize)
-unfolding passed nodeSize pendingBehind
-past-fork s k p at e = let z : suc p + 1 ≡ suc (suc p) = omega arith in rw (e, z)
 
 past-tree : (ts : List Term) (t : Tree) (s : List ℕ) (at p k : ℕ) (rest : List ℕ) → TreeOk ts t →
     drop at s ≡ treeBytes t ++ rest → passed s (nodes t + k) (suc p) at ≡ passed s k p (at + length (treeBytes t))
@@ -137,14 +132,9 @@ two-short letter n k l m =
     let d = decimal-short 1 k (omega arith) in omega arith
 
 module _ (s starts : List ℕ) (n p : ℕ) (st : ComponentsHeld s starts n) (there : p < n) where
-  pub body-fits : Fits w64 (getD starts p 0 + componentBody)
-  body-fits =
-      let c = component-at (st .holds) p there in
-      let i = component-inside (st .holds) p (c .0) (c .1) .0 in
-      let l = hall-length (st .holds) in record { fits = omega arith }
-
-  pub tree-fits : Fits w64 (getD starts p 0 + transactionHead)
-  tree-fits =
+  -- an offset not far behind its start
+  pub offset-fits : (k : ℕ) → k ≤ transactionHead → Fits w64 (getD starts p 0 + k)
+  offset-fits k few =
       let c = component-at (st .holds) p there in
       let i = component-inside (st .holds) p (c .0) (c .1) .0 in
       let l = hall-length (st .holds) in record { fits = omega arith }

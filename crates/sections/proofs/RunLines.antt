@@ -2,7 +2,7 @@
 -- Assumes nothing.
 use Prim.Native.Nat.{ℕ, _+_, _≤_}
 use native.Mathlib.Omega.{arith}
-use mathlib.Core.Path.{_≡_, refl}
+use mathlib.Core.Path.{_≡_}
 use mathlib.Core.List.{List, [], _∷_}
 use lib.ListN.{length}
 use mir.Syntax.{w8, w64}
@@ -11,25 +11,13 @@ use Rattle.semantics.specs.Definitions.Layout.{counterTop}
 use Rattle.semantics.specs.Definitions.Report.{runLine, countersLine}
 use Rattle.counters.specs.declared.Counters.{Counters}
 use Rattle.counters.specs.Counted.{countersOf}
-use Rattle.runs.specs.declared.RunAnswer.{RunAnswer}
-use Rattle.runs.specs.declared.RunAnswer.the-variants.{Completed, Refused}
 use Rattle.decimals.specs.Wrote.{Wrote}
 use Rattle.decimals.proofs.Digits.{decimal-short}
 use Rattle.lines.specs.Lines.{numberLine}
 use Rattle.sections.specs.Limits.{runMost, countersMost}
 use Rattle.sections.specs.Printed.{Printed}
-use Rattle.sections.specs.Totals.{TotalsAre, CounterIs}
+use Rattle.sections.specs.Totals.{CounterIs}
 use Rattle.sections.proofs.NumberLines.{line-three, three-length, byte-short}
-
--- ---- the answer as numbers
-
-module _ (a : RunAnswer) (p d : ℕ) (c : Counters) where
-  pub numbers-completed : a ≡ Completed p d c → TotalsAre a (record { number = 0; place = p; done = d; counters = c })
-  numbers-completed e = record { same = λ hall. rw e refl }
-
-  pub numbers-refused : (n : ℕ) → a ≡ Refused n p d c →
-      TotalsAre a (record { number = n; place = p; done = d; counters = c })
-  numbers-refused n e = record { same = λ hall. rw e refl }
 
 -- ---- the line of the run
 

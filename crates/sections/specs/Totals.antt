@@ -11,30 +11,18 @@ use Rattle.semantics.specs.Definitions.Layout.{counterTop}
 use Rattle.semantics.specs.Definitions.Terms.{Term}
 use Rattle.semantics.specs.Definitions.Configuration.{Configuration}
 use Rattle.semantics.specs.Definitions.Run as run
-use Rattle.semantics.specs.Definitions.Calls.{RunCall}
 use Rattle.semantics.specs.Definitions.Report.{lines}
 use Rattle.stored.specs.Layout.{channels}
 use Rattle.counters.specs.Counted.{countersOf}
-use Rattle.runs.specs.declared.RunAnswer.{RunAnswer}
-use Rattle.runs.specs.Answers.{runCallOf}
+use Rattle.runs.specs.declared.RunNumbers.{RunNumbers}
 use Rattle.index.specs.Holds.{Holds}
-use Rattle.sections.specs.declared.totals.RunTotals.{RunTotals}
 use Rattle.sections.specs.Limits.{linesMost}
 use Rattle.sections.specs.Printed.{Printed}
 
 -- ---- what a run answers, as numbers
 
--- with the bytes of a hall afterwards, and with the configuration there
-abbrev pub callOf : RunTotals → List ℕ → RunCall
-callOf o hall =
-    record {
-      number = o .number;
-      place = o .place;
-      done = o .done;
-      buffers = record { hall = hall; counters = countersOf (o .counters) };
-    }
-
-abbrev pub answerOf : RunTotals → Configuration → run.RunAnswer
+-- with the configuration afterwards
+abbrev pub answerOf : RunNumbers → Configuration → run.RunAnswer
 answerOf o h =
     record {
       number = o .number;
@@ -44,10 +32,6 @@ answerOf o h =
       counters = countersOf (o .counters);
     }
 
--- both cases of the code's answer, told apart by the number
-pub record TotalsAre (a : RunAnswer) (o : RunTotals) : Type 0 where
-  pub same : (hall : List ℕ) → callOf o hall ≡ runCallOf a hall
-
 -- a counter, in a wider number
 pub record CounterIs (n r : ℕ) : Type 0 where
   pub same : r ≡ n
@@ -56,7 +40,7 @@ pub record CounterIs (n r : ℕ) : Type 0 where
 -- ---- the lines of a run
 
 -- behind whichever first configuration has these counts, whichever configuration is held
-pub record LinesPrinted (s starts : List ℕ) (n : ℕ) (first : List ℕ) (o : RunTotals) (before after : List ℕ) (to : ℕ) :
+pub record LinesPrinted (s starts : List ℕ) (n : ℕ) (first : List ℕ) (o : RunNumbers) (before after : List ℕ) (to : ℕ) :
     Type 0 where
   pub found : (ts : List Term) (f l : Configuration) → f .counts ≡ take channels first → Holds ts l s starts n →
       Printed linesMost before 0 (lines f (answerOf o l)) after to

@@ -7,11 +7,10 @@ mod totals;
 use channels::channel_lines;
 pub use channels::counts_of;
 use components::component_lines;
+use runs::RunNumbers;
 use stored::INDEX_SIZE;
-pub use totals::RunTotals;
 use totals::counters_line;
 pub use totals::run_line;
-pub use totals::totals_of;
 ghost use Prim.Native.Nat.{_≤_};
 ghost use lib.ListN.{length};
 ghost use Rattle.semantics.specs.Definitions.Layout.{channels as Layout·channels};
@@ -25,17 +24,17 @@ pub fn print_lines(
     starts: &[usize; INDEX_SIZE],
     components: usize,
     first: &[u8],
-    totals: RunTotals,
+    numbers: RunNumbers,
     out: &mut [u8],
 ) -> usize
     requires { ⌜ ComponentsHeld (now hall) (now starts) components × (Layout·channels ≤ length (now first))
         × (linesMost ≤ length (now out)) ⌝ }
-    ensures { λ r. ⌜ LinesPrinted (now (hall .entry)) (now (starts .entry)) components (now (first .entry)) totals
+    ensures { λ r. ⌜ LinesPrinted (now (hall .entry)) (now (starts .entry)) components (now (first .entry)) numbers
         (now (out .entry)) (now (out .exit)) r ⌝ }
 {
-    let counters = totals.counters;
-    let answered = run_line(out, totals.number, totals.place, totals.done);
-    let counted = counters_line(out, answered, counters);
-    let netted = channel_lines(out, counted, first, hall);
-    component_lines(hall, starts, components, out, netted)
+    let counters = numbers.counters;
+    let behind_run = run_line(out, numbers.number, numbers.place, numbers.done);
+    let behind_counters = counters_line(out, behind_run, counters);
+    let behind_channels = channel_lines(out, behind_counters, first, hall);
+    component_lines(hall, starts, components, out, behind_channels)
 }

@@ -1,53 +1,16 @@
-// What a run answers, as numbers, and the lines of these numbers.
+// The lines of a run's numbers and of its counters.
 use buffer::wide;
 use counters::Counters;
 use lines::LETTER_COUNTERS;
 use lines::LETTER_RUN;
 use lines::write_line;
-use runs::RunAnswer;
 ghost use Prim.Native.Nat.{_+_, _≤_};
 ghost use lib.ListN.{length};
 ghost use Rattle.semantics.specs.Definitions.Report.{runLine, countersLine};
 ghost use Rattle.counters.specs.Counted.{countersOf};
 ghost use Rattle.sections.specs.Limits.{runMost, countersMost};
 ghost use Rattle.sections.specs.Printed.{Printed};
-ghost use Rattle.sections.specs.Totals.{TotalsAre, CounterIs};
-
-// Number 0 stands for a run that was completed.
-pub struct RunTotals {
-    pub number: u8,
-    pub place: usize,
-    pub done: usize,
-    pub counters: Counters,
-}
-
-pub fn totals_of(answer: RunAnswer) -> RunTotals
-    ensures { λ r. ⌜ TotalsAre answer r ⌝ }
-{
-    match answer {
-        RunAnswer::Completed {
-            place,
-            done,
-            counters,
-        } => RunTotals {
-            number: 0,
-            place,
-            done,
-            counters,
-        },
-        RunAnswer::Refused {
-            number,
-            place,
-            done,
-            counters,
-        } => RunTotals {
-            number,
-            place,
-            done,
-            counters,
-        },
-    }
-}
+ghost use Rattle.sections.specs.Totals.{CounterIs};
 
 // The first line.
 pub fn run_line(out: &mut [u8], number: u8, place: usize, done: usize) -> usize

@@ -81,7 +81,7 @@ past-leaf : (s : List ℕ) (k p at : ℕ) → getD s at 0 ≡ leafKind → passe
 unfolding passed nodeSize pendingBehind
 past-leaf s k p at e = let z : suc p - 1 ≡ p = omega arith in rw (e, z)
 
-past-fork : (s : List ℕ) (k p at : ℕ) → getD s at 0 ≡ forkKind → passed s (suc k) (suc p) at ≡ passed s k (suc (suc p)) (at + forkSize)
+pub past-fork : (s : List ℕ) (k p at : ℕ) → getD s at 0 ≡ forkKind → passed s (suc k) (suc p) at ≡ passed s k (suc (suc p)) (at + forkSize)
 unfolding passed nodeSize pendingBehind
 past-fork s k p at e = let z : suc p + 1 ≡ suc (suc p) = omega arith in rw (e, z)
 

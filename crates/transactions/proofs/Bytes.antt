@@ -6,11 +6,9 @@ use mathlib.Core.Path.{_≡_, refl, sym, ap, _∙_}
 use mathlib.Core.List.{List, [], _∷_, _++_, append-nil}
 use lib.ListN.{length, take, drop, set, replicate, length-append, length-drop, length-set}
 use lib.Seq.{length-take-le, take-all, take-at, drop-at, set-append-left}
-use mir.Syntax.{w8}
-use mir.Val.{Fits}
 use Rattle.buffer.specs.Splice.{written}
 use Rattle.terms.specs.Decoded.{firstAt, secondAt}
-use Rattle.stored.specs.Layout.{leafSize, leafTerm, leafLogLength, leafLog, forkKind, forkSize, writeOffset}
+use Rattle.stored.specs.Layout.{leafSize, leafTerm, leafLogLength, leafLog, forkKind, forkSize}
 use Rattle.index.specs.Holds.{CanAlter, Altered}
 use Rattle.transactions.specs.Bytes.{termAt, sizeAt, logged, forkBytes, leftSize}
 

@@ -1,13 +1,12 @@
 -- Finding a move inside a transaction: whether a read is readable, and the rule for each redex.
 -- Assumes nothing.
-use Prim.Native.Nat.{ℕ, _+_, _≤_, _<_}
+use Prim.Native.Nat.{ℕ, _+_, _<_}
 use native.Mathlib.Omega.{arith}
 use mathlib.Core.Path.{_≡_, refl, sym, _∙_}
 use mathlib.Core.Bool.{Bool, true, false}
 use mathlib.Core.List.{List, [], _∷_, _++_}
 use lib.ListN.{take, drop}
 use Rattle.semantics.specs.Definitions.Terms.{rdT}
-use Rattle.semantics.specs.Definitions.Configuration.{leaf}
 use Rattle.semantics.specs.Definitions.Moves.{reads, atLeaf, atFork, inner}
 use Rattle.terms.specs.Decoded.{channels}
 use Rattle.rules.specs.declared.Reply.{Reply}

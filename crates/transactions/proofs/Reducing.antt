@@ -118,11 +118,8 @@ module _ (d s : List ℕ) (at k : ℕ) (kind : ExpressionKindRead d (termAt s at
       go (wtT n a N) f h = h .0
       go (orElseT n N N′) f h = h .0
 
-  pub read-term : (w : ℕ) → NodePresent d s at → w ≡ termAt s at → k ≡ kindByte rdK → w < maxTerms
-  read-term w x q e = rw q (has-record x (λ z. omega arith) (λ z. omega arith))
-
-  pub write-term : (w : ℕ) → NodePresent d s at → w ≡ termAt s at → k ≡ kindByte wtK → w < maxTerms
-  write-term w x q e = rw q (has-record x (λ z. omega arith) (λ z. omega arith))
+  pub action-term : (w K : ℕ) → NodePresent d s at → w ≡ termAt s at → k ≡ K → kindByte retryK < K → w < maxTerms
+  action-term w K x q e above = rw q (has-record x (λ z. omega arith) (λ z. omega arith))
 
 -- ---- the redex of a fork, by the kind of its left side
 

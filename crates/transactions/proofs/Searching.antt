@@ -27,7 +27,7 @@ use Rattle.logs.specs.Places.{CountsAt}
 use Rattle.logs.proofs.Places.{counts-held, snapshot-counts}
 use Rattle.leaves.specs.Leaves.{TransactionAt}
 use Rattle.leaves.proofs.Leaves.{node-at, node-inside, Opened, opened}
-use Rattle.transactions.specs.Finding.{innerReply, HeldAt, NodeHeld, RuleRead, Findable, Searched}
+use Rattle.transactions.specs.Finding.{innerReply, HeldAt, NodeHeld, RuleRead}
 use Rattle.transactions.specs.Moving.{MoveAt}
 
 -- ---- the reply
@@ -105,7 +105,22 @@ module _ {ts : List Term} {h : Configuration} {d s starts : List ℕ} {n p at : 
       let o = there in
       node-nowhere (x .holds) p (o .number) (o .block) (o .snapshot) (o .nodes) (o .there) k (rw (x .begins) at f)
 
--- ---- what the code asks
+-- ---- an entry whose node is there
+
+-- some transaction begins at this offset
+pub record Findable (d s : List ℕ) (transaction : ℕ) : Type 0 where
+  pub terms : List Term
+  pub configuration : Configuration
+  pub starts : List ℕ
+  pub components : ℕ
+  pub position : ℕ
+  pub there : TransactionAt terms configuration d s starts components position transaction
+
+-- r is what the entry for this node is answered, whichever configuration is held
+pub record Searched (d s : List ℕ) (transaction k : ℕ) (r : Reply) : Type 0 where
+  pub found : (ts : List Term) (h : Configuration) (starts : List ℕ) (n p : ℕ) →
+      TransactionAt ts h d s starts n p transaction →
+      replyIs r ≡ replyOf (answerTo h (inside p k))
 
 module _ (d s : List ℕ) (transaction : ℕ) (x : Findable d s transaction) where
   pub findable-inside : transaction + transactionHead ≤ length s
@@ -123,7 +138,20 @@ module _ (d s : List ℕ) (transaction : ℕ) (x : Findable d s transaction) whe
         inside = node-inside d s at (record { terms = x .terms; tree = u; there = z .tree });
       }
 
--- ---- what it answers
+module _ (d s : List ℕ) (transaction k : ℕ) (r : Place)
+    (found : r ≡ nodeStart s (transaction + transactionHead) k) where
+  -- what was read at the node
+  pub search-read : {at : ℕ} {a : Reply} → r ≡ At at → RuleRead d s (transaction + idleSize) at a →
+      Searched d s transaction k a
+  search-read {at} g read = record {
+    found = λ ts h starts n p x.
+        let o = opened x in
+        let (y, u, w, z) = found-node x k at (sym found ∙ g) in
+        read .found ts u (o .snapshot) z
+        ∙ sym (reply-node (x .holds) p (o .number) (o .block) (o .snapshot) (o .nodes) (o .there) k y u (w .there));
+  }
+
+-- ---- one whose node is not
 
 module _ (d s : List ℕ) (transaction k : ℕ) (r : Place)
     (found : r ≡ nodeStart s (transaction + transactionHead) k) where
@@ -134,17 +162,6 @@ module _ (d s : List ℕ) (transaction k : ℕ) (r : Place)
         let o = opened x in
         let (j, f) = missing-node x k (sym found ∙ g) in
         sym (reply-past (x .holds) p (o .number) (o .block) (o .snapshot) (o .nodes) (o .there) k j f);
-  }
-
-  -- what was read at the node
-  pub search-read : {at : ℕ} {a : Reply} → r ≡ At at → RuleRead d s (transaction + idleSize) at a →
-      Searched d s transaction k a
-  search-read {at} g read = record {
-    found = λ ts h starts n p x.
-        let o = opened x in
-        let (y, u, w, z) = found-node x k at (sym found ∙ g) in
-        read .found ts u (o .snapshot) z
-        ∙ sym (reply-node (x .holds) p (o .number) (o .block) (o .snapshot) (o .nodes) (o .there) k y u (w .there));
   }
 
 -- ---- what was found can be made

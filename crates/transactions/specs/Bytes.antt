@@ -3,9 +3,8 @@
 use Prim.Native.Nat.{ℕ, _+_, _≤_, _<_}
 use mathlib.Core.List.{List, _∷_, _++_}
 use lib.ListN.{length, getD, take, drop, set}
-pub use Rattle.terms.specs.Decoded.{maxTerms}
-use Rattle.terms.specs.Decoded.{firstAt, secondAt}
-use Rattle.stored.specs.Layout.{channels, forkKind, forkSize, leafSize, leafTerm, leafLogLength, leafLog, logSize}
+use Rattle.terms.specs.Decoded.{maxTerms, firstAt, secondAt}
+use Rattle.stored.specs.Layout.{forkKind, forkSize, leafSize, leafTerm, leafLogLength, leafLog, logSize}
 
 -- a leaf's term, and how many actions its log has
 abbrev pub termAt : List ℕ → ℕ → ℕ

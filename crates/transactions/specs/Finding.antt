@@ -10,13 +10,13 @@ use lib.ListN.{length}
 use Rattle.calculus.specs.Syntax.{rd, Log, State}
 use Rattle.semantics.specs.Definitions.Terms.{Expression, endT, retryT, rdT, wtT, orElseT, Term}
 use Rattle.semantics.specs.Definitions.Logs.{readable}
-use Rattle.semantics.specs.Definitions.Configuration.{Tree, leaf, fork, Configuration}
-use Rattle.semantics.specs.Definitions.Moves.{Inner, evolves, noRule, outOfRange, reads, inner, inside, answerTo, ruleNumber, Reply, movedBy, refusedBy, replyOf}
+use Rattle.semantics.specs.Definitions.Configuration.{Tree, leaf, fork}
+use Rattle.semantics.specs.Definitions.Moves.{Inner, evolves, noRule, outOfRange, reads, inner, ruleNumber, Reply, movedBy, refusedBy}
 use Rattle.rules.specs.declared.Reply as code
 use Rattle.rules.specs.Replies.{replyIs}
 use Rattle.stored.specs.Layout.{channels, leafSize, leafLog, logSize}
 use Rattle.logs.specs.Places.{LogAt, CountsAt}
-use Rattle.leaves.specs.Leaves.{TreeAt, TransactionAt}
+use Rattle.leaves.specs.Leaves.{TreeAt}
 use Rattle.transactions.specs.declared.redexes.Redex.{Redex}
 use Rattle.transactions.specs.declared.redexes.Redex.the-variants.{Read, Write, OrElse, LeftEnds, LeftRetries, Nothing}
 use Rattle.transactions.specs.Bytes.{sizeAt}
@@ -95,20 +95,3 @@ pub record NodeHeld (d s : List ℕ) (snapshot at : ℕ) : Type 0 where
 pub record RuleRead (d s : List ℕ) (snapshot at : ℕ) (r : code.Reply) : Type 0 where
   pub found : (ts : List Term) (u : Tree) (σ : State) → HeldAt ts u σ d s snapshot at →
       replyIs r ≡ innerReply (inner σ u 0)
-
--- ---- a transaction
-
--- some transaction begins at this offset
-pub record Findable (d s : List ℕ) (transaction : ℕ) : Type 0 where
-  pub terms : List Term
-  pub configuration : Configuration
-  pub starts : List ℕ
-  pub components : ℕ
-  pub position : ℕ
-  pub there : TransactionAt terms configuration d s starts components position transaction
-
--- r is what the entry for this node is answered, whichever configuration is held
-pub record Searched (d s : List ℕ) (transaction k : ℕ) (r : code.Reply) : Type 0 where
-  pub found : (ts : List Term) (h : Configuration) (starts : List ℕ) (n p : ℕ) →
-      TransactionAt ts h d s starts n p transaction →
-      replyIs r ≡ replyOf (answerTo h (inside p k))

@@ -18,7 +18,7 @@ ghost use Rattle.transactions.specs.Moving.{ReadMade};
 
 // Whether the log of the leaf at an offset, with one more read, of a channel, is readable at the counts that stand at
 // `snapshot`.
-pub fn is_readable(hall: &[u8], snapshot: usize, at: usize, channel: u8) -> bool
+fn is_readable(hall: &[u8], snapshot: usize, at: usize, channel: u8) -> bool
     requires { ⌜ ReadHeld (now hall) snapshot at × (channel < channels) ⌝ }
     ensures { λ r. ⌜ ReadTested (now (hall .entry)) snapshot at channel r ⌝ }
 {

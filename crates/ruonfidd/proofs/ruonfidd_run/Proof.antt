@@ -11,8 +11,8 @@ counters-in-requires c κs = search needs
 run-requires : tie.Need-run-requires
 run-requires c κs = search needs
 
-totals-of-requires : tie.Need-totals-of-requires
-totals-of-requires c κs = search needs
+numbers-of-requires : tie.Need-numbers-of-requires
+numbers-of-requires c κs = search needs
 
 tally-of-requires : tie.Need-tally-of-requires
 tally-of-requires c κs = search needs
@@ -29,7 +29,7 @@ ruonfidd-run-spec =
     (tie.spec
     counters-in-requires
     run-requires
-    totals-of-requires
+    numbers-of-requires
     tally-of-requires
     same-length
     returns)

@@ -18,8 +18,8 @@ counts-of-requires c κs = search needs
 run-requires : tie.Need-run-requires
 run-requires c κs = search needs
 
-totals-of-requires : tie.Need-totals-of-requires
-totals-of-requires c κs = search needs
+numbers-of-requires : tie.Need-numbers-of-requires
+numbers-of-requires c κs = search needs
 
 slice-aggregate-print-hall : tie.Need-slice-aggregate-print-hall
 slice-aggregate-print-hall c = search needs
@@ -50,7 +50,7 @@ returns c =
     let start = opened .before .before .before .before .before .before in
     opened-printed _ _ _ _ _ (opened .open-hall .ensures) _ _ _ _ (told .counters .given .1) _
     (counted .counts-of .ensures) _ _ (ran .run .ensures .0) (omega (arith, start .pre .0)) _
-    (numbers .totals-of .ensures) (printed .print-hall .ensures)
+    (numbers .numbers-of .ensures) (printed .print-hall .ensures)
 
 same-length-3 : tie.Need-same-length-3
 same-length-3 c = search needs
@@ -69,7 +69,7 @@ print-run-spec =
     enum-known-counters
     counts-of-requires
     run-requires
-    totals-of-requires
+    numbers-of-requires
     slice-aggregate-print-hall
     print-hall-requires
     enum-known-number

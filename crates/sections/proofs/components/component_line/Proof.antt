@@ -2,7 +2,7 @@
 -- Assumes nothing.
 use borrow.Author.Needs.{needs}
 use native.Mathlib.Nat.{sub-le}
-use Rattle.sections.proofs.ComponentLines.{body-fits, tree-fits, one-fits, output-printed, waiting-printed, walk-inside, left-few, two-fits, transaction-printed}
+use Rattle.sections.proofs.ComponentLines.{offset-fits, one-fits, output-printed, waiting-printed, walk-inside, left-few, two-fits, transaction-printed}
 use Rattle.sections.proofs.components.component_line.Statement.{statement}
 use Rattle.sections.proofs.components.component_line.Tie as tie
 
@@ -16,7 +16,7 @@ byte-at-requires : tie.Need-byte-at-requires
 byte-at-requires c κs = search needs
 
 add-byte-at : tie.Need-add-byte-at
-add-byte-at c = search body-fits
+add-byte-at c = search (offset-fits, needs)
 
 byte-at-requires-2 : tie.Need-byte-at-requires-2
 byte-at-requires-2 c κs = search needs
@@ -46,7 +46,7 @@ returns-2 : tie.Need-returns-2
 returns-2 c = search waiting-printed
 
 add-pass-nodes : tie.Need-add-pass-nodes
-add-pass-nodes c = search tree-fits
+add-pass-nodes c = search (offset-fits, needs)
 
 pass-nodes-requires : tie.Need-pass-nodes-requires
 pass-nodes-requires c κs = search walk-inside

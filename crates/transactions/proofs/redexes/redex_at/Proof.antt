@@ -1,7 +1,7 @@
 -- `redex_at` meets its contract. Assumes nothing.
 use native.Mathlib.Omega.{arith}
 use Rattle.leaves.proofs.Leaves.{node-inside, term-inside, leaf-names}
-use Rattle.transactions.proofs.Reducing.{left-present, left-ends, left-retries, fork-waits, read-term, write-term, read-redex, write-redex, or-else-redex, leaf-waits}
+use Rattle.transactions.proofs.Reducing.{left-present, left-ends, left-retries, fork-waits, action-term, read-redex, write-redex, or-else-redex, leaf-waits}
 use borrow.Author.Needs.{needs}
 use Rattle.transactions.proofs.redexes.redex_at.Statement.{statement}
 use Rattle.transactions.proofs.redexes.redex_at.Tie as tie
@@ -37,10 +37,10 @@ expression-kind-requires : tie.Need-expression-kind-requires
 expression-kind-requires c κs = search leaf-names
 
 first-of-requires : tie.Need-first-of-requires
-first-of-requires c κs = search read-term
+first-of-requires c κs = search (action-term, needs)
 
 first-of-requires-2 : tie.Need-first-of-requires-2
-first-of-requires-2 c κs = search write-term
+first-of-requires-2 c κs = search (action-term, needs)
 
 returns-4 : tie.Need-returns-4
 returns-4 c = search read-redex

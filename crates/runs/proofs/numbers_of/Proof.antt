@@ -1,9 +1,9 @@
 -- A run's answer as numbers meets its contract.
 -- Assumes nothing.
 use borrow.Author.Needs.{needs}
-use Rattle.sections.proofs.RunLines.{numbers-completed, numbers-refused}
-use Rattle.sections.proofs.totals.totals_of.Statement.{statement}
-use Rattle.sections.proofs.totals.totals_of.Tie as tie
+use Rattle.runs.proofs.Numbers.{numbers-completed, numbers-refused}
+use Rattle.runs.proofs.numbers_of.Statement.{statement}
+use Rattle.runs.proofs.numbers_of.Tie as tie
 
 enum-known-answer : tie.Need-enum-known-answer
 enum-known-answer c = search needs
@@ -17,5 +17,5 @@ returns c = search numbers-completed
 returns-2 : tie.Need-returns-2
 returns-2 c = search numbers-refused
 
-pub totals-of-spec : {M : Type 1} → statement M
-totals-of-spec = tie.close (tie.spec enum-known-answer enum-known-answer-2 returns returns-2)
+pub numbers-of-spec : {M : Type 1} → statement M
+numbers-of-spec = tie.close (tie.spec enum-known-answer enum-known-answer-2 returns returns-2)
