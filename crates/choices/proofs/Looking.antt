@@ -30,8 +30,8 @@ use Rattle.communication.specs.Tokens.{OutputHeld, OutputLooked, TakeHeld, Take
 use Rattle.leaves.specs.Leaves.{TransactionAt}
 use Rattle.blocks.proofs.Beginning.{block-begins}
 use Rattle.blocks.specs.Ends.{CanLookEnd, EndLooked}
-use Rattle.transactions.specs.Finding.{NodeHeld, RuleRead, Findable, Searched}
-use Rattle.transactions.proofs.Searching.{findable-inside, node-standing, search-missing, search-read}
+use Rattle.transactions.specs.Finding.{NodeHeld, RuleRead}
+use Rattle.transactions.proofs.Searching.{Findable, Searched, findable-inside, node-standing, search-missing, search-read}
 use Rattle.choices.proofs.Occupancy.{kind-inside}
 use Rattle.choices.specs.declared.occupants.Occupant.{Occupant}
 use Rattle.choices.specs.declared.occupants.Occupant.the-variants.{Nothing, Transaction, Output, Block, Take}
