@@ -1,3 +1,2 @@
-pub mod Occupancy
 pub mod Looking
 pub mod Making

@@ -1,1 +1,1 @@
-pub mod Occupants
+pub mod NodePlaces

@@ -13,7 +13,7 @@ use terms::DECODED;
 ghost use Rattle.semantics.specs.Definitions.Moves.{inside};
 ghost use Rattle.index.specs.Holds.{Running};
 ghost use Rattle.index.specs.Choices.{Looked, Chosen};
-ghost use Rattle.choices.specs.Occupants.{CanFind, NodeFound};
+ghost use Rattle.choices.specs.NodePlaces.{CanFind, NodeFound};
 
 // Where the node that an entry names begins; or the entry's refusal, where there is no such node.
 pub enum NodePlace {

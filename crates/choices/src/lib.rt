@@ -1,13 +1,10 @@
 // One entry of a schedule (document 01's choice) on a configuration (hall) that a run holds: looked at, or made.
 //
 // A look only reads and answers by which rule an entry would move; suggestions and steps look. What is made answers the
-// same. Both go by what stands at the position (`occupants`) and at the node, and by the same tests.
-mod acts;
+// same. Both go by what stands at the position (`acts`) or at the node (`inside`), and by the same tests.
 mod inside;
-mod occupants;
 
-use acts::act;
-pub use acts::look_act;
+use acts::Made;
 use inside::act_inside;
 pub use inside::look_inside;
 use rules::Reply;
@@ -17,12 +14,6 @@ use terms::DECODED;
 ghost use Rattle.index.specs.Holds.{Running};
 ghost use Rattle.index.specs.Choices.{Looked, Chosen};
 ghost use Rattle.schedule.specs.Entries.{entryOf};
-
-// What an entry was answered, and how many components (stations) there are now.
-pub struct Made {
-    pub reply: Reply,
-    pub components: usize,
-}
 
 // What an entry of either kind is answered. Nothing changes.
 pub fn look(
@@ -37,7 +28,7 @@ pub fn look(
         r ⌝ }
 {
     match entry {
-        Entry::Act { position } => look_act(decoded, hall, starts, components, position),
+        Entry::Act { position } => acts::look_act(decoded, hall, starts, components, position),
         Entry::Inside { position, node } => {
             look_inside(decoded, hall, starts, components, position, node)
         }
@@ -58,7 +49,7 @@ pub fn make(
         (r .reply) (now (hall .exit)) (now (starts .exit)) (r .components) ⌝ }
 {
     match entry {
-        Entry::Act { position } => act(decoded, hall, starts, components, position),
+        Entry::Act { position } => acts::act(decoded, hall, starts, components, position),
         Entry::Inside { position, node } => {
             let reply = act_inside(decoded, hall, starts, components, position, node);
             Made { reply, components }

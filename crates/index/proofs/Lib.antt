@@ -3,3 +3,4 @@ pub mod Holding
 pub mod Replacing
 pub mod InPlace
 pub mod Acting
+pub mod Choosing

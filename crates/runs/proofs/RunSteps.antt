@@ -29,7 +29,7 @@ use Rattle.schedule.specs.declared.Parsed.the-variants as parsed
 use Rattle.runs.specs.declared.RunAnswer.the-variants.{Completed, Refused}
 use Rattle.schedule.specs.declared.Entry as code-entry
 use Rattle.schedule.specs.Entries.{entryOf, EntryAt, Found}
-use Rattle.choices.proofs.Making.{chosen-running}
+use Rattle.index.proofs.Choosing.{chosen-running}
 use Rattle.runs.specs.Answers.{Ran}
 use Rattle.runs.proofs.Entries.{malformed-positive, refused-positive, made-moved, made-refused}
 

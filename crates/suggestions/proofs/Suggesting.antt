@@ -29,8 +29,9 @@ use Rattle.index.specs.Choices.{Looked}
 use Rattle.index.proofs.Holding.{component-ok}
 use Rattle.schedule.specs.declared.Entry.{Entry}
 use Rattle.schedule.specs.declared.Entry.the-variants as entry
-use Rattle.choices.proofs.Occupancy.{kind-inside, nothing-read}
-use Rattle.choices.proofs.Looking.{nothing-looked, inside-past, inside-idle}
+use Rattle.acts.proofs.Occupancy.{kind-inside, nothing-read}
+use Rattle.acts.proofs.Looking.{nothing-looked}
+use Rattle.choices.proofs.Looking.{inside-past, inside-idle}
 use Rattle.suggestions.specs.declared.Suggestion.{Suggestion}
 use Rattle.suggestions.specs.declared.Suggestion.the-variants.{Accepted, Still}
 use Rattle.suggestions.specs.Suggestions.{Always, QuiescentInside, QuiescentAt, Suggests, SuggestsInside, SuggestsAt}

@@ -1,7 +1,7 @@
 // A suggestion: the first entry that is accepted, at the lowest position, there kind 1 before kind 2, and of kind 2 at
 // the lowest node. The contracts promise one that is accepted, and leave free which.
+use acts::look_act;
 use buffer::wide;
-use choices::look_act;
 use choices::look_inside;
 use rules::Reply;
 use schedule::Entry;

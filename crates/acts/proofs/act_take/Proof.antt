@@ -1,9 +1,10 @@
 -- `act_take` meets its contract. Assumes nothing.
-use Rattle.choices.proofs.Looking.{take-held, take-looked}
-use Rattle.choices.proofs.Making.{chosen-refused, can-take, act-take}
+use Rattle.acts.proofs.Looking.{take-held, take-looked}
+use Rattle.index.proofs.Choosing.{chosen-refused}
+use Rattle.acts.proofs.Making.{can-take, act-take}
 use borrow.Author.Needs.{needs}
-use Rattle.choices.proofs.acts.act_take.Statement.{statement}
-use Rattle.choices.proofs.acts.act_take.Tie as tie
+use Rattle.acts.proofs.act_take.Statement.{statement}
+use Rattle.acts.proofs.act_take.Tie as tie
 
 look-take-requires : tie.Need-look-take-requires
 look-take-requires c κs = search take-held

@@ -1,8 +1,8 @@
 -- `look_act` meets its contract. Assumes nothing.
-use Rattle.choices.proofs.Looking.{nothing-looked, transaction-position, end-held, end-looked, output-held, output-looked, block-looked, take-held, take-looked}
+use Rattle.acts.proofs.Looking.{nothing-looked, transaction-position, end-held, end-looked, output-held, output-looked, block-looked, take-held, take-looked}
 use borrow.Author.Needs.{needs}
-use Rattle.choices.proofs.acts.look_act.Statement.{statement}
-use Rattle.choices.proofs.acts.look_act.Tie as tie
+use Rattle.acts.proofs.look_act.Statement.{statement}
+use Rattle.acts.proofs.look_act.Tie as tie
 
 wide-requires : tie.Need-wide-requires
 wide-requires c κs = search needs

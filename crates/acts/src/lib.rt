@@ -1,8 +1,11 @@
-// Entries of kind 1 (to act): rules 1 to 7, at a position.
-use crate::Made;
-use crate::occupants::Occupant;
-use crate::occupants::occupant_at;
+// Entries of kind 1 (to act): rules 1 to 7, at a position, looked at or made.
+//
+// Both go by what stands at the position (`occupants`), and by the same tests.
+mod occupants;
+
 use buffer::wide;
+use occupants::Occupant;
+use occupants::occupant_at;
 use rules::ATOK;
 use rules::ATST;
 use rules::NO_COMPONENT;
@@ -12,8 +15,14 @@ use terms::DECODED;
 ghost use Rattle.semantics.specs.Definitions.Moves.{act};
 ghost use Rattle.index.specs.Holds.{Running};
 ghost use Rattle.index.specs.Choices.{Looked, Chosen};
-ghost use Rattle.choices.specs.Occupants.{OccupantRead};
-ghost use Rattle.choices.specs.declared.occupants.Occupant.the-variants.{Transaction, Take};
+ghost use Rattle.acts.specs.Occupants.{OccupantRead};
+ghost use Rattle.acts.specs.declared.occupants.Occupant.the-variants.{Transaction, Take};
+
+// What an entry was answered, and how many components (stations) there are now.
+pub struct Made {
+    pub reply: Reply,
+    pub components: usize,
+}
 
 // What the entry is answered, by the occupant of its position. Nothing changes.
 pub fn look_act(

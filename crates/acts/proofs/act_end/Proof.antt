@@ -1,10 +1,11 @@
 -- `act_end` meets its contract. Assumes nothing.
 use mathlib.Core.Path.{refl}
-use Rattle.choices.proofs.Looking.{transaction-position, end-held, end-looked}
-use Rattle.choices.proofs.Making.{chosen-refused, can-commit, act-commit, can-restart, act-restart}
+use Rattle.acts.proofs.Looking.{transaction-position, end-held, end-looked}
+use Rattle.index.proofs.Choosing.{chosen-refused}
+use Rattle.acts.proofs.Making.{can-commit, act-commit, can-restart, act-restart}
 use borrow.Author.Needs.{needs}
-use Rattle.choices.proofs.acts.act_end.Statement.{statement}
-use Rattle.choices.proofs.acts.act_end.Tie as tie
+use Rattle.acts.proofs.act_end.Statement.{statement}
+use Rattle.acts.proofs.act_end.Tie as tie
 
 mul-begin : tie.Need-mul-begin
 mul-begin c = let l = transaction-position (c .before .pre .1) refl (c .before .pre .0) in search needs

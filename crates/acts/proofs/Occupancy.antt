@@ -24,8 +24,8 @@ use Rattle.stored.specs.Layout.{waitingKind, transactionKind, outputKind, compo
 use Rattle.index.specs.Holds.{Holds, Running}
 use Rattle.index.proofs.Holding.{hall-length, Waiting, takes, repeats, blocks, component-at, no-component, component-inside, kind-here, output-here, transaction-here, waiting-here}
 use Rattle.communication.specs.Tokens.{takeOf}
-use Rattle.choices.specs.declared.occupants.Occupant.the-variants.{Nothing, Transaction, Output, Block, Take}
-use Rattle.choices.specs.Occupants.{OccupantRead}
+use Rattle.acts.specs.declared.occupants.Occupant.the-variants.{Nothing, Transaction, Output, Block, Take}
+use Rattle.acts.specs.Occupants.{OccupantRead}
 
 -- ---- the bytes there
 

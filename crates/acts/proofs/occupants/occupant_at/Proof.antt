@@ -1,8 +1,8 @@
 -- `occupant_at` meets its contract. Assumes nothing.
-use Rattle.choices.proofs.Occupancy.{kind-inside, body-inside, body-fits, nothing-read, transaction-read, output-read, waiting-term, block-read, take-read}
+use Rattle.acts.proofs.Occupancy.{kind-inside, body-inside, body-fits, nothing-read, transaction-read, output-read, waiting-term, block-read, take-read}
 use borrow.Author.Needs.{needs}
-use Rattle.choices.proofs.occupants.occupant_at.Statement.{statement}
-use Rattle.choices.proofs.occupants.occupant_at.Tie as tie
+use Rattle.acts.proofs.occupants.occupant_at.Statement.{statement}
+use Rattle.acts.proofs.occupants.occupant_at.Tie as tie
 
 returns : tie.Need-returns
 returns c = search nothing-read

@@ -7,7 +7,7 @@ use stored::KIND_OUTPUT;
 use stored::KIND_TRANSACTION;
 use terms::DECODED;
 ghost use Rattle.index.specs.Holds.{Running};
-ghost use Rattle.choices.specs.Occupants.{OccupantRead};
+ghost use Rattle.acts.specs.Occupants.{OccupantRead};
 
 // What stands at a position, by what it does when it acts.
 pub enum Occupant {

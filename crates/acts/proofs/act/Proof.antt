@@ -1,9 +1,9 @@
 -- `act` meets its contract. Assumes nothing.
-use Rattle.choices.proofs.Looking.{occupant-is, output-held}
-use Rattle.choices.proofs.Making.{act-named, act-nothing, can-put, act-put, act-put-refused, can-begin, act-begin}
+use Rattle.acts.proofs.Looking.{occupant-is, output-held}
+use Rattle.acts.proofs.Making.{act-named, act-nothing, can-put, act-put, act-put-refused, can-begin, act-begin}
 use borrow.Author.Needs.{needs}
-use Rattle.choices.proofs.acts.act.Statement.{statement}
-use Rattle.choices.proofs.acts.act.Tie as tie
+use Rattle.acts.proofs.act.Statement.{statement}
+use Rattle.acts.proofs.act.Tie as tie
 
 wide-requires : tie.Need-wide-requires
 wide-requires c κs = search needs

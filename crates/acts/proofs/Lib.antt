@@ -1,0 +1,3 @@
+pub mod Occupancy
+pub mod Looking
+pub mod Making
