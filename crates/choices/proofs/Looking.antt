@@ -26,7 +26,10 @@ use Rattle.index.specs.Choices.{Looked}
 use Rattle.index.proofs.Acting.{held-position}
 use Rattle.index.proofs.Holding.{hall-length, component-at, no-component, kind-here}
 use Rattle.transactions.specs.Finding.{NodeHeld, RuleRead}
-use Rattle.transactions.proofs.Searching.{Findable, Searched, findable-inside, node-standing, search-missing, search-read}
+use Rattle.transactions.specs.Moving.{NodeStands}
+use Rattle.transactions.proofs.Searching.{Findable, Searched, findable-inside, search-missing, search-read}
+use Rattle.transactions.proofs.Making as transactions
+use Rattle.transactions.proofs.Making.{held}
 use Rattle.acts.proofs.Occupancy.{kind-inside}
 use Rattle.choices.specs.declared.inside.NodePlace.{NodePlace}
 use Rattle.choices.specs.declared.inside.NodePlace.the-variants as node
@@ -118,15 +121,23 @@ module _ {s starts : List ℕ} {n p k : ℕ} {r : NodePlace} (f : NodeFound s st
     node-position x = held-position (x .holds) p (node-there .there)
 
     module _ {d : List ℕ} where
-      pub node-held : Running d s starts n → NodeHeld d s (getD starts p 0 + idleSize) at
-      node-held x =
+      pub node-stands : Running d s starts n → NodeStands d s starts n p at
+      node-stands x =
           let g = node-there in
-          node-standing d s (getD starts p 0) (find-held (g .there) (g .kind) x) k at (At at) (sym (g .place)) refl
+          record {
+            terms = x .terms;
+            configuration = x .configuration;
+            node = k;
+            there = record { decoded = x .decoded; holds = x .holds; there = g .there; begins = refl; kind = g .kind };
+            place = g .place;
+          }
+
+      -- what a look at it asks
+      pub node-held : Running d s starts n → NodeHeld d s (getD starts p 0 + idleSize) at
+      node-held x = held d s starts n p at (node-stands x)
 
       pub snapshot-fits : Running d s starts n → Fits w64 (getD starts p 0 + idleSize)
-      snapshot-fits x =
-          let i = findable-inside d s (getD starts p 0) (find-held (node-there .there) (node-there .kind) x) in
-          let z = hall-length (x .holds) in record { fits = omega arith }
+      snapshot-fits x = transactions.snapshot-fits d s starts n p at (node-stands x)
 
       pub node-looked : {q : ℕ} {a : Reply} → RuleRead d s (getD starts p 0 + idleSize) at a → p ≡ q →
           Looked d s starts n (inside q k) a

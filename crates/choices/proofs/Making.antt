@@ -9,7 +9,7 @@ use Rattle.semantics.specs.Definitions.Moves.{act, inside}
 use Rattle.rules.specs.declared.Reply.{Reply}
 use Rattle.rules.specs.declared.Reply.the-variants.{Moved, Refused}
 use Rattle.index.specs.Holds.{Running}
-use Rattle.transactions.specs.Moving.{NodeStands, NodeMoved}
+use Rattle.transactions.specs.Moving.{NodeMoved}
 use Rattle.choices.specs.declared.inside.NodePlace.{NodePlace}
 use Rattle.choices.specs.declared.inside.NodePlace.the-variants as node
 use Rattle.choices.specs.NodePlaces.{NodeFound}
@@ -27,17 +27,6 @@ module _ {s starts : List ℕ} {n p k : ℕ} {r : NodePlace} (f : NodeFound s st
   node-refused is e = chosen-refused (refused-there f is e) refl
 
   module _ {at : ℕ} (is : r ≡ node.Found at) where
-    pub node-stands : Running d s starts n → NodeStands d s starts n p at
-    node-stands x =
-        let g = node-there f is in
-        record {
-          terms = x .terms;
-          configuration = x .configuration;
-          node = k;
-          there = record { decoded = x .decoded; holds = x .holds; there = g .there; begins = refl; kind = g .kind };
-          place = g .place;
-        }
-
     pub node-chosen : {a : Reply} {s′ starts′ : List ℕ} → NodeMoved d s starts n p at a s′ starts′ → {q : ℕ} → p ≡ q →
         Chosen d s starts n (inside q k) a s′ starts′ n
     node-chosen {a} {s′} {starts′} m e = rw (← e) (go a refl)

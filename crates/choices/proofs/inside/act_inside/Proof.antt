@@ -1,6 +1,6 @@
 -- `act_inside` meets its contract. Assumes nothing.
-use Rattle.choices.proofs.Looking.{can-find}
-use Rattle.choices.proofs.Making.{node-refused, node-stands, node-chosen}
+use Rattle.choices.proofs.Looking.{can-find, node-stands}
+use Rattle.choices.proofs.Making.{node-refused, node-chosen}
 use borrow.Author.Needs.{needs}
 use Rattle.choices.proofs.inside.act_inside.Statement.{statement}
 use Rattle.choices.proofs.inside.act_inside.Tie as tie
