@@ -18,3 +18,4 @@ pub mod SuggestionExamples
 pub mod StepExamples
 pub mod ConverseExamples
 pub mod DenotationExamples
+pub mod Sentences

@@ -1,4 +1,4 @@
--- What is claimed of those definitions: demand 2, demand 3, the accounts. Assumes nothing.
+-- What is claimed of those definitions: demand 2, demand 3, the accounts, the sentences. Assumes nothing.
 pub mod Suggestions
 pub mod Denotation
 pub mod Correspondence
@@ -7,3 +7,4 @@ pub mod ConverseRuns
 pub mod Atomicity
 pub mod InnerMoves
 pub mod Accounts
+pub mod Sentences

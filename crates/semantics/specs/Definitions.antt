@@ -12,3 +12,4 @@ pub mod Run
 pub mod AtomicRun
 pub mod Calls
 pub mod Report
+pub mod Sentence

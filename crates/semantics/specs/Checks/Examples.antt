@@ -19,7 +19,7 @@ use lib.ListN.{length, take, replicate}
 use lib.Dec.{eqb}
 use Rattle.calculus.specs.Syntax.{rd, wt, State}
 use Rattle.calculus.specs.Reduction.{Rule, OUT, IN, REP, ATST, ATRE, ATFAIL, ATOK, ARDOK, ARDF, AWR, AOI, AOF, AOE}
-use Rattle.semantics.specs.Definitions.Basics.{All}
+use Rattle.semantics.specs.Definitions.Basics.{All, ascii}
 use mathlib.Core.List.{flatten}
 use Rattle.semantics.specs.Definitions.Table.{TableAnswer, accepted, refusedAt, readTable}
 use Rattle.semantics.specs.Definitions.Configuration.{Idle, taking, repeating, block, output, Configuration}
@@ -156,12 +156,7 @@ observed e =
     let o = openHall (e .table) noise in
     ranOut e (record { hall = hallFor (e .stored) (o .hall); counters = e .first }) (o .answer)
 
--- ---- how a row is written: with nothing of the definitions but their types
-
--- the bytes of a text in ASCII
-unfoldable pub ascii : String → List ℕ
-ascii Text.[] = []
-ascii (Text._∷_ c s) = code c ∷ ascii s
+-- ---- how a row is written: with nothing of the definitions but their types and the bytes of a text
 
 -- the numbers that a text has in decimal, with one space between them
 unfoldable pub numbers : String → List ℕ
