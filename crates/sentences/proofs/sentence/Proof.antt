@@ -1,0 +1,22 @@
+-- TITLE
+-- Assumes nothing.
+use borrow.Author.Needs.{needs}
+use Rattle.sentences.proofs.sentence.Statement.{statement}
+use Rattle.sentences.proofs.sentence.Tie as tie
+
+returns : tie.Need-returns
+returns c = search needs
+
+write-sentence-requires : tie.Need-write-sentence-requires
+write-sentence-requires c κs = search needs
+
+same-length : tie.Need-same-length
+same-length c = search needs
+
+returns-2 : tie.Need-returns-2
+returns-2 c κs = search needs
+
+pub sentence-spec : {M : Type 1} → statement M
+sentence-spec =
+    tie.close
+    (tie.spec returns write-sentence-requires same-length returns-2)
