@@ -34,7 +34,8 @@ unfoldable pub wordsFor : List String → ℕ → List ℕ
 unfolding ascii
 wordsFor [] n = []
 wordsFor (w ∷ ws) zero = []
-wordsFor (w ∷ ws) (suc n) = cond (eqb n 0) (ascii ", " ++ ascii w) (wordsFor ws n)
+wordsFor (w ∷ ws) (suc zero) = ascii ", " ++ ascii w
+wordsFor (w ∷ ws) (suc (suc n)) = wordsFor ws (suc n)
 
 -- ---- the sentence
 
