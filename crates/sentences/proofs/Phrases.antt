@@ -13,6 +13,7 @@ use mir.Syntax.{w64}
 use mir.Val.{Fits}
 use Rattle.semantics.specs.Definitions.Basics.{ascii}
 use Rattle.semantics.specs.Definitions.Sentence.{ruleWords, refusalWords, wordsFor}
+use Rattle.theorems.proofs.Sentences.{words-past}
 use Rattle.sentences.specs.Words.{phrasesOf, phrases, entries, phrase, startsFrom, startOf}
 
 -- ---- any phrases
@@ -80,21 +81,29 @@ start-inside i l = rw all-long at (start-within 0 phrases i l)
 pub start-fits : (i : ℕ) → i ≤ entries → Fits w64 (startOf i)
 start-fits i l = record { fits = let m = start-inside i l in omega arith }
 
+-- what lies between the starts of an entry and of the next one, in all words
+module _ (words : List ℕ) (all : words ≡ flatten phrases) (i from end : ℕ) (l : i < entries) (a : from ≡ startOf i)
+    (b : end ≡ startOf (i + 1)) where
+  pub part-ordered : from ≤ end
+  part-ordered = let n = start-next i l in omega arith
+
+  pub part-inside : end ≤ length words
+  part-inside = let n = start-inside (i + 1) (omega arith) in let e = ap length all ∙ all-long in omega arith
+
+  pub part-is : take (end - from) (drop from words) ≡ phrase i
+  part-is =
+      let n = start-next i l in
+      let e : end - from ≡ length (phrase i) = omega arith in
+      rw (e, a, all) (phrase-cut i l)
+
 -- ---- the entry of a number
 
--- the words for a number are the phrase of its place in the list, and none behind the list's end
+-- the words for a number are the phrase at its place in the list
 words-at : (ws : List String) (n : ℕ) → wordsFor ws (suc n) ≡ getD (phrasesOf ws) n []
 unfolding wordsFor
 words-at [] n = refl
 words-at (w ∷ ws) zero = refl
 words-at (w ∷ ws) (suc n) = words-at ws n
-
-words-past : (ws : List String) (n : ℕ) → length ws < n → wordsFor ws n ≡ []
-unfolding wordsFor
-words-past [] n l = refl
-words-past (w ∷ ws) zero l = absurd (omega arith)
-words-past (w ∷ ws) (suc zero) l = absurd (omega arith)
-words-past (w ∷ ws) (suc (suc n)) l = words-past ws (suc n) (omega arith)
 
 -- a rule's entry is its number
 module _ (n : ℕ) where

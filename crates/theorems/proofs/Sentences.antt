@@ -1,4 +1,4 @@
--- The claims of specs/Claims/Sentences, and what specs/Checks/Sentences says of the call and of the room.
+-- The claims of specs/Claims/Sentences, and what specs/Checks/Sentences says of words, call and room.
 -- Assumes nothing.
 use Prim.Native.Nat.{ℕ, zero, suc, _≤_, _<_}
 use Prim.Native.String.{String}
@@ -14,11 +14,24 @@ use Rattle.semantics.specs.Definitions.Basics.{All, allOf, ascii}
 use Rattle.semantics.specs.Definitions.Moves.{Reply, movedBy, refusedBy}
 use Rattle.semantics.specs.Definitions.Report.{decimal}
 use Rattle.semantics.specs.Definitions.Sentence.{ruleWords, refusalWords, wordsFor, nodeNamed, replyNamed, sentence, told}
-use Rattle.semantics.specs.Claims.Sentences.{replyNumber, FromBytes, SentencesAreShort, SentencesArePrintable, Same, SentencesTellApart}
-use Rattle.semantics.specs.Checks.Sentences.{ShortBuffersRefused, Stands, SentenceStands, RoomIsLeft}
+use Rattle.semantics.specs.Claims.Sentences.{replyNumber, AllBytes, SentencesAreShort, SentencesArePrintable, SameChoiceAndReply, SentencesTellApart}
+use Rattle.semantics.specs.Checks.Sentences.{WordsEnd, ShortBuffersRefused, Stands, SentenceStands, RoomIsLeft}
 use Rattle.theorems.proofs.Lists.{all-append, all-weaken}
 use Rattle.theorems.proofs.Reading.{and-true}
 use Rattle.theorems.proofs.Decimals.{decimal-bytes, decimal-short, NoDigit, decimal-apart}
+
+-- ---- numbers without words
+
+pub words-past : (ws : List String) (n : ℕ) → length ws < n → wordsFor ws n ≡ []
+unfolding wordsFor
+words-past [] n l = refl
+words-past (w ∷ ws) zero l = absurd (omega arith)
+words-past (w ∷ ws) (suc zero) l = absurd (omega arith)
+words-past (w ∷ ws) (suc (suc n)) l = words-past ws (suc n) (omega arith)
+
+pub words-end-behind : WordsEnd
+unfolding WordsEnd
+words-end-behind n = (λ l. words-past ruleWords n l, λ l. words-past refusalWords n l)
 
 -- ---- the parts of a sentence
 
@@ -79,7 +92,7 @@ node-short k n l =
     let d = decimal-short 2 n (omega arith) in
     node-by-kind (λ f. length (f n) ≤ 10) k (λ one. omega arith) (λ other. simp length-append (omega arith))
 
-sentence-short : (k p n : ℕ) (a : Reply) → FromBytes k p n a → length (sentence k p n a) ≤ 73
+sentence-short : (k p n : ℕ) (a : Reply) → AllBytes k p n a → length (sentence k p n a) ≤ 73
 unfolding ascii
 sentence-short k p n a bytes =
     let x = decimal-short 2 k (omega arith) in
@@ -128,7 +141,7 @@ printable-reply a l = printable (replyNamed a) (every-reply isPrintable refl ref
 printable-text : (x : String) (s : List ℕ) → isPrintable (ascii x) ≡ true → Printable s → Printable (ascii x ++ s)
 printable-text x s e h = printable-append (ascii x) s (printable (ascii x) e) h
 
-sentence-printable : (k p n : ℕ) (a : Reply) → FromBytes k p n a → Printable (sentence k p n a)
+sentence-printable : (k p n : ℕ) (a : Reply) → AllBytes k p n a → Printable (sentence k p n a)
 unfolding ascii isPrintable
 sentence-printable k p n a bytes =
     let none = printable [] refl in
@@ -149,12 +162,8 @@ words-end : (ws : List String) (n : ℕ) → NoDigit (wordsFor ws n ++ ascii "."
 unfolding wordsFor
 words-end [] n = tt
 words-end (w ∷ ws) zero = tt
-words-end (w ∷ ws) (suc n) = go (eqb n 0) (words-end ws n)
-  where
-    go : (b : Bool) → NoDigit (wordsFor ws n ++ ascii ".") →
-        NoDigit (cond b (ascii ", " ++ ascii w) (wordsFor ws n) ++ ascii ".")
-    go true h = tt
-    go false h = h
+words-end (w ∷ ws) (suc zero) = tt
+words-end (w ∷ ws) (suc (suc n)) = words-end ws (suc n)
 
 reply-ends : (a : Reply) → NoDigit (replyNamed a ++ ascii ".")
 unfolding replyNamed
@@ -196,16 +205,16 @@ number-apart x ws a b l m e =
 reply-apart : (a b : Reply) → replyNumber a ≤ 255 → replyNumber b ≤ 255 →
     replyNamed a ++ ascii "." ≡ replyNamed b ++ ascii "." → a ≡ b
 unfolding replyNamed
-reply-apart (movedBy n) (movedBy m) l k e = ap movedBy (number-apart ": moved by rule " ruleWords n m l k e)
-reply-apart (refusedBy n) (refusedBy m) l k e = ap refusedBy (number-apart ": refused by " refusalWords n m l k e)
+reply-apart (movedBy n) (movedBy m) l k e = ap movedBy (number-apart " moved by rule " ruleWords n m l k e)
+reply-apart (refusedBy n) (refusedBy m) l k e = ap refusedBy (number-apart " met refusal " refusalWords n m l k e)
 reply-apart (movedBy n) (refusedBy m) l k e =
-    let z : _≡_ {A = ℕ} 109 114 = ap (λ s. getD s 2 0) e in absurd (omega arith)
+    let z : _≡_ {A = ℕ} 111 101 = ap (λ s. getD s 2 0) e in absurd (omega arith)
 reply-apart (refusedBy n) (movedBy m) l k e =
-    let z : _≡_ {A = ℕ} 114 109 = ap (λ s. getD s 2 0) e in absurd (omega arith)
+    let z : _≡_ {A = ℕ} 101 111 = ap (λ s. getD s 2 0) e in absurd (omega arith)
 
 module _ (k p n : ℕ) (a : Reply) (k′ p′ n′ : ℕ) (a′ : Reply) where
-  same-of-alike : FromBytes k p n a → FromBytes k′ p′ n′ a′ → sentence k p n a ≡ sentence k′ p′ n′ a′ →
-      Same k p n a k′ p′ n′ a′
+  same-of-alike : AllBytes k p n a → AllBytes k′ p′ n′ a′ → sentence k p n a ≡ sentence k′ p′ n′ a′ →
+      SameChoiceAndReply k p n a k′ p′ n′ a′
   unfolding ascii
   same-of-alike b b′ e =
       let r = replyNamed a ++ ascii "." in
@@ -225,7 +234,7 @@ module _ (k p n : ℕ) (a : Reply) (k′ p′ n′ : ℕ) (a′ : Reply) where
         reply = reply-apart a a′ (omega arith) (omega arith) (node .1);
       }
 
-  alike-of-same : Same k p n a k′ p′ n′ a′ → sentence k p n a ≡ sentence k′ p′ n′ a′
+  alike-of-same : SameChoiceAndReply k p n a k′ p′ n′ a′ → sentence k p n a ≡ sentence k′ p′ n′ a′
   alike-of-same s = let node = node-same k n n′ (s .node) in in-row k p n a ∙ (cc) ∙ sym (in-row k′ p′ n′ a′)
 
 pub sentences-tell-apart : SentencesTellApart

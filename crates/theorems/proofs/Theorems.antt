@@ -13,7 +13,7 @@ use Rattle.semantics.specs.Checks.Answers.{AnswersReported, AnswersDiffer, Zero
 use Rattle.semantics.specs.Checks.CallLists.{CallBytes, CallsInTurn, CallsCut}
 use Rattle.semantics.specs.Checks.Steps.{StepCallsAsStated, StepCallNumbers, NodeOfKind1, StepIsCall}
 use Rattle.semantics.specs.Claims.Sentences.{SentencesAreShort, SentencesArePrintable, SentencesTellApart}
-use Rattle.semantics.specs.Checks.Sentences.{ShortBuffersRefused, SentenceStands, RoomIsLeft, SentencesWorked, SentenceInBytes}
+use Rattle.semantics.specs.Checks.Sentences.{WordsEnd, ShortBuffersRefused, SentenceStands, RoomIsLeft, SentencesWorked, SentenceInBytes, CallsWorked}
 use mathlib.Core.Path.{refl, sym, ap, _∙_}
 use mathlib.Core.List.{map}
 use Rattle.semantics.specs.Definitions.Stored.{bytesOf, configurationOf}
@@ -303,6 +303,9 @@ sentences-are-printable = Saying.sentences-are-printable
 pub sentences-tell-apart : SentencesTellApart
 sentences-tell-apart = Saying.sentences-tell-apart
 
+pub words-end : WordsEnd
+words-end = Saying.words-end-behind
+
 pub short-buffers-refused : ShortBuffersRefused
 short-buffers-refused = Saying.short-buffers-refused
 
@@ -317,3 +320,6 @@ sentences-worked = WorkedSentences.sentences-worked
 
 pub sentence-in-bytes : SentenceInBytes
 sentence-in-bytes = WorkedSentences.sentence-in-bytes
+
+pub calls-worked : CallsWorked
+calls-worked = WorkedSentences.calls-worked
