@@ -2,6 +2,7 @@
 -- Assumes nothing.
 use Prim.Native.Nat.{ℕ, _+_, _≤_}
 use native.Mathlib.Omega.{arith}
+use mathlib.Core.Path.{_≡_, ap}
 use mathlib.Core.List.{List, [], _++_, append-assoc, append-nil}
 use lib.ListN.{length, length-append}
 use Rattle.decimals.specs.Wrote.{Wrote}
@@ -37,3 +38,35 @@ module _ (s : List ℕ) (at : ℕ) (v w s₁ : List ℕ) (i : ℕ) where
 
   pub both-written : at + length (v ++ w) ≤ length s → Wrote s at v s₁ i → (s₂ : List ℕ) (r : ℕ) → Wrote s₁ i w s₂ r → Wrote s at (v ++ w) s₂ r
   both-written room a s₂ r b = (piece-more s at v w [] s₁ i (record { room = rw append-nil room; wrote = a }) s₂ r b) .wrote
+
+-- ---- three pieces
+
+pub record Three (s : List ℕ) (at : ℕ) (whole a b c : List ℕ) : Type 0 where
+  pub parts : whole ≡ a ++ (b ++ c)
+  pub room : at + length whole ≤ length s
+
+module _ (s : List ℕ) (at : ℕ) (whole a b c : List ℕ) (t : Three s at whole a b c) where
+  pub first-of-three-fits : at + length a ≤ length s
+  first-of-three-fits = let e = ap length (t .parts) in let r = t .room in let l = length-append a (b ++ c) in omega arith
+
+  module _ (s₁ : List ℕ) (i : ℕ) (x : Wrote s at a s₁ i) where
+    first-there : Begun s at a (b ++ c) s₁ i
+    first-there = record { room = rw (t .parts) at (t .room); wrote = x }
+
+    pub second-of-three-fits : i + length b ≤ length s₁
+    second-of-three-fits = piece-fits s at a b c s₁ i first-there
+
+    module _ (s₂ : List ℕ) (j : ℕ) (y : Wrote s₁ i b s₂ j) where
+      second-there : Begun s at (a ++ b) c s₂ j
+      second-there = piece-more s at a b c s₁ i first-there s₂ j y
+
+      pub third-fits : j + length c ≤ length s₂
+      third-fits = second-fits s at (a ++ b) c s₂ j (second-there .room) (second-there .wrote)
+
+      pub three-written : (s₃ : List ℕ) (r : ℕ) → Wrote s₂ j c s₃ r → Wrote s at whole s₃ r
+      three-written s₃ r z =
+          let w = both-written s at (a ++ b) c s₂ j (second-there .room) (second-there .wrote) s₃ r z in
+          rw (t .parts, ← append-assoc a b c) w
+
+      pub third-empty : c ≡ [] → Wrote s at whole s₂ j
+      third-empty e = rw (t .parts, e, append-nil) (second-there .wrote)

@@ -1,25 +1,33 @@
 -- A text written, with a number behind it; and a sentence written part by part.
 -- Assumes nothing.
 use Prim.Native.Nat.{ℕ, _+_, _≤_, _<_}
+use Prim.Native.String.{String}
 use native.Mathlib.Omega.{arith}
 use mathlib.Core.Path.{_≡_, refl, sym, ap, _∙_}
+use mathlib.Core.Bool.{Bool, true, false}
 use mathlib.Core.List.{List, [], _∷_, _++_}
 use lib.ListN.{length, length-append}
+use borrow.Author.Tests.{eq-eqb, ne-eqb}
+use Rattle.semantics.specs.Definitions.Moves.{Reply, movedBy, refusedBy}
 use Rattle.semantics.specs.Definitions.Report.{decimal}
+use Rattle.semantics.specs.Definitions.Basics.{ascii}
+use Rattle.semantics.specs.Definitions.Sentence.{ruleWords, refusalWords, wordsFor, named, nodeNamed, choiceNamed, replyNamed, sentence}
 use Rattle.decimals.specs.Wrote.{Wrote}
-use Rattle.decimals.proofs.Pieces.{second-fits, both-written}
+use Rattle.decimals.proofs.Pieces.{second-fits, both-written, Three, first-of-three-fits, second-of-three-fits, third-fits, three-written, third-empty}
+use Rattle.sentences.specs.Answers.{replyIn}
+use Rattle.sentences.specs.Words.{phrase}
 
 -- ---- two parts, of which the first is there
 
 -- whoever writes both has room for the first
-pub first-fits : (s : List ℕ) (at : ℕ) (v w : List ℕ) → at + length (v ++ w) ≤ length s → at + length v ≤ length s
-first-fits s at v w room = let a = length-append v w in omega arith
+pub first-fits : (room at : ℕ) (v w : List ℕ) → at + length (v ++ w) ≤ room → at + length v ≤ room
+first-fits room at v w fits = let a = length-append v w in omega arith
 
 -- ---- a text and a number behind it
 
 module _ (s : List ℕ) (at : ℕ) (text : List ℕ) (n : ℕ) (room : at + length (text ++ decimal n) ≤ length s) where
   pub text-fits : at + length text ≤ length s
-  text-fits = first-fits s at text (decimal n) room
+  text-fits = first-fits (length s) at text (decimal n) room
 
   module _ (s₁ : List ℕ) (i : ℕ) (a : Wrote s at text s₁ i) (w : ℕ) (e : w ≡ n) where
     pub digits-fit : i + length (decimal w) ≤ length s₁
@@ -27,3 +35,97 @@ module _ (s : List ℕ) (at : ℕ) (text : List ℕ) (n : ℕ) (room : at + leng
 
     pub named-written : (s₂ : List ℕ) (r : ℕ) → Wrote s₁ i (decimal w) s₂ r → Wrote s at (text ++ decimal n) s₂ r
     named-written s₂ r b = both-written s at text (decimal n) s₁ i room a s₂ r (rw e at b)
+
+-- ---- a choice
+
+module _ (s : List ℕ) (k p n : ℕ) (room : length (choiceNamed k p n) ≤ length s) where
+  in-order : choiceNamed k p n ≡ named "Kind " k ++ (named " at station " p ++ nodeNamed k n)
+  unfolding choiceNamed
+  in-order = refl
+
+  parts : Three s 0 (choiceNamed k p n) (named "Kind " k) (named " at station " p) (nodeNamed k n)
+  parts = record { parts = in-order; room = omega arith }
+
+  pub kind-fits : 0 + length (named "Kind " k) ≤ length s
+  kind-fits = first-of-three-fits s 0 _ _ _ _ parts
+
+  module _ (s₁ : List ℕ) (i : ℕ) (a : Wrote s 0 (named "Kind " k) s₁ i) where
+    pub station-fits : i + length (named " at station " p) ≤ length s₁
+    station-fits = second-of-three-fits s 0 _ _ _ _ parts s₁ i a
+
+    module _ (s₂ : List ℕ) (j : ℕ) (b : Wrote s₁ i (named " at station " p) s₂ j) where
+      no-node : k ≡ 1 → nodeNamed k n ≡ []
+      unfolding nodeNamed
+      no-node e = rw (eq-eqb k 1 e)
+
+      pub without-node : k ≡ 1 → Wrote s 0 (choiceNamed k p n) s₂ j
+      without-node e = third-empty s 0 _ _ _ _ parts s₁ i a s₂ j b (no-node e)
+
+      module _ (other : ¬ (k ≡ 1)) where
+        node-there : nodeNamed k n ≡ named ", node " n
+        unfolding nodeNamed
+        node-there = rw (ne-eqb k 1 other)
+
+        pub node-fits : j + length (named ", node " n) ≤ length s₂
+        node-fits = rw node-there at (third-fits s 0 _ _ _ _ parts s₁ i a s₂ j b)
+
+        pub with-node : (s₃ : List ℕ) (r : ℕ) → Wrote s₂ j (named ", node " n) s₃ r → Wrote s 0 (choiceNamed k p n) s₃ r
+        with-node s₃ r c = three-written s 0 _ _ _ _ parts s₁ i a s₂ j b s₃ r (rw (← node-there) at c)
+
+-- ---- what it was answered
+
+-- the number behind its text, then its words
+pub record Answered (a : Reply) (text : String) (ws : List String) (n : ℕ) : Type 0 where
+  pub parts : replyNamed a ≡ named text n ++ wordsFor ws n
+
+moved-parts : (n : ℕ) → Answered (movedBy n) " moved by rule " ruleWords n
+unfolding replyNamed
+moved-parts n = record { parts = refl }
+
+refused-parts : (n : ℕ) → Answered (refusedBy n) " met refusal " refusalWords n
+unfolding replyNamed
+refused-parts n = record { parts = refl }
+
+pub moved : (b : Bool) (n : ℕ) → b ≡ true → Answered (replyIn b n) " moved by rule " ruleWords n
+moved b n e = rw e (moved-parts n)
+
+pub refused : (b : Bool) (n : ℕ) → b ≡ false → Answered (replyIn b n) " met refusal " refusalWords n
+refused b n e = rw e (refused-parts n)
+
+module _ (at : ℕ) (a : Reply) (text : String) (ws : List String) (n : ℕ) (t : Answered a text ws n) where
+  pub number-fits : (room : ℕ) → at + length (replyNamed a) ≤ room → at + length (named text n) ≤ room
+  number-fits room fits = first-fits room at (named text n) (wordsFor ws n) (rw (t .parts) at fits)
+
+  module _ (s : List ℕ) (room : at + length (replyNamed a) ≤ length s) (s₁ : List ℕ) (i : ℕ)
+      (w : Wrote s at (named text n) s₁ i) (entry : ℕ) (is : phrase entry ≡ wordsFor ws n) where
+    whole : at + length (named text n ++ wordsFor ws n) ≤ length s
+    whole = rw (t .parts) at room
+
+    pub words-fit : i + length (phrase entry) ≤ length s₁
+    words-fit = rw is (second-fits s at (named text n) (wordsFor ws n) s₁ i whole w)
+
+    pub reply-written : (s₂ : List ℕ) (r : ℕ) → Wrote s₁ i (phrase entry) s₂ r → Wrote s at (replyNamed a) s₂ r
+    reply-written s₂ r x =
+        rw (t .parts) (both-written s at (named text n) (wordsFor ws n) s₁ i whole w s₂ r (rw is at x))
+
+-- ---- the sentence
+
+module _ (s : List ℕ) (k p n : ℕ) (a : Reply) (room : length (sentence k p n a) ≤ length s) where
+  in-three : Three s 0 (sentence k p n a) (choiceNamed k p n) (replyNamed a) (ascii ".")
+  unfolding sentence
+  in-three = record { parts = refl; room = omega arith }
+
+  pub choice-fits : length (choiceNamed k p n) ≤ length s
+  choice-fits = let l = first-of-three-fits s 0 _ _ _ _ in-three in omega arith
+
+  module _ (s₁ : List ℕ) (i : ℕ) (x : Wrote s 0 (choiceNamed k p n) s₁ i) where
+    pub reply-fits : i + length (replyNamed a) ≤ length s₁
+    reply-fits = second-of-three-fits s 0 _ _ _ _ in-three s₁ i x
+
+    module _ (s₂ : List ℕ) (j : ℕ) (y : Wrote s₁ i (replyNamed a) s₂ j) where
+      pub end-fits : j + length (ascii ".") ≤ length s₂
+      end-fits = third-fits s 0 _ _ _ _ in-three s₁ i x s₂ j y
+
+      pub sentence-written : (s₃ : List ℕ) (r : ℕ) → Wrote s₂ j (ascii ".") s₃ r →
+          Wrote s 0 (sentence k p n a) s₃ r
+      sentence-written s₃ r z = three-written s 0 _ _ _ _ in-three s₁ i x s₂ j y s₃ r z

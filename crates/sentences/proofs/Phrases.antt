@@ -13,6 +13,7 @@ use mir.Syntax.{w64}
 use mir.Val.{Fits}
 use Rattle.semantics.specs.Definitions.Basics.{ascii}
 use Rattle.semantics.specs.Definitions.Sentence.{ruleWords, refusalWords, wordsFor}
+use Rattle.decimals.specs.Wrote.{Wrote}
 use Rattle.theorems.proofs.Sentences.{words-past}
 use Rattle.sentences.specs.Words.{phrasesOf, phrases, entries, phrase, startsFrom, startOf}
 
@@ -81,20 +82,27 @@ start-inside i l = rw all-long at (start-within 0 phrases i l)
 pub start-fits : (i : ℕ) → i ≤ entries → Fits w64 (startOf i)
 start-fits i l = record { fits = let m = start-inside i l in omega arith }
 
--- what lies between the starts of an entry and of the next one, in all words
-module _ (words : List ℕ) (all : words ≡ flatten phrases) (i from end : ℕ) (l : i < entries) (a : from ≡ startOf i)
-    (b : end ≡ startOf (i + 1)) where
+-- what lies between the starts of an entry and of the next one
+module _ (i from end : ℕ) (l : i < entries) (a : from ≡ startOf i) (b : end ≡ startOf (i + 1)) where
   pub part-ordered : from ≤ end
   part-ordered = let n = start-next i l in omega arith
 
-  pub part-inside : end ≤ length words
-  part-inside = let n = start-inside (i + 1) (omega arith) in let e = ap length all ∙ all-long in omega arith
+  pub part-inside : end ≤ 603
+  part-inside = let n = start-inside (i + 1) (omega arith) in omega arith
 
-  pub part-is : take (end - from) (drop from words) ≡ phrase i
+  part-is : take (end - from) (drop from (flatten phrases)) ≡ phrase i
   part-is =
       let n = start-next i l in
       let e : end - from ≡ length (phrase i) = omega arith in
-      rw (e, a, all) (phrase-cut i l)
+      rw (e, a) (phrase-cut i l)
+
+  module _ (words : List ℕ) (all : words ≡ flatten phrases) (at : ℕ) where
+    pub part-fits : (room : ℕ) → at + length (phrase i) ≤ room → at + length (take (end - from) (drop from words)) ≤ room
+    part-fits room fits = rw (all, part-is) fits
+
+    pub part-written : (s s₁ : List ℕ) (r : ℕ) → Wrote s at (take (end - from) (drop from words)) s₁ r →
+        Wrote s at (phrase i) s₁ r
+    part-written s s₁ r w = rw (all, part-is) at w
 
 -- ---- the entry of a number
 

@@ -23,12 +23,6 @@ const SHORT_BUFFER: u8 = 21;
 // The kind of choice that names no node.
 const KIND_ACT: u8 = 1;
 
-// What a choice was answered: the rule by which it moved, or the number of the refusal.
-pub enum Reply {
-    Moved { rule: u8 },
-    Refused { number: u8 },
-}
-
 // What a sentence's call answers: how many bytes it wrote, or the refusal.
 pub enum SentenceAnswer {
     Told { length: usize },
@@ -48,38 +42,50 @@ fn write_choice(out: &mut [u8], kind: u8, position: u8, node: u8) -> usize
     write_named(out, end, b", node ", node)
 }
 
-// What it was answered.
-fn write_reply(out: &mut [u8], at: usize, reply: Reply) -> usize
-    requires { ⌜ at + length (replyNamed (replyIn reply)) ≤ length (now out) ⌝ }
-    ensures { λ r. ⌜ Wrote (now (out .entry)) at (replyNamed (replyIn reply)) (now (out .exit)) r ⌝ }
+// What it was answered: that it moved, by the rule of this number; or that it was refused with it.
+fn write_reply(out: &mut [u8], at: usize, moved: bool, number: u8) -> usize
+    requires { ⌜ at + length (replyNamed (replyIn moved number)) ≤ length (now out) ⌝ }
+    ensures { λ r. ⌜ Wrote (now (out .entry)) at (replyNamed (replyIn moved number)) (now (out .exit)) r ⌝ }
 {
-    match reply {
-        Reply::Moved { rule } => {
-            let end = write_named(out, at, b" moved by rule ", rule);
-            write_words(out, end, rule_entry(rule))
-        }
-        Reply::Refused { number } => {
-            let end = write_named(out, at, b" met refusal ", number);
-            write_words(out, end, refusal_entry(number))
-        }
+    if moved {
+        let end = write_named(out, at, b" moved by rule ", number);
+        return write_words(out, end, rule_entry(number));
     }
+    let end = write_named(out, at, b" met refusal ", number);
+    write_words(out, end, refusal_entry(number))
 }
 
 // The sentence, from the front of the bytes on: the answer is its length.
-fn write_sentence(out: &mut [u8], kind: u8, position: u8, node: u8, reply: Reply) -> usize
-    requires { ⌜ length (Sentence·sentence kind position node (replyIn reply)) ≤ length (now out) ⌝ }
-    ensures { λ r. ⌜ Wrote (now (out .entry)) 0 (Sentence·sentence kind position node (replyIn reply)) (now (out .exit)) r ⌝ }
+fn write_sentence(
+    out: &mut [u8],
+    kind: u8,
+    position: u8,
+    node: u8,
+    moved: bool,
+    number: u8,
+) -> usize
+    requires { ⌜ length (Sentence·sentence kind position node (replyIn moved number)) ≤ length (now out) ⌝ }
+    ensures { λ r. ⌜ Wrote (now (out .entry)) 0 (Sentence·sentence kind position node (replyIn moved number))
+        (now (out .exit)) r ⌝ }
 {
     let named = write_choice(out, kind, position, node);
-    let answered = write_reply(out, named, reply);
+    let answered = write_reply(out, named, moved, number);
     write_text(out, answered, b".")
 }
 
-// Writes the sentence of a choice and its answer to the front of a buffer, whose other bytes are left. A buffer that
-// has no room for every sentence is refused before all else.
-pub fn sentence(kind: u8, position: u8, node: u8, reply: Reply, buffer: &mut [u8]) -> SentenceAnswer
+// Writes the sentence of a choice and its answer to the front of a buffer, whose other bytes are left: that the choice
+// moved, by the rule of this number; or that it was refused with it. A buffer that has no room for every sentence is
+// refused before all else.
+pub fn sentence(
+    kind: u8,
+    position: u8,
+    node: u8,
+    moved: bool,
+    number: u8,
+    buffer: &mut [u8],
+) -> SentenceAnswer
     ensures { λ r. ⌜ sentenceCallOf r (now (buffer .exit)) ≡
-        sentenceCall kind position node (replyIn reply) (now (buffer .entry)) ⌝ }
+        sentenceCall kind position node (replyIn moved number) (now (buffer .entry)) ⌝ }
 {
     if buffer.len() < SENTENCE_BYTES {
         return SentenceAnswer::Refused {
@@ -87,6 +93,6 @@ pub fn sentence(kind: u8, position: u8, node: u8, reply: Reply, buffer: &mut [u8
             place: 0,
         };
     }
-    let length = write_sentence(buffer, kind, position, node, reply);
+    let length = write_sentence(buffer, kind, position, node, moved, number);
     SentenceAnswer::Told { length }
 }

@@ -1,0 +1,52 @@
+-- The call: a buffer that is too short, and one that has room.
+-- Assumes nothing.
+use Prim.Native.Nat.{ℕ, _+_, _≤_, _<_}
+use native.Mathlib.Omega.{arith}
+use native.Mathlib.Nat.{zero-add}
+use mathlib.Core.Path.{_≡_, refl, sym, ap, _∙_}
+use mathlib.Core.Bool.{Bool, true, false}
+use mathlib.Core.List.{List, [], _∷_, _++_}
+use lib.ListN.{length, take, drop}
+use lib.Seq.{take-length}
+use borrow.Author.Tests.{le-ltb}
+use mir.Syntax.{w8}
+use mir.Val.{Fits}
+use Rattle.semantics.specs.Definitions.Sentence.{sentence, told, SentenceCall, sentenceCall}
+use Rattle.semantics.specs.Claims.Sentences.{AllBytes, SentencesAreShort}
+use Rattle.semantics.specs.Checks.Sentences.{ShortBuffersRefused}
+use Rattle.theorems.proofs.Sentences.{short-buffers-refused, sentences-are-short}
+use Rattle.buffer.specs.Splice.{written}
+use Rattle.decimals.specs.Wrote.{Wrote}
+use Rattle.sentences.specs.declared.SentenceAnswer.the-variants as answer
+use Rattle.sentences.specs.Answers.{replyIn, sentenceCallOf}
+
+-- a text that stands at the front, and how it is answered
+pub toldAs : (v s : List ℕ) → SentenceCall
+toldAs v s = record { answer = told (length v); buffer = v ++ drop (length v) s }
+
+as-told : (v s s₁ : List ℕ) (r : ℕ) → Wrote s 0 v s₁ r → sentenceCallOf (answer.Told r) s₁ ≡ toldAs v s
+unfolding written toldAs
+as-told v s s₁ r w = rw (w .end, w .bytes, take-length v, zero-add (length v)) refl
+
+module _ (k p n : ℕ) (b : Bool) (m : ℕ) (s : List ℕ) where
+  pub short-refused : length s < 96 → sentenceCallOf (answer.Refused 21 0) s ≡ sentenceCall k p n (replyIn b m) s
+  unfolding ShortBuffersRefused
+  short-refused l = sym (short-buffers-refused k p n (replyIn b m) s l)
+
+  module _ (room : 96 ≤ length s) where
+    has-room : sentenceCall k p n (replyIn b m) s ≡ toldAs (sentence k p n (replyIn b m)) s
+    unfolding sentenceCall toldAs
+    has-room = rw (le-ltb (length s) 96 room)
+
+    pub sentence-told : (s₁ : List ℕ) (r : ℕ) → Wrote s 0 (sentence k p n (replyIn b m)) s₁ r →
+        sentenceCallOf (answer.Told r) s₁ ≡ sentenceCall k p n (replyIn b m) s
+    sentence-told s₁ r w = as-told (sentence k p n (replyIn b m)) s s₁ r w ∙ sym has-room
+
+    module _ (fk : Fits w8 k) (fp : Fits w8 p) (fn : Fits w8 n) (fm : Fits w8 m) where
+      all-bytes : (c : Bool) → AllBytes k p n (replyIn c m)
+      all-bytes true = omega (arith, fk .fits, fp .fits, fn .fits, fm .fits)
+      all-bytes false = omega (arith, fk .fits, fp .fits, fn .fits, fm .fits)
+
+      pub sentence-fits : length (sentence k p n (replyIn b m)) ≤ length s
+      unfolding SentencesAreShort
+      sentence-fits = let l = sentences-are-short k p n (replyIn b m) (all-bytes b) in omega arith

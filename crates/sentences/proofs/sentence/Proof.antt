@@ -1,0 +1,21 @@
+-- The call that writes a sentence meets its contract.
+-- Assumes nothing.
+use borrow.Author.Needs.{needs}
+use Rattle.sentences.proofs.Told.{short-refused, sentence-fits, sentence-told}
+use Rattle.sentences.proofs.sentence.Statement.{statement}
+use Rattle.sentences.proofs.sentence.Tie as tie
+
+returns : tie.Need-returns
+returns c = search (short-refused, needs)
+
+write-sentence-requires : tie.Need-write-sentence-requires
+write-sentence-requires c κs = search (sentence-fits, needs)
+
+same-length : tie.Need-same-length
+same-length c = search needs
+
+returns-2 : tie.Need-returns-2
+returns-2 c = search (sentence-told, needs)
+
+pub sentence-spec : {M : Type 1} → statement M
+sentence-spec = tie.close (tie.spec returns write-sentence-requires same-length returns-2)
