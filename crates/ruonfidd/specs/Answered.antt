@@ -3,11 +3,14 @@
 -- Assumes nothing.
 use Prim.Native.Nat.{ℕ}
 use mathlib.Core.Path.{_≡_}
+use mathlib.Core.Bool.{cond}
 use mathlib.Core.List.{List, [], _∷_}
 use lib.ListN.{getD}
-use Rattle.semantics.specs.Definitions.Moves.{Entry, act, inside}
+use lib.Dec.{eqb}
+use Rattle.semantics.specs.Definitions.Moves.{Entry, act, inside, Reply, movedBy, refusedBy}
 use Rattle.semantics.specs.Definitions.Run.{Counters}
 use Rattle.semantics.specs.Definitions.Calls.{Verdict, verdictNumber, verdictPlace, Opening, openVerdict, Buffers, RunCall, StepCall, SuggestAnswer, suggested, still, notSuggested, SuggestAllowed}
+use Rattle.semantics.specs.Definitions.Sentence.{SentenceAnswer, told, notTold, SentenceCall}
 
 -- these two numbers as they are
 pub record VerdictSet (n at : ℕ) (returned p : ℕ) : Type 0 where
@@ -93,3 +96,23 @@ pub record SuggestionAnswered (table hall : List ℕ) (returned p : ℕ) (w : Li
   pub answer : SuggestAnswer
   pub allowed : SuggestAllowed table hall answer
   pub values : SuggestionSet (suggestionNumber answer) (suggestionPlace answer) (suggestionWords answer) returned p w
+
+-- ---- a sentence
+
+-- a byte that tells whether the choice moved, and the number of the rule or of the refusal
+abbrev pub replyIn : (moved number : ℕ) → Reply
+replyIn m n = cond (eqb m 0) (refusedBy n) (movedBy n)
+
+-- what is returned, and the lent length afterwards: as it was where nothing is told
+abbrev pub sentenceNumber : SentenceAnswer → ℕ
+sentenceNumber (told l) = 0
+sentenceNumber (notTold n p) = n
+
+abbrev pub lengthAfter : (before : ℕ) → SentenceAnswer → ℕ
+lengthAfter before (told l) = l
+lengthAfter before (notTold n p) = before
+
+pub record SentenceAnswered (c : SentenceCall) (returned before after : ℕ) (buffer : List ℕ) : Type 0 where
+  pub number : returned ≡ sentenceNumber (c .answer)
+  pub length : after ≡ lengthAfter before (c .answer)
+  pub bytes : buffer ≡ c .buffer

@@ -4,7 +4,7 @@
 // A `&[u8]` is passed as a pointer and a length, a `&mut` of a number or of an array as a pointer to what the call
 // sets. An enum does not pass to C: a call returns the number, 0 for none, and sets the rest in every case. A tally is
 // three numbers: commits, failed, retries; runs and steps count on from what it holds. A suggestion is three bytes:
-// kind, position, node.
+// kind, position, node. Only a sentence that is refused sets nothing: its buffer and its length stay as they were.
 use counters::Counters;
 use engine::HallVerdict;
 use engine::OpenAnswer;
@@ -15,6 +15,7 @@ use runs::numbers_of;
 use schedule::Entry;
 use schedule::KIND_ACT;
 use schedule::KIND_INSIDE;
+use sentences::SentenceAnswer;
 use table::TableVerdict;
 ghost use mathlib.Core.Path.{_≡_};
 ghost use mathlib.Core.List.{[], _∷_};
@@ -22,11 +23,12 @@ ghost use Prim.Native.Nat.{_≤_};
 ghost use Rattle.semantics.specs.Definitions.Run.{freshCounters};
 ghost use Rattle.semantics.specs.Definitions.Calls.{checkTable, checkHall, openHall, runCall, stepCall};
 ghost use Rattle.semantics.specs.Definitions.Report.{printedRun};
+ghost use Rattle.semantics.specs.Definitions.Sentence.{sentenceCall};
 ghost use Rattle.decimals.specs.Wrote.{Wrote};
 ghost use Rattle.counters.specs.Counted.{countersOf};
 ghost use Rattle.schedule.specs.Entries.{entryOf};
 ghost use Rattle.sections.specs.Limits.{linesMost};
-ghost use Rattle.ruonfidd.specs.Answered.{VerdictAnswered, OpeningAnswered, tallyWords, countersIn, buffersIn, RunAnswered, StepAnswered, choiceWords, SuggestionAnswered};
+ghost use Rattle.ruonfidd.specs.Answered.{VerdictAnswered, OpeningAnswered, tallyWords, countersIn, buffersIn, RunAnswered, StepAnswered, choiceWords, SuggestionAnswered, replyIn, SentenceAnswered};
 
 // Whether a table is accepted: 0, and place 0; or the number of the first refusal, and its place.
 #[no_mangle]
@@ -211,4 +213,32 @@ pub extern "C" fn ruonfidd_report(input: &[u8], output: &mut [u8; OUTPUT], lengt
 {
     let written = report::report(input, output);
     *length = written;
+}
+
+// Writes the sentence of a choice and its answer to the front of a buffer, whose other bytes are left: 0, and its
+// length. `moved` is 0 where the choice was refused with this number, and any other byte where it moved by the rule of
+// this number. Or 21, whose place is always 0: the buffer is too short, and neither it nor the length is written.
+#[no_mangle]
+pub extern "C" fn ruonfidd_sentence(
+    kind: u8,
+    position: u8,
+    node: u8,
+    moved: u8,
+    number: u8,
+    buffer: &mut [u8],
+    length: &mut usize,
+) -> u8
+    ensures { λ r. ⌜ SentenceAnswered (sentenceCall kind position node (replyIn moved number) (now (buffer .entry)))
+        r (now (length .entry)) (now (length .exit)) (now (buffer .exit)) ⌝ }
+{
+    match sentences::sentence(kind, position, node, moved != 0, number, buffer) {
+        SentenceAnswer::Told { length: written } => {
+            *length = written;
+            0
+        }
+        SentenceAnswer::Refused {
+            number: refusal,
+            place: _,
+        } => refusal,
+    }
 }
