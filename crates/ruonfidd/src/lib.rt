@@ -232,8 +232,8 @@ pub extern "C" fn ruonfidd_sentence(
         r (now (length .entry)) (now (length .exit)) (now (buffer .exit)) ⌝ }
 {
     match sentences::sentence(kind, position, node, moved != 0, number, buffer) {
-        SentenceAnswer::Told { length: written } => {
-            *length = written;
+        SentenceAnswer::Told { length: bytes } => {
+            *length = bytes;
             0
         }
         SentenceAnswer::Refused {

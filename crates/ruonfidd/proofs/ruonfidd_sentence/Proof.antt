@@ -8,8 +8,8 @@ use Rattle.ruonfidd.proofs.ruonfidd_sentence.Tie as tie
 sentence-requires : tie.Need-sentence-requires
 sentence-requires c κs = search needs
 
-enum-known-written : tie.Need-enum-known-written
-enum-known-written c = search needs
+enum-known-bytes : tie.Need-enum-known-bytes
+enum-known-bytes c = search needs
 
 enum-known-refusal : tie.Need-enum-known-refusal
 enum-known-refusal c = search needs
@@ -29,4 +29,4 @@ returns-2 c = search sentence-refused
 pub ruonfidd-sentence-spec : {M : Type 1} → statement M
 ruonfidd-sentence-spec =
     tie.close
-    (tie.spec sentence-requires enum-known-written enum-known-refusal same-length returns same-length-2 returns-2)
+    (tie.spec sentence-requires enum-known-bytes enum-known-refusal same-length returns same-length-2 returns-2)
