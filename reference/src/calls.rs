@@ -1,5 +1,6 @@
 //! The public calls on bytes, with their refusals in number order: table,
-//! hall, choices (document 01, "Reasons to turn a request down").
+//! hall, choices (document 01, "Reasons to turn a request down"). The one that
+//! says a sentence has a refusal of its own, 21 (document 02, Q-1).
 //!
 //! Where a call is not refused its place is 0, except for a run, whose place
 //! is then the length of the choices.
@@ -8,6 +9,7 @@ use crate::choice::{first_choice, Choice};
 use crate::hall::{decode, encode, opening, Hall, HALL_BYTES};
 use crate::moves::{self, make_move, Outcome};
 use crate::run::{run_choices, Tally};
+use crate::sentence::{sentence, Verdict, SENTENCE_ROOM};
 use crate::table::{read_table, Refusal, Table};
 
 /// A number (0 for none) and a place.
@@ -140,6 +142,31 @@ pub fn accepted_choices(table: &[u8], hall: &[u8]) -> Result<Vec<Choice>, Refusa
 /// Refusals 1 to 11.
 pub fn is_still(table: &[u8], hall: &[u8]) -> Result<bool, Refusal> {
     Ok(accepted_choices(table, hall)?.is_empty())
+}
+
+/// Writes the sentence for a choice and its answer to the front of the buffer
+/// and gives its length. The rest of the buffer stays as it is.
+///
+/// # Errors
+///
+/// Refusal 21, even where a shorter buffer would hold the sentence. Nothing is
+/// written then.
+pub fn say(
+    kind: u8,
+    position: u8,
+    node: u8,
+    verdict: Verdict,
+    buffer: &mut [u8],
+) -> Result<usize, Refusal> {
+    if buffer.len() < SENTENCE_ROOM {
+        return Err(Refusal {
+            number: 21,
+            place: 0,
+        });
+    }
+    let said = sentence(kind, position, node, verdict);
+    buffer[..said.len()].copy_from_slice(said.as_bytes());
+    Ok(said.len())
 }
 
 /// Table and hall of a call, or refusals 1 to 11.

@@ -2,11 +2,12 @@
 //!
 //! It was written from the papers and shares no code with the engine. It is
 //! there to be compared with it: for the same bytes both must give the same
-//! answers, the same hall, the same tally and the same printed lines.
+//! answers, the same hall, the same tally, the same printed lines and the
+//! same sentences.
 //!
 //! It aims to be easy to read against document 01, the scope, and not to be
 //! fast. Comments name the section of that document which a piece of code
-//! follows.
+//! follows, or the request of document 02, the changes asked for since.
 //!
 //! | Module | What it holds |
 //! |---|---|
@@ -17,6 +18,7 @@
 //! | [`run`] | a list of choices, the tally |
 //! | [`calls`] | the public calls on bytes |
 //! | [`print`](mod@print) | the printed run |
+//! | [`sentence`] | the sentence for a choice and its answer |
 //! | [`edges`] | the list of edges and what each prints |
 //! | [`atomic`] | the one-step run and the steps of its converse |
 //! | [`calculus`] | `AtCCS` without hiding, from document 004 |
@@ -39,5 +41,6 @@ pub mod hall;
 pub mod moves;
 pub mod print;
 pub mod run;
+pub mod sentence;
 pub mod stands_for;
 pub mod table;

@@ -92,7 +92,7 @@ pub struct Table {
 /// Why a request was turned down: one number, one place.
 #[derive(Clone, Copy, Debug, PartialEq, Eq)]
 pub struct Refusal {
-    /// Which condition was met, 1 to 20.
+    /// Which condition was met, 1 to 21.
     pub number: u8,
     /// The offset of the byte at which it was met.
     pub place: usize,

@@ -1,16 +1,23 @@
 //! The examples of the documents. A block marked `run` holds the bytes of an input and, below them, what is printed; one
-//! marked `call` holds a table, a stored hall and choices, and what the calls on them answer.
+//! marked `call` holds a table, a stored hall and choices, and what the calls on them answer; one marked `say` holds a
+//! choice and its answer, and the sentence for them.
 
 use std::path::Path;
 
 use reference::edges::{lines, printed};
+use reference::sentence::{sentence, Verdict};
 
-/// The blocks of a document with this mark, each as its lines.
-fn blocks(document: &str, mark: &str) -> Vec<Vec<String>> {
+/// The text of a document.
+fn text(document: &str) -> String {
     let path = Path::new(env!("CARGO_MANIFEST_DIR"))
         .join("..")
         .join(document);
-    let text = std::fs::read_to_string(&path).expect("the document can be read");
+    std::fs::read_to_string(&path).expect("the document can be read")
+}
+
+/// The blocks of a document with this mark, each as its lines.
+fn blocks(document: &str, mark: &str) -> Vec<Vec<String>> {
+    let text = text(document);
     let first = format!("```{mark}");
     let mut found = Vec::new();
     let mut open: Option<Vec<String>> = None;
@@ -38,6 +45,35 @@ fn agrees(block: &[String]) -> bool {
     }
 }
 
+/// The sentence that the first line of a block asks for: kind, position, node, answer and its number. Nothing where the
+/// line has another form.
+fn asked(line: &str) -> Option<String> {
+    let words: Vec<&str> = line.split(' ').collect();
+    let [kind, position, node, answer, number] = words[..] else {
+        return None;
+    };
+    let number = number.parse().ok()?;
+    let verdict = match answer {
+        "moved" => Verdict::Moved(number),
+        "refused" => Verdict::Refused(number),
+        _ => return None,
+    };
+    let (kind, position, node) = (
+        kind.parse().ok()?,
+        position.parse().ok()?,
+        node.parse().ok()?,
+    );
+    Some(sentence(kind, position, node, verdict))
+}
+
+/// Whether the sentence is what the block says, and it says no more.
+fn says(block: &[String]) -> bool {
+    match block {
+        [line, said] => asked(line).as_ref() == Some(said),
+        _ => false,
+    }
+}
+
 #[test]
 fn examples_of_the_byte_forms() {
     let runs = blocks("docs/FORMAT.md", "run");
@@ -47,14 +83,77 @@ fn examples_of_the_byte_forms() {
     for block in runs.iter().chain(&calls) {
         assert!(agrees(block), "{block:?}");
     }
+    let sentences = blocks("docs/FORMAT.md", "say");
+    assert_eq!(sentences.len(), 3, "a rule, a refusal, a number alone");
+    for block in &sentences {
+        assert!(says(block), "{block:?}");
+    }
+}
+
+/// The numbers and their words in a table's rows, the numbers in the cell with this index and the words in the next.
+fn column<'a>(rows: &[&'a str], index: usize) -> Vec<(u8, &'a str)> {
+    let numbered = |row: &&'a str| {
+        let cells: Vec<&str> = row.split('|').map(str::trim).collect();
+        Some((cells[index].parse().ok()?, cells[index + 1]))
+    };
+    rows.iter().filter_map(numbered).collect()
+}
+
+/// The table of words: rules, the first refusals and the others stand beside each other.
+#[test]
+fn words_of_the_byte_forms() {
+    let text = text("docs/FORMAT.md");
+    let (_, table) = text
+        .split_once("| rule | words | | refusal | words | | refusal | words |\n")
+        .expect("the table of words");
+    let rows: Vec<&str> = table.lines().take_while(|row| !row.is_empty()).collect();
+    let rules = column(&rows, 1);
+    let refusals = [column(&rows, 4), column(&rows, 7)].concat();
+    assert!(rules.iter().map(|(number, _)| *number).eq(1..=13));
+    assert!(refusals.iter().map(|(number, _)| *number).eq(1..=20));
+    for (rule, words) in rules {
+        let expected = format!("Kind 1 at station 0: moved by rule {rule}, {words}.");
+        assert_eq!(sentence(1, 0, 0, Verdict::Moved(rule)), expected);
+    }
+    for (number, words) in refusals {
+        let expected = format!("Kind 1 at station 0: refused by {number}, {words}.");
+        assert_eq!(sentence(1, 0, 0, Verdict::Refused(number)), expected);
+    }
 }
 
 #[test]
 fn a_wrong_example_is_noticed() {
-    for mark in ["run", "call"] {
+    let agrees: fn(&[String]) -> bool = agrees;
+    for (mark, right) in [("run", agrees), ("call", agrees), ("say", says)] {
         let mut block = blocks("docs/FORMAT.md", mark).remove(0);
-        assert!(agrees(&block));
+        assert!(right(&block));
         block[1].push('0');
-        assert!(!agrees(&block));
+        assert!(!right(&block));
     }
+}
+
+#[test]
+fn a_sentence_for_something_else_is_noticed() {
+    let said = "Kind 2 at station 3, node 14: refused by 17, no move at this node.";
+    let block = |line: &str| [line.to_string(), said.to_string()];
+    assert!(says(&block("2 3 14 refused 17")));
+    for line in [
+        "3 3 14 refused 17",
+        "1 3 14 refused 17",
+        "2 0 14 refused 17",
+        "2 3 15 refused 17",
+        "2 3 14 moved 17",
+        "2 3 14 refused 16",
+        "2 3 14 refused 273", // 17, were it cut down to a byte
+        "2 3 14 failed 17",
+        "2 3 14 17",
+        "2 3 14 refused 17 0",
+    ] {
+        assert!(!says(&block(line)), "{line}");
+    }
+    // A line is missing, or left over.
+    assert!(!says(&block("2 3 14 refused 17")[..1]));
+    assert!(!says(
+        &[&block("2 3 14 refused 17")[..], &[String::new()]].concat()
+    ));
 }

@@ -12,6 +12,7 @@ mod one_step;
 mod printed;
 mod refusals;
 mod rehearsals;
+mod sentences;
 mod steps;
 mod stored_halls;
 mod suggestions;

@@ -1,0 +1,80 @@
+//! The sentence for a choice and its answer (document 02, Q-1). The words are
+//! those of `docs/FORMAT.md`, "Sentences".
+
+/// A buffer that is lent for a sentence has at least this many bytes (refusal
+/// 21), and no sentence has more.
+pub const SENTENCE_ROOM: usize = 96;
+
+/// What a sentence tells of an answer: its number. The place of a refusal is
+/// not told. Any number will do, also one that no hall answers.
+#[derive(Clone, Copy, Debug, PartialEq, Eq, Hash)]
+pub enum Verdict {
+    /// The number of the rule.
+    Moved(u8),
+    /// The number of the refusal.
+    Refused(u8),
+}
+
+/// The words of rules 1 to 13, in order.
+const RULES: &[&str] = &[
+    "token put",
+    "token taken",
+    "repeated take",
+    "attempt begun",
+    "attempt given up",
+    "commit failed",
+    "block committed",
+    "read noted",
+    "read failed",
+    "write noted",
+    "two ways opened",
+    "second way kept",
+    "first way kept",
+];
+
+/// The words of refusals 1 to 20, in order.
+const REFUSALS: &[&str] = &[
+    "table: no such kind",
+    "table: record cut short",
+    "table: too many terms",
+    "table: no such tray",
+    "table: term not earlier",
+    "table: wrong term named",
+    "table: term too large",
+    "table: wrong tokens",
+    "table: start not last",
+    "hall: wrong length",
+    "hall: not well formed",
+    "no such kind",
+    "choice cut short",
+    "no such station",
+    "station cannot do this",
+    "no such node",
+    "no move at this node",
+    "tray empty",
+    "hall full",
+    "tray full",
+];
+
+/// The sentence for any four bytes. Kind 1 has no node: one handed in counts
+/// for nothing.
+pub fn sentence(kind: u8, position: u8, node: u8, verdict: Verdict) -> String {
+    let node = match kind {
+        1 => String::new(),
+        _ => format!(", node {node}"),
+    };
+    let verdict = match verdict {
+        Verdict::Moved(rule) => format!("moved by rule {}", with_words(rule, RULES)),
+        Verdict::Refused(number) => format!("refused by {}", with_words(number, REFUSALS)),
+    };
+    format!("Kind {kind} at station {position}{node}: {verdict}.")
+}
+
+/// The number and, where it has some, its words; the first are those of 1.
+fn with_words(number: u8, words: &[&str]) -> String {
+    let index = usize::from(number).checked_sub(1);
+    match index.and_then(|index| words.get(index)) {
+        Some(words) => format!("{number}, {words}"),
+        None => number.to_string(),
+    }
+}

@@ -1,0 +1,490 @@
+//! Sentences: their words, their edges, the buffer they are written into, and
+//! that they can be read back.
+
+use std::collections::HashSet;
+
+use reference::calls::{self, say, StepAnswer};
+use reference::generator::Random;
+use reference::run::Tally;
+use reference::sentence::{sentence, Verdict, SENTENCE_ROOM};
+use reference::table::Refusal;
+
+use crate::common::{all_choices, opened, EXAMPLE_CHOICES, EXAMPLE_TABLE};
+use Verdict::{Moved, Refused};
+
+/// The sentence of each rule, 1 to 13, for one choice.
+const RULES: [&str; 13] = [
+    "Kind 1 at station 5: moved by rule 1, token put.",
+    "Kind 1 at station 5: moved by rule 2, token taken.",
+    "Kind 1 at station 5: moved by rule 3, repeated take.",
+    "Kind 1 at station 5: moved by rule 4, attempt begun.",
+    "Kind 1 at station 5: moved by rule 5, attempt given up.",
+    "Kind 1 at station 5: moved by rule 6, commit failed.",
+    "Kind 1 at station 5: moved by rule 7, block committed.",
+    "Kind 1 at station 5: moved by rule 8, read noted.",
+    "Kind 1 at station 5: moved by rule 9, read failed.",
+    "Kind 1 at station 5: moved by rule 10, write noted.",
+    "Kind 1 at station 5: moved by rule 11, two ways opened.",
+    "Kind 1 at station 5: moved by rule 12, second way kept.",
+    "Kind 1 at station 5: moved by rule 13, first way kept.",
+];
+
+/// The sentence of each refusal, 1 to 20, for another.
+const REFUSALS: [&str; 20] = [
+    "Kind 2 at station 6, node 7: refused by 1, table: no such kind.",
+    "Kind 2 at station 6, node 7: refused by 2, table: record cut short.",
+    "Kind 2 at station 6, node 7: refused by 3, table: too many terms.",
+    "Kind 2 at station 6, node 7: refused by 4, table: no such tray.",
+    "Kind 2 at station 6, node 7: refused by 5, table: term not earlier.",
+    "Kind 2 at station 6, node 7: refused by 6, table: wrong term named.",
+    "Kind 2 at station 6, node 7: refused by 7, table: term too large.",
+    "Kind 2 at station 6, node 7: refused by 8, table: wrong tokens.",
+    "Kind 2 at station 6, node 7: refused by 9, table: start not last.",
+    "Kind 2 at station 6, node 7: refused by 10, hall: wrong length.",
+    "Kind 2 at station 6, node 7: refused by 11, hall: not well formed.",
+    "Kind 2 at station 6, node 7: refused by 12, no such kind.",
+    "Kind 2 at station 6, node 7: refused by 13, choice cut short.",
+    "Kind 2 at station 6, node 7: refused by 14, no such station.",
+    "Kind 2 at station 6, node 7: refused by 15, station cannot do this.",
+    "Kind 2 at station 6, node 7: refused by 16, no such node.",
+    "Kind 2 at station 6, node 7: refused by 17, no move at this node.",
+    "Kind 2 at station 6, node 7: refused by 18, tray empty.",
+    "Kind 2 at station 6, node 7: refused by 19, hall full.",
+    "Kind 2 at station 6, node 7: refused by 20, tray full.",
+];
+
+/// Every verdict that there is.
+fn verdicts() -> impl Iterator<Item = Verdict> {
+    (0..=255).flat_map(|number| [Moved(number), Refused(number)])
+}
+
+#[test]
+fn every_number_that_has_words() {
+    for (number, expected) in (1..).zip(RULES) {
+        assert_eq!(sentence(1, 5, 0, Moved(number)), expected);
+    }
+    for (number, expected) in (1..).zip(REFUSALS) {
+        assert_eq!(sentence(2, 6, 7, Refused(number)), expected);
+    }
+}
+
+#[test]
+fn any_other_number_stands_alone() {
+    for number in (0..=0).chain(14..=255) {
+        let expected = format!("Kind 1 at station 5: moved by rule {number}.");
+        assert_eq!(sentence(1, 5, 0, Moved(number)), expected);
+    }
+    for number in (0..=0).chain(21..=255) {
+        let expected = format!("Kind 2 at station 6, node 7: refused by {number}.");
+        assert_eq!(sentence(2, 6, 7, Refused(number)), expected);
+    }
+}
+
+/// Kind, position, node and verdict, and the sentence for them.
+type Edge = ((u8, u8, u8), Verdict, &'static str);
+
+fn each_is(edges: &[Edge]) {
+    for &((kind, position, node), verdict, expected) in edges {
+        assert_eq!(sentence(kind, position, node, verdict), expected);
+    }
+}
+
+#[test]
+fn edges_of_the_kind() {
+    each_is(&[
+        // A node handed in with kind 1 is not named.
+        (
+            (1, 0, 7),
+            Moved(6),
+            "Kind 1 at station 0: moved by rule 6, commit failed.",
+        ),
+        (
+            (1, 255, 255),
+            Refused(18),
+            "Kind 1 at station 255: refused by 18, tray empty.",
+        ),
+        // Every other kind has one, also a kind that no hall takes.
+        (
+            (0, 0, 0),
+            Refused(12),
+            "Kind 0 at station 0, node 0: refused by 12, no such kind.",
+        ),
+        (
+            (2, 0, 0),
+            Moved(8),
+            "Kind 2 at station 0, node 0: moved by rule 8, read noted.",
+        ),
+        (
+            (3, 63, 14),
+            Refused(12),
+            "Kind 3 at station 63, node 14: refused by 12, no such kind.",
+        ),
+        (
+            (255, 0, 0),
+            Moved(13),
+            "Kind 255 at station 0, node 0: moved by rule 13, first way kept.",
+        ),
+        // Kinds that begin or end with a 1 are not kind 1.
+        (
+            (10, 1, 1),
+            Moved(1),
+            "Kind 10 at station 1, node 1: moved by rule 1, token put.",
+        ),
+        (
+            (101, 1, 1),
+            Moved(1),
+            "Kind 101 at station 1, node 1: moved by rule 1, token put.",
+        ),
+    ]);
+}
+
+#[test]
+fn edges_of_the_answer() {
+    each_is(&[
+        // Below the first that have words.
+        (
+            (0, 0, 0),
+            Moved(0),
+            "Kind 0 at station 0, node 0: moved by rule 0.",
+        ),
+        ((1, 0, 0), Refused(0), "Kind 1 at station 0: refused by 0."),
+        // Around the last rule.
+        (
+            (1, 0, 0),
+            Moved(13),
+            "Kind 1 at station 0: moved by rule 13, first way kept.",
+        ),
+        (
+            (1, 0, 0),
+            Refused(13),
+            "Kind 1 at station 0: refused by 13, choice cut short.",
+        ),
+        (
+            (1, 0, 0),
+            Moved(14),
+            "Kind 1 at station 0: moved by rule 14.",
+        ),
+        (
+            (1, 0, 0),
+            Refused(14),
+            "Kind 1 at station 0: refused by 14, no such station.",
+        ),
+        // Around the last refusal that has words; that of the buffer has none.
+        (
+            (1, 0, 0),
+            Moved(20),
+            "Kind 1 at station 0: moved by rule 20.",
+        ),
+        (
+            (1, 0, 0),
+            Refused(20),
+            "Kind 1 at station 0: refused by 20, tray full.",
+        ),
+        (
+            (1, 0, 0),
+            Moved(21),
+            "Kind 1 at station 0: moved by rule 21.",
+        ),
+        (
+            (1, 0, 0),
+            Refused(21),
+            "Kind 1 at station 0: refused by 21.",
+        ),
+    ]);
+}
+
+#[test]
+fn edges_of_the_digits() {
+    each_is(&[
+        // One, two and three digits; no zeros before them.
+        (
+            (9, 10, 100),
+            Moved(99),
+            "Kind 9 at station 10, node 100: moved by rule 99.",
+        ),
+        (
+            (100, 9, 10),
+            Refused(100),
+            "Kind 100 at station 9, node 10: refused by 100.",
+        ),
+        // The highest bytes.
+        (
+            (1, 255, 255),
+            Moved(255),
+            "Kind 1 at station 255: moved by rule 255.",
+        ),
+        (
+            (255, 255, 255),
+            Moved(255),
+            "Kind 255 at station 255, node 255: moved by rule 255.",
+        ),
+        (
+            (255, 255, 255),
+            Refused(255),
+            "Kind 255 at station 255, node 255: refused by 255.",
+        ),
+        // The longest sentences.
+        (
+            (255, 255, 255),
+            Refused(15),
+            "Kind 255 at station 255, node 255: refused by 15, station cannot do this.",
+        ),
+        (
+            (255, 255, 255),
+            Refused(5),
+            "Kind 255 at station 255, node 255: refused by 5, table: term not earlier.",
+        ),
+    ]);
+}
+
+/// The choices of document 01's printed example, told one by one, and one more.
+#[test]
+fn a_run_told_in_sentences() {
+    let mut hall = opened(&EXAMPLE_TABLE);
+    let mut tally = Tally::FRESH;
+    let mut told = Vec::new();
+    for choice in all_choices(&[&EXAMPLE_CHOICES[..], &[2, 0, 0]].concat()) {
+        let bytes = choice.bytes();
+        let verdict = match calls::step(&EXAMPLE_TABLE, &mut hall, &mut tally, &bytes) {
+            StepAnswer::Moved(rule) => Moved(rule),
+            StepAnswer::Refused(refusal) => Refused(refusal.number),
+        };
+        let node = bytes.get(2).copied().unwrap_or(99);
+        told.push(sentence(bytes[0], bytes[1], node, verdict));
+    }
+    assert_eq!(
+        told,
+        [
+            "Kind 1 at station 0: moved by rule 4, attempt begun.",
+            "Kind 2 at station 0, node 0: moved by rule 8, read noted.",
+            "Kind 2 at station 0, node 0: moved by rule 10, write noted.",
+            "Kind 1 at station 0: moved by rule 7, block committed.",
+            "Kind 1 at station 0: moved by rule 1, token put.",
+            "Kind 2 at station 0, node 0: refused by 14, no such station.",
+        ]
+    );
+}
+
+/// Bytes no sentence holds, each unlike its neighbours.
+fn pattern(length: usize) -> Vec<u8> {
+    (0x80..=0xFF).cycle().take(length).collect()
+}
+
+#[test]
+fn a_buffer_that_is_too_short_is_refused_and_left() {
+    // Among these are a short sentence, the longest, and bytes of no hall.
+    for (kind, verdict) in [
+        (1, Refused(0)),
+        (1, Moved(1)),
+        (255, Refused(15)),
+        (0, Moved(255)),
+    ] {
+        for length in 0..96 {
+            let mut buffer = pattern(length);
+            assert_eq!(
+                say(kind, 255, 255, verdict, &mut buffer),
+                Err(Refusal {
+                    number: 21,
+                    place: 0
+                }),
+                "{length} bytes"
+            );
+            assert_eq!(buffer, pattern(length));
+        }
+    }
+}
+
+#[test]
+fn a_sentence_stands_at_the_front_and_the_rest_is_left() {
+    let said = "Kind 2 at station 3, node 14: refused by 17, no move at this node.";
+    for length in [96, 97, 200, 1_000] {
+        // The buffer is lent out of the middle of more.
+        let mut expected = pattern(length + 20);
+        expected[10..10 + said.len()].copy_from_slice(said.as_bytes());
+        let mut all = pattern(length + 20);
+        let answer = say(2, 3, 14, Refused(17), &mut all[10..10 + length]);
+        assert_eq!(answer, Ok(said.len()), "{length} bytes");
+        assert_eq!(all, expected, "{length} bytes");
+    }
+}
+
+/// A second sentence in the same buffer: what is left of the first counts as
+/// the rest.
+#[test]
+fn a_shorter_sentence_after_a_longer_one() {
+    let mut buffer = [b'-'; 96];
+    let longer = "Kind 2 at station 0, node 0: refused by 255.";
+    let shorter = "Kind 1 at station 0: refused by 0.";
+    assert_eq!(say(2, 0, 0, Refused(255), &mut buffer), Ok(longer.len()));
+    assert_eq!(say(1, 0, 0, Refused(0), &mut buffer), Ok(shorter.len()));
+    let expected = [
+        shorter.as_bytes(),
+        &longer.as_bytes()[shorter.len()..],
+        &[b'-'; 96][longer.len()..],
+    ]
+    .concat();
+    assert_eq!(buffer[..], expected);
+}
+
+/// All kinds and all verdicts: what is written fits, and is one line of plain
+/// text.
+#[test]
+fn every_sentence_fits_and_is_plain_text() {
+    let mut longest = 0;
+    for (position, node) in [(0, 0), (1, 255), (99, 100), (255, 255)] {
+        for kind in 0..=255 {
+            for verdict in verdicts() {
+                let said = sentence(kind, position, node, verdict);
+                assert!(
+                    said.bytes().all(|byte| (b' '..=b'~').contains(&byte)),
+                    "{said:?}"
+                );
+                longest = longest.max(said.len());
+                let mut buffer = [0xFF; 96];
+                let answer = say(kind, position, node, verdict, &mut buffer);
+                assert_eq!(answer, Ok(said.len()));
+                assert_eq!(buffer[..said.len()], *said.as_bytes());
+                assert!(buffer[said.len()..].iter().all(|byte| *byte == 0xFF));
+            }
+        }
+    }
+    // Far below the limit: there is room for more to be named.
+    assert_eq!(longest, 73);
+    assert_eq!(SENTENCE_ROOM, 96);
+}
+
+#[test]
+fn with_kind_1_the_node_counts_for_nothing() {
+    for verdict in verdicts() {
+        for position in [0, 1, 63, 255] {
+            let without = sentence(1, position, 0, verdict);
+            for node in 1..=255 {
+                assert_eq!(sentence(1, position, node, verdict), without);
+            }
+        }
+    }
+}
+
+/// Numbers whose digits could run into those of a neighbour are among these.
+const DIGITS: [u8; 3] = [1, 11, 111];
+
+#[test]
+fn no_two_pairs_share_a_sentence() {
+    let mut pairs = HashSet::new();
+    for kind in 0..=255 {
+        for position in DIGITS {
+            for verdict in verdicts() {
+                // Of the nodes of kind 1 one will do.
+                pairs.insert((kind, position, 1, verdict));
+                if kind != 1 {
+                    pairs.insert((kind, position, 11, verdict));
+                }
+            }
+        }
+    }
+    for position in 0..=255 {
+        for verdict in verdicts() {
+            pairs.insert((1, position, 1, verdict));
+        }
+        for node in 0..=255 {
+            for verdict in DIGITS.into_iter().flat_map(|it| [Moved(it), Refused(it)]) {
+                pairs.insert((2, position, node, verdict));
+            }
+        }
+    }
+    assert!(pairs.len() > 1_000_000, "{}", pairs.len());
+    let sentences: HashSet<String> = pairs
+        .iter()
+        .map(|&(kind, position, node, verdict)| sentence(kind, position, node, verdict))
+        .collect();
+    assert_eq!(sentences.len(), pairs.len());
+}
+
+/// What a reader of the board learns: kind, position, node where there is one,
+/// and the verdict.
+type Read = (u8, u8, Option<u8>, Verdict);
+
+/// Reads a sentence back. It knows the words by the lists above alone.
+fn read(text: &str) -> Option<Read> {
+    let text = text.strip_prefix("Kind ")?.strip_suffix('.')?;
+    let (choice, verdict) = text.split_once(": ")?;
+    let (kind, place) = choice.split_once(" at station ")?;
+    let (position, node) = match place.split_once(", node ") {
+        Some((position, node)) => (position, Some(decimal(node)?)),
+        None => (place, None),
+    };
+    let verdict = match verdict.strip_prefix("moved by rule ") {
+        Some(rest) => Moved(number_with_words(rest, &RULES)?),
+        None => Refused(number_with_words(
+            verdict.strip_prefix("refused by ")?,
+            &REFUSALS,
+        )?),
+    };
+    Some((decimal(kind)?, decimal(position)?, node, verdict))
+}
+
+/// A byte in decimal, without zeros or a sign before it.
+fn decimal(text: &str) -> Option<u8> {
+    let number: u8 = text.parse().ok()?;
+    (number.to_string() == text).then_some(number)
+}
+
+/// A number with the words that it has in these sentences, or alone where none
+/// of them is its own.
+fn number_with_words(text: &str, sentences: &[&str]) -> Option<u8> {
+    let digits = text.split(',').next()?;
+    let number = decimal(digits)?;
+    let own = usize::from(number)
+        .checked_sub(1)
+        .and_then(|index| sentences.get(index));
+    let agrees = match own {
+        Some(own) => own.ends_with(&format!(" {text}.")),
+        None => text == digits,
+    };
+    agrees.then_some(number)
+}
+
+/// A byte as halls have them, or any byte.
+fn byte(random: &mut Random) -> u8 {
+    if random.percent(50) {
+        random.byte_below(24)
+    } else {
+        random.byte()
+    }
+}
+
+#[test]
+fn sentences_by_chance_are_read_back() {
+    let mut random = Random::new(50);
+    let mut of_kind_1 = 0;
+    let mut with_words = 0;
+    for _ in 0..300_000 {
+        let kind = if random.percent(30) {
+            1
+        } else {
+            byte(&mut random)
+        };
+        let (position, node, number) = (byte(&mut random), byte(&mut random), byte(&mut random));
+        let verdict = if random.percent(50) {
+            Moved(number)
+        } else {
+            Refused(number)
+        };
+        let said = sentence(kind, position, node, verdict);
+        let expected = Some((kind, position, (kind != 1).then_some(node), verdict));
+        assert_eq!(read(&said), expected, "{said}");
+        of_kind_1 += usize::from(kind == 1);
+        with_words += usize::from(said.matches(", ").count() > usize::from(kind != 1));
+        // With one byte of it changed it tells something else, or nothing.
+        let mut changed = said.into_bytes();
+        let at = random.below(changed.len());
+        let other = random.byte_between(b' ', b'~');
+        if changed[at] != other {
+            changed[at] = other;
+            let changed = String::from_utf8(changed).expect("plain text");
+            assert_ne!(read(&changed), expected, "{changed}");
+        }
+    }
+    assert!(of_kind_1 > 50_000, "{of_kind_1}");
+    assert!(with_words > 50_000, "{with_words}");
+}
