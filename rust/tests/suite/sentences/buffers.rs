@@ -50,7 +50,11 @@ fn lent(length: usize) -> u8 {
                 let buffer = &mut bytes[AROUND..AROUND + length];
                 let refused = ffi::sentence(choice, *moved, number, buffer, &mut written[1]);
                 assert_eq!((written[0], written[2]), (usize::MAX, usize::MAX));
-                assert_eq!((refused, written[1], bytes), expected, "{length} bytes lent");
+                assert_eq!(
+                    (refused, written[1], bytes),
+                    expected,
+                    "{length} bytes lent"
+                );
             }
             let mut bytes = vec![before; AROUND + length + AROUND];
             let safe = say_into(choice, answer, &mut bytes[AROUND..AROUND + length]);

@@ -29,8 +29,16 @@ fn of_every_rule() {
     ];
     for (rule, words) in (1..).zip(words) {
         let end = format!("moved by rule {rule}, {words}.");
-        gives([1, 5, 0], Moved(rule), &format!("Kind 1 at station 5 {end}"));
-        gives([2, 5, 3], Moved(rule), &format!("Kind 2 at station 5, node 3 {end}"));
+        gives(
+            [1, 5, 0],
+            Moved(rule),
+            &format!("Kind 1 at station 5 {end}"),
+        );
+        gives(
+            [2, 5, 3],
+            Moved(rule),
+            &format!("Kind 2 at station 5, node 3 {end}"),
+        );
     }
 }
 
@@ -60,8 +68,16 @@ fn of_every_refusal() {
     ];
     for (number, words) in (1..).zip(words) {
         let end = format!("met refusal {number}, {words}.");
-        gives([1, 5, 0], Refused(number), &format!("Kind 1 at station 5 {end}"));
-        gives([2, 5, 3], Refused(number), &format!("Kind 2 at station 5, node 3 {end}"));
+        gives(
+            [1, 5, 0],
+            Refused(number),
+            &format!("Kind 1 at station 5 {end}"),
+        );
+        gives(
+            [2, 5, 3],
+            Refused(number),
+            &format!("Kind 2 at station 5, node 3 {end}"),
+        );
     }
 }
 
@@ -69,11 +85,19 @@ fn of_every_refusal() {
 #[test]
 fn numbers_without_words() {
     for number in [0, 14, 15, 20, 21, 22, 99, 100, 255] {
-        gives([1, 0, 0], Moved(number), &format!("Kind 1 at station 0 moved by rule {number}."));
+        gives(
+            [1, 0, 0],
+            Moved(number),
+            &format!("Kind 1 at station 0 moved by rule {number}."),
+        );
     }
     // 21 is an answer to a buffer and not to a choice.
     for number in [0, 21, 22, 99, 100, 255] {
-        gives([1, 0, 0], Refused(number), &format!("Kind 1 at station 0 met refusal {number}."));
+        gives(
+            [1, 0, 0],
+            Refused(number),
+            &format!("Kind 1 at station 0 met refusal {number}."),
+        );
     }
 }
 
@@ -105,7 +129,11 @@ fn nodes() {
 #[test]
 fn the_node_of_kind_1() {
     for node in [0, 1, 2, 9, 10, 99, 100, 255] {
-        gives([1, 3, node], Moved(4), "Kind 1 at station 3 moved by rule 4, attempt begun.");
+        gives(
+            [1, 3, node],
+            Moved(4),
+            "Kind 1 at station 3 moved by rule 4, attempt begun.",
+        );
     }
     for kind in [0, 2, 3, 10, 11, 100, 101, 255] {
         gives(
@@ -119,20 +147,48 @@ fn the_node_of_kind_1() {
 /// Kinds that no hall takes, and answers that it never gives to a choice.
 #[test]
 fn pairs_that_no_hall_gives() {
-    gives([0, 0, 0], Moved(0), "Kind 0 at station 0, node 0 moved by rule 0.");
-    gives([0, 0, 0], Refused(0), "Kind 0 at station 0, node 0 met refusal 0.");
-    gives([255, 255, 255], Moved(255), "Kind 255 at station 255, node 255 moved by rule 255.");
-    gives([255, 255, 255], Refused(255), "Kind 255 at station 255, node 255 met refusal 255.");
+    gives(
+        [0, 0, 0],
+        Moved(0),
+        "Kind 0 at station 0, node 0 moved by rule 0.",
+    );
+    gives(
+        [0, 0, 0],
+        Refused(0),
+        "Kind 0 at station 0, node 0 met refusal 0.",
+    );
+    gives(
+        [255, 255, 255],
+        Moved(255),
+        "Kind 255 at station 255, node 255 moved by rule 255.",
+    );
+    gives(
+        [255, 255, 255],
+        Refused(255),
+        "Kind 255 at station 255, node 255 met refusal 255.",
+    );
     // A put inside an attempt, a read outside of one, a refusal of the table for
     // a station that none has.
-    gives([2, 0, 0], Moved(1), "Kind 2 at station 0, node 0 moved by rule 1, token put.");
-    gives([1, 0, 0], Moved(8), "Kind 1 at station 0 moved by rule 8, read noted.");
+    gives(
+        [2, 0, 0],
+        Moved(1),
+        "Kind 2 at station 0, node 0 moved by rule 1, token put.",
+    );
+    gives(
+        [1, 0, 0],
+        Moved(8),
+        "Kind 1 at station 0 moved by rule 8, read noted.",
+    );
     gives(
         [1, 255, 0],
         Refused(7),
         "Kind 1 at station 255 met refusal 7, table: term too large.",
     );
-    gives([1, 0, 0], Refused(12), "Kind 1 at station 0 met refusal 12, no such kind.");
+    gives(
+        [1, 0, 0],
+        Refused(12),
+        "Kind 1 at station 0 met refusal 12, no such kind.",
+    );
 }
 
 /// The longest there are still leave room.

@@ -92,8 +92,13 @@ fn every_position_with_every_node() {
 fn every_choice_of_a_hall_with_every_number() {
     longest((0..=255).flat_map(both).flat_map(|answer| {
         (0..=255).flat_map(move |byte| {
-            [[1, byte, 0], [2, byte, 100], [2, 100, byte], [255, byte, byte]]
-                .map(|choice| names_its_bytes(choice, answer))
+            [
+                [1, byte, 0],
+                [2, byte, 100],
+                [2, 100, byte],
+                [255, byte, byte],
+            ]
+            .map(|choice| names_its_bytes(choice, answer))
         })
     }));
 }

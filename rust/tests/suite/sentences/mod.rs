@@ -28,7 +28,7 @@ fn expected(choice: Choice, answer: Answer) -> String {
     sentence(kind, position, node, verdict)
 }
 
-/// By the bare call, in a buffer of this length that held this byte everywhere.
+/// By the bare call, in a buffer just long enough that held this byte everywhere.
 #[track_caller]
 fn bare(choice: Choice, moved: u8, number: u8, before: u8) -> ([u8; SENTENCE_BYTES], usize) {
     let mut bytes = [before; SENTENCE_BYTES];

@@ -79,13 +79,22 @@ impl Stepped {
             Verdict::Refused(number) => met.refusals[usize::from(number)] += 1,
         }
         let expected = sentence(kind, position, node, verdict);
-        assert_eq!(displayed(answer), expected, "{choice:?} on {:?}", self.table);
+        assert_eq!(
+            displayed(answer),
+            expected,
+            "{choice:?} on {:?}",
+            self.table
+        );
         let answered = match answer {
             Ok(moved) => (moved.choice, Verdict::Moved(moved.rule)),
             Err(refused) => (refused.choice, Verdict::Refused(refused.refusal.number)),
         };
         assert_eq!(answered, (choice, verdict));
-        assert!(self.hall == self.by_second, "{choice:?} on {:?}", self.table);
+        assert!(
+            self.hall == self.by_second,
+            "{choice:?} on {:?}",
+            self.table
+        );
     }
 }
 
@@ -137,7 +146,18 @@ fn of_the_edges() {
     }
 }
 
-/// Runs by chance, with choices among them that are refused.
+/// A choice by chance, most often one that is refused.
+fn any_choice(random: &mut Random) -> Second {
+    let position = random.byte_below(6);
+    let node = random.byte_below(5);
+    if random.percent(50) {
+        Second::Act { position }
+    } else {
+        Second::Inside { position, node }
+    }
+}
+
+/// Runs by chance, and in the halls that they reach choices by chance.
 #[test]
 fn by_chance() {
     let mut met = Met::default();
@@ -150,13 +170,16 @@ fn by_chance() {
         for choice in whole_choices(&list) {
             stepped.step(choice, &mut met);
         }
+        for _ in 0..10 {
+            stepped.step(any_choice(&mut random), &mut met);
+        }
     }
     say(&format!("sentences of steps: {met:?}"));
     for rule in 1..=13 {
-        assert!(met.rules[rule] >= 30, "rule {rule} too seldom: {met:?}");
+        assert!(met.rules[rule] >= 50, "rule {rule} too seldom: {met:?}");
     }
     for number in [14, 15, 16, 17, 18] {
-        assert!(met.refusals[number] >= 30, "{number} too seldom: {met:?}");
+        assert!(met.refusals[number] >= 50, "{number} too seldom: {met:?}");
     }
 }
 
@@ -205,10 +228,7 @@ fn the_source_of_a_refused_step() {
         (Refusal::START_NOT_LAST, 12)
     );
     let source = refused.source().expect("a source");
-    assert_eq!(
-        source.downcast_ref::<Refusal>(),
-        Some(&refused.refusal)
-    );
+    assert_eq!(source.downcast_ref::<Refusal>(), Some(&refused.refusal));
     assert_eq!(Refusal::from(refused), refused.refusal);
 }
 
