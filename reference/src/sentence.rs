@@ -19,7 +19,7 @@ pub enum Verdict {
 const RULES: &[&str] = &[
     "token put",
     "token taken",
-    "repeated take",
+    "token taken, repeats",
     "attempt begun",
     "attempt given up",
     "commit failed",
@@ -34,15 +34,15 @@ const RULES: &[&str] = &[
 
 /// The words of refusals 1 to 20, in order.
 const REFUSALS: &[&str] = &[
-    "table: no such kind",
+    "table: unknown record",
     "table: record cut short",
     "table: too many terms",
     "table: no such tray",
     "table: term not earlier",
-    "table: wrong term named",
+    "table: wrong term class",
     "table: term too large",
     "table: wrong tokens",
-    "table: start not last",
+    "table: no start at end",
     "hall: wrong length",
     "hall: not well formed",
     "no such kind",
@@ -52,7 +52,7 @@ const REFUSALS: &[&str] = &[
     "no such node",
     "no move at this node",
     "tray empty",
-    "hall full",
+    "too many stations",
     "tray full",
 ];
 
@@ -65,9 +65,9 @@ pub fn sentence(kind: u8, position: u8, node: u8, verdict: Verdict) -> String {
     };
     let verdict = match verdict {
         Verdict::Moved(rule) => format!("moved by rule {}", with_words(rule, RULES)),
-        Verdict::Refused(number) => format!("refused by {}", with_words(number, REFUSALS)),
+        Verdict::Refused(number) => format!("met refusal {}", with_words(number, REFUSALS)),
     };
-    format!("Kind {kind} at station {position}{node}: {verdict}.")
+    format!("Kind {kind} at station {position}{node} {verdict}.")
 }
 
 /// The number and, where it has some, its words; the first are those of 1.

@@ -12,14 +12,12 @@ use borrow.Author.Tests.{lt-ltb, le-ltb}
 use mir.Syntax.{w64}
 use mir.Val.{Fits}
 use Rattle.semantics.specs.Definitions.Report.{digits, decimal}
+use Rattle.theorems.proofs.Decimals.{tenth}
 use Rattle.buffer.specs.Splice.{written}
 use Rattle.buffer.proofs.Written.{written-none, written-next, written-length, written-twice}
 use Rattle.decimals.specs.Wrote.{Wrote}
 
 -- ---- digits
-
-tenth : (n m : ℕ) → n < 10 * m → n / 10 < m
-tenth n m l = omega arith
 
 -- more room for digits than are needed changes nothing
 digits-enough : (f n : ℕ) → n < 10 ^ suc f → digits (suc f) n ≡ digits (suc (suc f)) n
@@ -92,23 +90,3 @@ module _ (s : List ℕ) (at n : ℕ) (room : at + length (decimal n) ≤ length 
       pub last-written : (s₂ : List ℕ) (r d : ℕ) → d ≡ 48 + n % 10 → Wrote s₁ i (d ∷ []) s₂ r → Wrote s at (decimal n) s₂ r
       last-written s₂ r d e x =
           rw (more-digits n more (omega (arith, word))) (wrote-more s s₁ s₂ at i r (decimal (n / 10)) _ (omega arith) w (rw e at x))
-
--- ---- how many digits
-
-digits-short : (f k n : ℕ) → n < 10 ^ suc k → length (digits f n) ≤ suc k
-unfolding digits
-digits-short zero k n l = omega arith
-digits-short (suc f) zero n l = rw (lt-ltb n 10 (omega arith)) (omega arith)
-digits-short (suc f) (suc k) n l =
-    let m : n < 10 * 10 ^ suc k = simp unary-clauses (omega arith) in
-    go (ltb n 10) (digits-short f k (n / 10) (tenth n (10 ^ suc k) m))
-  where
-    go : (b : Bool) → length (digits f (n / 10)) ≤ suc k →
-        length (cond b ((48 + n) ∷ []) (digits f (n / 10) ++ ((48 + n % 10) ∷ []))) ≤ suc (suc k)
-    go true i = omega arith
-    go false i = let a = length-append (digits f (n / 10)) ((48 + n % 10) ∷ []) in omega arith
-
--- a number below a power of ten has at most as many digits as the power says
-pub decimal-short : (k n : ℕ) → n < 10 ^ suc k → length (decimal n) ≤ suc k
-unfolding decimal
-decimal-short k n l = digits-short 20 k n l

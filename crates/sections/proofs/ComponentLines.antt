@@ -24,7 +24,7 @@ use Rattle.storedlaws.proofs.Nodes.{few-nodes, leaf-bytes, past-fork}
 use Rattle.index.specs.Holds.{Holds}
 use Rattle.index.proofs.Holding.{hall-length, few-components, component-at, component-ok, component-ends, component-inside, component-here, kind-here, body-here, output-here, waiting-here, transaction-here, snapshot-sixteen, Waiting, takes, repeats, blocks}
 use Rattle.decimals.specs.Wrote.{Wrote}
-use Rattle.decimals.proofs.Digits.{decimal-short}
+use Rattle.theorems.proofs.Decimals.{decimal-short}
 use Rattle.lines.specs.Lines.{numberLine}
 use Rattle.sections.specs.Limits.{componentMost, componentsMost}
 use Rattle.sections.specs.Printed.{Printed, ComponentsHeld, ComponentPrinted, ComponentsPrinted}

@@ -11,7 +11,7 @@ use lib.Dec.{ltb}
 use Rattle.semantics.specs.Definitions.Run.{net}
 use Rattle.semantics.specs.Definitions.Report.{decimal, signed, line, channelLine}
 use Rattle.lines.specs.Lines.{wordsOf, numberLine}
-use Rattle.decimals.proofs.Digits.{decimal-short}
+use Rattle.theorems.proofs.Decimals.{decimal-short}
 
 module _ (letter a b c : ℕ) where
   pub line-one : numberLine letter (a ∷ b ∷ c ∷ []) 1 ≡ line letter (decimal a ∷ [])

@@ -12,7 +12,7 @@ use Rattle.semantics.specs.Definitions.Report.{runLine, countersLine}
 use Rattle.counters.specs.declared.Counters.{Counters}
 use Rattle.counters.specs.Counted.{countersOf}
 use Rattle.decimals.specs.Wrote.{Wrote}
-use Rattle.decimals.proofs.Digits.{decimal-short}
+use Rattle.theorems.proofs.Decimals.{decimal-short}
 use Rattle.lines.specs.Lines.{numberLine}
 use Rattle.sections.specs.Limits.{runMost, countersMost}
 use Rattle.sections.specs.Printed.{Printed}

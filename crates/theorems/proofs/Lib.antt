@@ -37,5 +37,7 @@ pub mod CallConditions
 pub mod CallLists
 pub mod Steps
 pub mod Suggestions
+pub mod Decimals
+pub mod Sentences
 pub mod Theorems
 pub mod PrintedRun

@@ -12,6 +12,8 @@ use Rattle.semantics.specs.Checks.Conditions.{ReadAsStated, TableNumbers, Missi
 use Rattle.semantics.specs.Checks.Answers.{AnswersReported, AnswersDiffer, ZeroIsAccepted}
 use Rattle.semantics.specs.Checks.CallLists.{CallBytes, CallsInTurn, CallsCut}
 use Rattle.semantics.specs.Checks.Steps.{StepCallsAsStated, StepCallNumbers, NodeOfKind1, StepIsCall}
+use Rattle.semantics.specs.Claims.Sentences.{SentencesAreShort, SentencesArePrintable, SentencesTellApart}
+use Rattle.semantics.specs.Checks.Sentences.{WordsEnd, ShortBuffersRefused, SentenceStands, RoomIsLeft, SentencesWorked, SentenceInBytes, CallsWorked}
 use mathlib.Core.Path.{refl, sym, ap, _∙_}
 use mathlib.Core.List.{map}
 use Rattle.semantics.specs.Definitions.Stored.{bytesOf, configurationOf}
@@ -51,6 +53,8 @@ use Rattle.theorems.proofs.Suggestions as Suggesting
 use Rattle.theorems.proofs.RecordShapes as Shapes
 use Rattle.theorems.proofs.Limits as Bounds
 use Rattle.theorems.proofs.PrintedRun as Prints
+use Rattle.theorems.proofs.Sentences as Saying
+use Rattle.semantics.proofs.Sentences as WorkedSentences
 
 -- ---- demand 2
 
@@ -287,3 +291,35 @@ printed-refused = Prints.printed-refused
 
 pub printed-as-calls : PrintedAsCalls
 printed-as-calls = Prints.printed-as-calls
+
+-- ---- sentences
+
+pub sentences-are-short : SentencesAreShort
+sentences-are-short = Saying.sentences-are-short
+
+pub sentences-are-printable : SentencesArePrintable
+sentences-are-printable = Saying.sentences-are-printable
+
+pub sentences-tell-apart : SentencesTellApart
+sentences-tell-apart = Saying.sentences-tell-apart
+
+pub words-end : WordsEnd
+words-end = Saying.words-end-behind
+
+pub short-buffers-refused : ShortBuffersRefused
+short-buffers-refused = Saying.short-buffers-refused
+
+pub sentence-stands : SentenceStands
+sentence-stands = Saying.sentence-stands
+
+pub room-is-left : RoomIsLeft
+room-is-left = Saying.room-is-left
+
+pub sentences-worked : SentencesWorked
+sentences-worked = WorkedSentences.sentences-worked
+
+pub sentence-in-bytes : SentenceInBytes
+sentence-in-bytes = WorkedSentences.sentence-in-bytes
+
+pub calls-worked : CallsWorked
+calls-worked = WorkedSentences.calls-worked

@@ -112,11 +112,11 @@ fn words_of_the_byte_forms() {
     assert!(rules.iter().map(|(number, _)| *number).eq(1..=13));
     assert!(refusals.iter().map(|(number, _)| *number).eq(1..=20));
     for (rule, words) in rules {
-        let expected = format!("Kind 1 at station 0: moved by rule {rule}, {words}.");
+        let expected = format!("Kind 1 at station 0 moved by rule {rule}, {words}.");
         assert_eq!(sentence(1, 0, 0, Verdict::Moved(rule)), expected);
     }
     for (number, words) in refusals {
-        let expected = format!("Kind 1 at station 0: refused by {number}, {words}.");
+        let expected = format!("Kind 1 at station 0 met refusal {number}, {words}.");
         assert_eq!(sentence(1, 0, 0, Verdict::Refused(number)), expected);
     }
 }
@@ -134,7 +134,7 @@ fn a_wrong_example_is_noticed() {
 
 #[test]
 fn a_sentence_for_something_else_is_noticed() {
-    let said = "Kind 2 at station 3, node 14: refused by 17, no move at this node.";
+    let said = "Kind 2 at station 3, node 14 met refusal 17, no move at this node.";
     let block = |line: &str| [line.to_string(), said.to_string()];
     assert!(says(&block("2 3 14 refused 17")));
     for line in [

@@ -14,43 +14,43 @@ use Verdict::{Moved, Refused};
 
 /// The sentence of each rule, 1 to 13, for one choice.
 const RULES: [&str; 13] = [
-    "Kind 1 at station 5: moved by rule 1, token put.",
-    "Kind 1 at station 5: moved by rule 2, token taken.",
-    "Kind 1 at station 5: moved by rule 3, repeated take.",
-    "Kind 1 at station 5: moved by rule 4, attempt begun.",
-    "Kind 1 at station 5: moved by rule 5, attempt given up.",
-    "Kind 1 at station 5: moved by rule 6, commit failed.",
-    "Kind 1 at station 5: moved by rule 7, block committed.",
-    "Kind 1 at station 5: moved by rule 8, read noted.",
-    "Kind 1 at station 5: moved by rule 9, read failed.",
-    "Kind 1 at station 5: moved by rule 10, write noted.",
-    "Kind 1 at station 5: moved by rule 11, two ways opened.",
-    "Kind 1 at station 5: moved by rule 12, second way kept.",
-    "Kind 1 at station 5: moved by rule 13, first way kept.",
+    "Kind 1 at station 5 moved by rule 1, token put.",
+    "Kind 1 at station 5 moved by rule 2, token taken.",
+    "Kind 1 at station 5 moved by rule 3, token taken, repeats.",
+    "Kind 1 at station 5 moved by rule 4, attempt begun.",
+    "Kind 1 at station 5 moved by rule 5, attempt given up.",
+    "Kind 1 at station 5 moved by rule 6, commit failed.",
+    "Kind 1 at station 5 moved by rule 7, block committed.",
+    "Kind 1 at station 5 moved by rule 8, read noted.",
+    "Kind 1 at station 5 moved by rule 9, read failed.",
+    "Kind 1 at station 5 moved by rule 10, write noted.",
+    "Kind 1 at station 5 moved by rule 11, two ways opened.",
+    "Kind 1 at station 5 moved by rule 12, second way kept.",
+    "Kind 1 at station 5 moved by rule 13, first way kept.",
 ];
 
 /// The sentence of each refusal, 1 to 20, for another.
 const REFUSALS: [&str; 20] = [
-    "Kind 2 at station 6, node 7: refused by 1, table: no such kind.",
-    "Kind 2 at station 6, node 7: refused by 2, table: record cut short.",
-    "Kind 2 at station 6, node 7: refused by 3, table: too many terms.",
-    "Kind 2 at station 6, node 7: refused by 4, table: no such tray.",
-    "Kind 2 at station 6, node 7: refused by 5, table: term not earlier.",
-    "Kind 2 at station 6, node 7: refused by 6, table: wrong term named.",
-    "Kind 2 at station 6, node 7: refused by 7, table: term too large.",
-    "Kind 2 at station 6, node 7: refused by 8, table: wrong tokens.",
-    "Kind 2 at station 6, node 7: refused by 9, table: start not last.",
-    "Kind 2 at station 6, node 7: refused by 10, hall: wrong length.",
-    "Kind 2 at station 6, node 7: refused by 11, hall: not well formed.",
-    "Kind 2 at station 6, node 7: refused by 12, no such kind.",
-    "Kind 2 at station 6, node 7: refused by 13, choice cut short.",
-    "Kind 2 at station 6, node 7: refused by 14, no such station.",
-    "Kind 2 at station 6, node 7: refused by 15, station cannot do this.",
-    "Kind 2 at station 6, node 7: refused by 16, no such node.",
-    "Kind 2 at station 6, node 7: refused by 17, no move at this node.",
-    "Kind 2 at station 6, node 7: refused by 18, tray empty.",
-    "Kind 2 at station 6, node 7: refused by 19, hall full.",
-    "Kind 2 at station 6, node 7: refused by 20, tray full.",
+    "Kind 2 at station 6, node 7 met refusal 1, table: unknown record.",
+    "Kind 2 at station 6, node 7 met refusal 2, table: record cut short.",
+    "Kind 2 at station 6, node 7 met refusal 3, table: too many terms.",
+    "Kind 2 at station 6, node 7 met refusal 4, table: no such tray.",
+    "Kind 2 at station 6, node 7 met refusal 5, table: term not earlier.",
+    "Kind 2 at station 6, node 7 met refusal 6, table: wrong term class.",
+    "Kind 2 at station 6, node 7 met refusal 7, table: term too large.",
+    "Kind 2 at station 6, node 7 met refusal 8, table: wrong tokens.",
+    "Kind 2 at station 6, node 7 met refusal 9, table: no start at end.",
+    "Kind 2 at station 6, node 7 met refusal 10, hall: wrong length.",
+    "Kind 2 at station 6, node 7 met refusal 11, hall: not well formed.",
+    "Kind 2 at station 6, node 7 met refusal 12, no such kind.",
+    "Kind 2 at station 6, node 7 met refusal 13, choice cut short.",
+    "Kind 2 at station 6, node 7 met refusal 14, no such station.",
+    "Kind 2 at station 6, node 7 met refusal 15, station cannot do this.",
+    "Kind 2 at station 6, node 7 met refusal 16, no such node.",
+    "Kind 2 at station 6, node 7 met refusal 17, no move at this node.",
+    "Kind 2 at station 6, node 7 met refusal 18, tray empty.",
+    "Kind 2 at station 6, node 7 met refusal 19, too many stations.",
+    "Kind 2 at station 6, node 7 met refusal 20, tray full.",
 ];
 
 /// Every verdict that there is.
@@ -71,11 +71,11 @@ fn every_number_that_has_words() {
 #[test]
 fn any_other_number_stands_alone() {
     for number in (0..=0).chain(14..=255) {
-        let expected = format!("Kind 1 at station 5: moved by rule {number}.");
+        let expected = format!("Kind 1 at station 5 moved by rule {number}.");
         assert_eq!(sentence(1, 5, 0, Moved(number)), expected);
     }
     for number in (0..=0).chain(21..=255) {
-        let expected = format!("Kind 2 at station 6, node 7: refused by {number}.");
+        let expected = format!("Kind 2 at station 6, node 7 met refusal {number}.");
         assert_eq!(sentence(2, 6, 7, Refused(number)), expected);
     }
 }
@@ -96,44 +96,44 @@ fn edges_of_the_kind() {
         (
             (1, 0, 7),
             Moved(6),
-            "Kind 1 at station 0: moved by rule 6, commit failed.",
+            "Kind 1 at station 0 moved by rule 6, commit failed.",
         ),
         (
             (1, 255, 255),
             Refused(18),
-            "Kind 1 at station 255: refused by 18, tray empty.",
+            "Kind 1 at station 255 met refusal 18, tray empty.",
         ),
         // Every other kind has one, also a kind that no hall takes.
         (
             (0, 0, 0),
             Refused(12),
-            "Kind 0 at station 0, node 0: refused by 12, no such kind.",
+            "Kind 0 at station 0, node 0 met refusal 12, no such kind.",
         ),
         (
             (2, 0, 0),
             Moved(8),
-            "Kind 2 at station 0, node 0: moved by rule 8, read noted.",
+            "Kind 2 at station 0, node 0 moved by rule 8, read noted.",
         ),
         (
             (3, 63, 14),
             Refused(12),
-            "Kind 3 at station 63, node 14: refused by 12, no such kind.",
+            "Kind 3 at station 63, node 14 met refusal 12, no such kind.",
         ),
         (
             (255, 0, 0),
             Moved(13),
-            "Kind 255 at station 0, node 0: moved by rule 13, first way kept.",
+            "Kind 255 at station 0, node 0 moved by rule 13, first way kept.",
         ),
         // Kinds that begin or end with a 1 are not kind 1.
         (
             (10, 1, 1),
             Moved(1),
-            "Kind 10 at station 1, node 1: moved by rule 1, token put.",
+            "Kind 10 at station 1, node 1 moved by rule 1, token put.",
         ),
         (
             (101, 1, 1),
             Moved(1),
-            "Kind 101 at station 1, node 1: moved by rule 1, token put.",
+            "Kind 101 at station 1, node 1 moved by rule 1, token put.",
         ),
     ]);
 }
@@ -145,50 +145,50 @@ fn edges_of_the_answer() {
         (
             (0, 0, 0),
             Moved(0),
-            "Kind 0 at station 0, node 0: moved by rule 0.",
+            "Kind 0 at station 0, node 0 moved by rule 0.",
         ),
-        ((1, 0, 0), Refused(0), "Kind 1 at station 0: refused by 0."),
+        ((1, 0, 0), Refused(0), "Kind 1 at station 0 met refusal 0."),
         // Around the last rule.
         (
             (1, 0, 0),
             Moved(13),
-            "Kind 1 at station 0: moved by rule 13, first way kept.",
+            "Kind 1 at station 0 moved by rule 13, first way kept.",
         ),
         (
             (1, 0, 0),
             Refused(13),
-            "Kind 1 at station 0: refused by 13, choice cut short.",
+            "Kind 1 at station 0 met refusal 13, choice cut short.",
         ),
         (
             (1, 0, 0),
             Moved(14),
-            "Kind 1 at station 0: moved by rule 14.",
+            "Kind 1 at station 0 moved by rule 14.",
         ),
         (
             (1, 0, 0),
             Refused(14),
-            "Kind 1 at station 0: refused by 14, no such station.",
+            "Kind 1 at station 0 met refusal 14, no such station.",
         ),
         // Around the last refusal that has words; that of the buffer has none.
         (
             (1, 0, 0),
             Moved(20),
-            "Kind 1 at station 0: moved by rule 20.",
+            "Kind 1 at station 0 moved by rule 20.",
         ),
         (
             (1, 0, 0),
             Refused(20),
-            "Kind 1 at station 0: refused by 20, tray full.",
+            "Kind 1 at station 0 met refusal 20, tray full.",
         ),
         (
             (1, 0, 0),
             Moved(21),
-            "Kind 1 at station 0: moved by rule 21.",
+            "Kind 1 at station 0 moved by rule 21.",
         ),
         (
             (1, 0, 0),
             Refused(21),
-            "Kind 1 at station 0: refused by 21.",
+            "Kind 1 at station 0 met refusal 21.",
         ),
     ]);
 }
@@ -200,39 +200,39 @@ fn edges_of_the_digits() {
         (
             (9, 10, 100),
             Moved(99),
-            "Kind 9 at station 10, node 100: moved by rule 99.",
+            "Kind 9 at station 10, node 100 moved by rule 99.",
         ),
         (
             (100, 9, 10),
             Refused(100),
-            "Kind 100 at station 9, node 10: refused by 100.",
+            "Kind 100 at station 9, node 10 met refusal 100.",
         ),
         // The highest bytes.
         (
             (1, 255, 255),
             Moved(255),
-            "Kind 1 at station 255: moved by rule 255.",
+            "Kind 1 at station 255 moved by rule 255.",
         ),
         (
             (255, 255, 255),
             Moved(255),
-            "Kind 255 at station 255, node 255: moved by rule 255.",
+            "Kind 255 at station 255, node 255 moved by rule 255.",
         ),
         (
             (255, 255, 255),
             Refused(255),
-            "Kind 255 at station 255, node 255: refused by 255.",
+            "Kind 255 at station 255, node 255 met refusal 255.",
         ),
         // The longest sentences.
         (
             (255, 255, 255),
             Refused(15),
-            "Kind 255 at station 255, node 255: refused by 15, station cannot do this.",
+            "Kind 255 at station 255, node 255 met refusal 15, station cannot do this.",
         ),
         (
             (255, 255, 255),
             Refused(5),
-            "Kind 255 at station 255, node 255: refused by 5, table: term not earlier.",
+            "Kind 255 at station 255, node 255 met refusal 5, table: term not earlier.",
         ),
     ]);
 }
@@ -255,12 +255,12 @@ fn a_run_told_in_sentences() {
     assert_eq!(
         told,
         [
-            "Kind 1 at station 0: moved by rule 4, attempt begun.",
-            "Kind 2 at station 0, node 0: moved by rule 8, read noted.",
-            "Kind 2 at station 0, node 0: moved by rule 10, write noted.",
-            "Kind 1 at station 0: moved by rule 7, block committed.",
-            "Kind 1 at station 0: moved by rule 1, token put.",
-            "Kind 2 at station 0, node 0: refused by 14, no such station.",
+            "Kind 1 at station 0 moved by rule 4, attempt begun.",
+            "Kind 2 at station 0, node 0 moved by rule 8, read noted.",
+            "Kind 2 at station 0, node 0 moved by rule 10, write noted.",
+            "Kind 1 at station 0 moved by rule 7, block committed.",
+            "Kind 1 at station 0 moved by rule 1, token put.",
+            "Kind 2 at station 0, node 0 met refusal 14, no such station.",
         ]
     );
 }
@@ -296,7 +296,7 @@ fn a_buffer_that_is_too_short_is_refused_and_left() {
 
 #[test]
 fn a_sentence_stands_at_the_front_and_the_rest_is_left() {
-    let said = "Kind 2 at station 3, node 14: refused by 17, no move at this node.";
+    let said = "Kind 2 at station 3, node 14 met refusal 17, no move at this node.";
     for length in [96, 97, 200, 1_000] {
         // The buffer is lent out of the middle of more.
         let mut expected = pattern(length + 20);
@@ -313,8 +313,8 @@ fn a_sentence_stands_at_the_front_and_the_rest_is_left() {
 #[test]
 fn a_shorter_sentence_after_a_longer_one() {
     let mut buffer = [b'-'; 96];
-    let longer = "Kind 2 at station 0, node 0: refused by 255.";
-    let shorter = "Kind 1 at station 0: refused by 0.";
+    let longer = "Kind 2 at station 0, node 0 met refusal 255.";
+    let shorter = "Kind 1 at station 0 met refusal 0.";
     assert_eq!(say(2, 0, 0, Refused(255), &mut buffer), Ok(longer.len()));
     assert_eq!(say(1, 0, 0, Refused(0), &mut buffer), Ok(shorter.len()));
     let expected = [
@@ -407,18 +407,16 @@ type Read = (u8, u8, Option<u8>, Verdict);
 /// Reads a sentence back. It knows the words by the lists above alone.
 fn read(text: &str) -> Option<Read> {
     let text = text.strip_prefix("Kind ")?.strip_suffix('.')?;
-    let (choice, verdict) = text.split_once(": ")?;
+    let (choice, verdict) = if let Some((choice, rest)) = text.split_once(" moved by rule ") {
+        (choice, Moved(number_with_words(rest, &RULES)?))
+    } else {
+        let (choice, rest) = text.split_once(" met refusal ")?;
+        (choice, Refused(number_with_words(rest, &REFUSALS)?))
+    };
     let (kind, place) = choice.split_once(" at station ")?;
     let (position, node) = match place.split_once(", node ") {
         Some((position, node)) => (position, Some(decimal(node)?)),
         None => (place, None),
-    };
-    let verdict = match verdict.strip_prefix("moved by rule ") {
-        Some(rest) => Moved(number_with_words(rest, &RULES)?),
-        None => Refused(number_with_words(
-            verdict.strip_prefix("refused by ")?,
-            &REFUSALS,
-        )?),
     };
     Some((decimal(kind)?, decimal(position)?, node, verdict))
 }

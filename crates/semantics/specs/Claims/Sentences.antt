@@ -1,5 +1,5 @@
--- What is claimed of the sentences (document 02, Q-1): each is short and printable, and no two choices with their answers
--- have the same. Kind, position, node and number may be any bytes.
+-- What is claimed of the sentences (document 02, Q-1): each is short and printable, and no two choices with their
+-- answers share one. Kind, position, node and number may be any bytes, whether a hall can give them or not.
 -- Assumes nothing.
 use Prim.Native.Nat.{ℕ, _≤_}
 use mathlib.Core.Path.{_≡_}
@@ -8,30 +8,29 @@ use mathlib.Core.List.{List, [], _∷_}
 use lib.ListN.{length}
 use Rattle.semantics.specs.Definitions.Basics.{All, Bytes}
 use Rattle.semantics.specs.Definitions.Moves.{Reply, movedBy, refusedBy}
-use Rattle.semantics.specs.Definitions.Sentence.{sentence, sentenceBytes}
+use Rattle.semantics.specs.Definitions.Sentence.{sentence}
 
 -- the number of a rule or of a refusal
 abbrev pub replyNumber : Reply → ℕ
 replyNumber (movedBy n) = n
 replyNumber (refusedBy n) = n
 
--- bytes, whether a hall can give them or not
-abbrev pub FromBytes : (k p n : ℕ) → Reply → Type 0
-FromBytes k p n a = Bytes (k ∷ p ∷ n ∷ replyNumber a ∷ [])
+abbrev pub AllBytes : (k p n : ℕ) → Reply → Type 0
+AllBytes k p n a = Bytes (k ∷ p ∷ n ∷ replyNumber a ∷ [])
 
 -- at most 96 bytes
 unfoldable pub SentencesAreShort : Type 0
 unfolding sentence
-SentencesAreShort = (k p n : ℕ) (a : Reply) → FromBytes k p n a → length (sentence k p n a) ≤ sentenceBytes
+SentencesAreShort = (k p n : ℕ) (a : Reply) → AllBytes k p n a → length (sentence k p n a) ≤ 96
 
 -- printable ASCII, from the space to ~, and so no newline
 unfoldable pub SentencesArePrintable : Type 0
 unfolding sentence
 SentencesArePrintable =
-    (k p n : ℕ) (a : Reply) → FromBytes k p n a → All (λ b. (32 ≤ b) × (b ≤ 126)) (sentence k p n a)
+    (k p n : ℕ) (a : Reply) → AllBytes k p n a → All (λ b. (32 ≤ b) × (b ≤ 126)) (sentence k p n a)
 
 -- the same choice and the same answer; of kind 1 whatever the nodes
-pub record Same (k p n : ℕ) (a : Reply) (k′ p′ n′ : ℕ) (a′ : Reply) : Type 0 where
+pub record SameChoiceAndReply (k p n : ℕ) (a : Reply) (k′ p′ n′ : ℕ) (a′ : Reply) : Type 0 where
   pub kind : k ≡ k′
   pub position : p ≡ p′
   pub node : ¬ (k ≡ 1) → n ≡ n′
@@ -41,5 +40,5 @@ pub record Same (k p n : ℕ) (a : Reply) (k′ p′ n′ : ℕ) (a′ : Reply) 
 unfoldable pub SentencesTellApart : Type 0
 unfolding sentence
 SentencesTellApart =
-    (k p n : ℕ) (a : Reply) (k′ p′ n′ : ℕ) (a′ : Reply) → FromBytes k p n a → FromBytes k′ p′ n′ a′ →
-    (sentence k p n a ≡ sentence k′ p′ n′ a′) ↔ Same k p n a k′ p′ n′ a′
+    (k p n : ℕ) (a : Reply) (k′ p′ n′ : ℕ) (a′ : Reply) → AllBytes k p n a → AllBytes k′ p′ n′ a′ →
+    (sentence k p n a ≡ sentence k′ p′ n′ a′) ↔ SameChoiceAndReply k p n a k′ p′ n′ a′

@@ -6,6 +6,7 @@ use mathlib.Core.Bool.{Bool, true, false, cond}
 use mathlib.Core.List.{List, [], _∷_, _++_}
 use lib.ListN.{length, drop}
 use lib.Dec.{ltb, eqb}
+use Rattle.semantics.specs.Definitions.Layout.{sentenceRoom}
 use Rattle.semantics.specs.Definitions.Basics.{ascii}
 use Rattle.semantics.specs.Definitions.Moves.{Reply, movedBy, refusedBy}
 use Rattle.semantics.specs.Definitions.Report.{decimal}
@@ -15,41 +16,47 @@ use Rattle.semantics.specs.Definitions.Report.{decimal}
 -- of the rules, from 1 on
 unfoldable pub ruleWords : List String
 ruleWords =
-    "token put" ∷ "token taken" ∷ "repeated take" ∷ "attempt begun" ∷ "attempt given up" ∷ "commit failed" ∷
+    "token put" ∷ "token taken" ∷ "token taken, repeats" ∷ "attempt begun" ∷ "attempt given up" ∷ "commit failed" ∷
     "block committed" ∷ "read noted" ∷ "read failed" ∷ "write noted" ∷ "two ways opened" ∷ "second way kept" ∷
     "first way kept" ∷ []
 
 -- of the refusals, from 1 on: those of the table, of the hall, of the choice
 unfoldable pub refusalWords : List String
 refusalWords =
-    "table: no such kind" ∷ "table: record cut short" ∷ "table: too many terms" ∷ "table: no such tray" ∷
-    "table: term not earlier" ∷ "table: wrong term named" ∷ "table: term too large" ∷ "table: wrong tokens" ∷
-    "table: start not last" ∷ "hall: wrong length" ∷ "hall: not well formed" ∷ "no such kind" ∷ "choice cut short" ∷
+    "table: unknown record" ∷ "table: record cut short" ∷ "table: too many terms" ∷ "table: no such tray" ∷
+    "table: term not earlier" ∷ "table: wrong term class" ∷ "table: term too large" ∷ "table: wrong tokens" ∷
+    "table: no start at end" ∷ "hall: wrong length" ∷ "hall: not well formed" ∷ "no such kind" ∷ "choice cut short" ∷
     "no such station" ∷ "station cannot do this" ∷ "no such node" ∷ "no move at this node" ∷ "tray empty" ∷
-    "hall full" ∷ "tray full" ∷ []
+    "too many stations" ∷ "tray full" ∷ []
 
 -- the words for a number, behind a comma; a number that has none stands alone
 unfoldable pub wordsFor : List String → ℕ → List ℕ
 unfolding ascii
 wordsFor [] n = []
 wordsFor (w ∷ ws) zero = []
-wordsFor (w ∷ ws) (suc n) = cond (eqb n 0) (ascii ", " ++ ascii w) (wordsFor ws n)
+wordsFor (w ∷ ws) (suc zero) = ascii ", " ++ ascii w
+wordsFor (w ∷ ws) (suc (suc n)) = wordsFor ws (suc n)
 
 -- ---- the sentence
 
+-- a text and a number behind it
+unfoldable pub named : String → ℕ → List ℕ
+unfolding ascii decimal
+named text n = ascii text ++ decimal n
+
 -- kind 1 has no node: one that is handed in counts for nothing
 unfoldable pub nodeNamed : (kind node : ℕ) → List ℕ
-unfolding ascii decimal
-nodeNamed k n = cond (eqb k 1) [] (ascii ", node " ++ decimal n)
+unfolding named
+nodeNamed k n = cond (eqb k 1) [] (named ", node " n)
 
 unfoldable pub choiceNamed : (kind position node : ℕ) → List ℕ
-unfolding ascii decimal nodeNamed
-choiceNamed k p n = ascii "Kind " ++ (decimal k ++ (ascii " at station " ++ (decimal p ++ nodeNamed k n)))
+unfolding named nodeNamed
+choiceNamed k p n = named "Kind " k ++ (named " at station " p ++ nodeNamed k n)
 
 unfoldable pub replyNamed : Reply → List ℕ
-unfolding ascii decimal wordsFor ruleWords refusalWords
-replyNamed (movedBy n) = ascii ": moved by rule " ++ (decimal n ++ wordsFor ruleWords n)
-replyNamed (refusedBy n) = ascii ": refused by " ++ (decimal n ++ wordsFor refusalWords n)
+unfolding named wordsFor ruleWords refusalWords
+replyNamed (movedBy n) = named " moved by rule " n ++ wordsFor ruleWords n
+replyNamed (refusedBy n) = named " met refusal " n ++ wordsFor refusalWords n
 
 unfoldable pub sentence : (kind position node : ℕ) → Reply → List ℕ
 unfolding ascii choiceNamed replyNamed
@@ -57,15 +64,12 @@ sentence k p n a = choiceNamed k p n ++ (replyNamed a ++ ascii ".")
 
 -- ---- the call
 
--- the buffer that has room for every sentence
-abbrev pub sentenceBytes : ℕ
-sentenceBytes = 96
-
+-- the sentence's length, or a refusal
 pub data SentenceAnswer : Type 0 where
   told : (length : ℕ) → SentenceAnswer
   notTold : (number place : ℕ) → SentenceAnswer
 
--- and every byte of the lent buffer afterwards
+-- the answer, and every byte of the lent buffer afterwards
 pub record SentenceCall : Type 0 where
   pub answer : SentenceAnswer
   pub buffer : List ℕ
@@ -75,5 +79,5 @@ unfoldable pub sentenceCall : (kind position node : ℕ) → Reply → (buffer :
 unfolding sentence
 sentenceCall k p n a buffer =
     let s = sentence k p n a in
-    cond (ltb (length buffer) sentenceBytes) (record { answer = notTold 21 0; buffer = buffer })
+    cond (ltb (length buffer) sentenceRoom) (record { answer = notTold 21 0; buffer = buffer })
     (record { answer = told (length s); buffer = s ++ drop (length s) buffer })

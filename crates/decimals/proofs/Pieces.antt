@@ -1,0 +1,39 @@
+-- A text written piece by piece.
+-- Assumes nothing.
+use Prim.Native.Nat.{ℕ, _+_, _≤_}
+use native.Mathlib.Omega.{arith}
+use mathlib.Core.List.{List, [], _++_, append-assoc, append-nil}
+use lib.ListN.{length, length-append}
+use Rattle.decimals.specs.Wrote.{Wrote}
+use Rattle.decimals.proofs.Digits.{wrote-more, wrote-length}
+
+-- the first pieces of a text are written from an offset on, and there is room for all of it
+pub record Begun (s₀ : List ℕ) (at : ℕ) (v rest : List ℕ) (s : List ℕ) (end : ℕ) : Type 0 where
+  pub room : at + length (v ++ rest) ≤ length s₀
+  pub wrote : Wrote s₀ at v s end
+
+module _ (s₀ : List ℕ) (at : ℕ) (v w rest s : List ℕ) (end : ℕ) (x : Begun s₀ at v (w ++ rest) s end) where
+  pub piece-fits : end + length w ≤ length s
+  piece-fits =
+      let a = length-append v (w ++ rest) in
+      let b = length-append w rest in
+      let r = x .room in
+      let l = wrote-length s₀ s at end v (omega arith) (x .wrote) in
+      let e = x .wrote .end in omega arith
+
+  pub piece-more : (s₁ : List ℕ) (i : ℕ) → Wrote s end w s₁ i → Begun s₀ at (v ++ w) rest s₁ i
+  piece-more s₁ i y =
+      let r = x .room in
+      record {
+        room = rw (append-assoc v w rest) r;
+        wrote = wrote-more s₀ s s₁ at end i v w (let a = length-append v (w ++ rest) in omega arith) (x .wrote) y;
+      }
+
+-- ---- two pieces
+
+module _ (s : List ℕ) (at : ℕ) (v w s₁ : List ℕ) (i : ℕ) where
+  pub second-fits : at + length (v ++ w) ≤ length s → Wrote s at v s₁ i → i + length w ≤ length s₁
+  second-fits room a = piece-fits s at v w [] s₁ i (record { room = rw append-nil room; wrote = a })
+
+  pub both-written : at + length (v ++ w) ≤ length s → Wrote s at v s₁ i → (s₂ : List ℕ) (r : ℕ) → Wrote s₁ i w s₂ r → Wrote s at (v ++ w) s₂ r
+  both-written room a s₂ r b = (piece-more s at v w [] s₁ i (record { room = rw append-nil room; wrote = a }) s₂ r b) .wrote

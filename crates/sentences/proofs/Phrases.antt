@@ -1,0 +1,147 @@
+-- Phrases one behind another: each stands from its start on, up to the next one's.
+-- Assumes nothing.
+use Prim.Native.Nat.{ℕ, zero, suc, _+_, _-_, _≤_, _<_}
+use Prim.Native.String.{String}
+use native.Mathlib.Omega.{arith}
+use native.Mathlib.Numerals.{add-one}
+use mathlib.Core.Path.{_≡_, refl, sym, ap, _∙_}
+use mathlib.Core.Bool.{Bool, true, false, cond}
+use mathlib.Core.List.{List, [], _∷_, _++_, append-assoc, append-nil, flatten, map}
+use lib.ListN.{length, getD, take, drop, length-append, List·getD-append}
+use lib.Seq.{drop-append-seam, getD-append-add}
+use mir.Syntax.{w64}
+use mir.Val.{Fits}
+use Rattle.semantics.specs.Definitions.Basics.{ascii}
+use Rattle.semantics.specs.Definitions.Sentence.{ruleWords, refusalWords, wordsFor}
+use Rattle.theorems.proofs.Sentences.{words-past}
+use Rattle.sentences.specs.Words.{phrasesOf, phrases, entries, phrase, startsFrom, startOf}
+
+-- ---- any phrases
+
+-- the start of phrase i, and what follows it
+from-start : (before : List ℕ) (ps : List (List ℕ)) (i : ℕ) → i < length ps →
+    drop (getD (startsFrom (length before) ps) i 0) (before ++ flatten ps) ≡ getD ps i [] ++ flatten (drop (suc i) ps)
+unfolding flatten
+from-start before [] i l = absurd (omega arith)
+from-start before (p ∷ ps) zero l = drop-append-seam before (p ++ flatten ps)
+from-start before (p ∷ ps) (suc i) l =
+    let e = length-append before p in
+    let a = append-assoc before p (flatten ps) in
+    rw (← a, ← e) (from-start (before ++ p) ps i (omega arith))
+
+-- the next one starts where it ends
+next-start : (at : ℕ) (ps : List (List ℕ)) (i : ℕ) → i < length ps →
+    getD (startsFrom at ps) (suc i) 0 ≡ getD (startsFrom at ps) i 0 + length (getD ps i [])
+next-start at [] i l = absurd (omega arith)
+next-start at (p ∷ []) zero l = refl
+next-start at (p ∷ q ∷ ps) zero l = refl
+next-start at (p ∷ ps) (suc i) l = next-start (at + length p) ps i (omega arith)
+
+-- no start lies behind all of them
+start-within : (at : ℕ) (ps : List (List ℕ)) (i : ℕ) → i ≤ length ps → getD (startsFrom at ps) i 0 ≤ at + length (flatten ps)
+unfolding flatten
+start-within at [] zero l = omega arith
+start-within at [] (suc i) l = absurd (omega arith)
+start-within at (p ∷ ps) zero l = omega arith
+start-within at (p ∷ ps) (suc i) l =
+    let r = start-within (at + length p) ps i (omega arith) in
+    let a = length-append p (flatten ps) in omega arith
+
+-- ---- those of the rules and refusals
+
+module _ (i : ℕ) (l : i < entries) where
+  inside : i < length phrases
+  unfolding phrases
+  inside = l
+
+  pub start-next : startOf (i + 1) ≡ startOf i + length (phrase i)
+  unfolding startOf phrase
+  start-next = rw (add-one i) (next-start 0 phrases i inside)
+
+  pub stands : drop (startOf i) (flatten phrases) ≡ phrase i ++ flatten (drop (suc i) phrases)
+  unfolding startOf phrase
+  stands = from-start [] phrases i inside
+
+  pub phrase-cut : take (length (phrase i)) (drop (startOf i) (flatten phrases)) ≡ phrase i
+  phrase-cut = rw stands (take-front (phrase i) (flatten (drop (suc i) phrases)))
+    where
+      take-front : (xs ys : List ℕ) → take (length xs) (xs ++ ys) ≡ xs
+      take-front [] ys = refl
+      take-front (x ∷ xs) ys = ap (_∷_ x) (take-front xs ys)
+
+-- how long they are, and so where the last one ends
+all-long : length (flatten phrases) ≡ 603
+unfolding phrases flatten
+all-long = refl
+
+pub start-inside : (i : ℕ) → i ≤ entries → startOf i ≤ 603
+unfolding startOf phrases
+start-inside i l = rw all-long at (start-within 0 phrases i l)
+
+pub start-fits : (i : ℕ) → i ≤ entries → Fits w64 (startOf i)
+start-fits i l = record { fits = let m = start-inside i l in omega arith }
+
+-- what lies between the starts of an entry and of the next one, in all words
+module _ (words : List ℕ) (all : words ≡ flatten phrases) (i from end : ℕ) (l : i < entries) (a : from ≡ startOf i)
+    (b : end ≡ startOf (i + 1)) where
+  pub part-ordered : from ≤ end
+  part-ordered = let n = start-next i l in omega arith
+
+  pub part-inside : end ≤ length words
+  part-inside = let n = start-inside (i + 1) (omega arith) in let e = ap length all ∙ all-long in omega arith
+
+  pub part-is : take (end - from) (drop from words) ≡ phrase i
+  part-is =
+      let n = start-next i l in
+      let e : end - from ≡ length (phrase i) = omega arith in
+      rw (e, a, all) (phrase-cut i l)
+
+-- ---- the entry of a number
+
+-- the words for a number are the phrase at its place in the list
+words-at : (ws : List String) (n : ℕ) → wordsFor ws (suc n) ≡ getD (phrasesOf ws) n []
+unfolding wordsFor
+words-at [] n = refl
+words-at (w ∷ ws) zero = refl
+words-at (w ∷ ws) (suc n) = words-at ws n
+
+-- a rule's entry is its number
+module _ (n : ℕ) where
+  own-phrase : (m : ℕ) → m ≤ 13 → phrase m ≡ wordsFor ruleWords m
+  unfolding phrase phrases wordsFor ruleWords
+  own-phrase zero l = refl
+  own-phrase (suc m) l =
+      List·getD-append (phrasesOf ruleWords) (phrasesOf refusalWords) [] m (omega arith) ∙ sym (words-at ruleWords m)
+
+  pub rule-phrase : n ≤ 13 → (w : ℕ) → w ≡ n → phrase w ≡ wordsFor ruleWords n
+  rule-phrase l w e = rw e (own-phrase n l)
+
+  pub rule-alone : 13 < n → phrase 0 ≡ wordsFor ruleWords n
+  unfolding phrase phrases ruleWords
+  rule-alone l = sym (words-past ruleWords n l)
+
+-- that of a refusal stands behind those of the rules
+module _ (n : ℕ) where
+  behind-rules : (m : ℕ) → phrase (13 + suc m) ≡ wordsFor refusalWords (suc m)
+  unfolding phrase phrases ruleWords refusalWords
+  behind-rules m =
+      let e : 13 + suc m ≡ suc (13 + m) = omega arith in
+      rw e (getD-append-add (phrasesOf ruleWords) (phrasesOf refusalWords) m [] ∙ sym (words-at refusalWords m))
+
+  pub refusal-phrase : ¬ (n ≡ 0) → (w : ℕ) → w ≡ 13 + n → phrase w ≡ wordsFor refusalWords n
+  refusal-phrase some w e = rw e (go n some)
+    where
+      go : (m : ℕ) → ¬ (m ≡ 0) → phrase (13 + m) ≡ wordsFor refusalWords m
+      go zero some = absurd (some refl)
+      go (suc m) some = behind-rules m
+
+  pub refusal-alone : 20 < n → phrase 0 ≡ wordsFor refusalWords n
+  unfolding phrase phrases refusalWords
+  refusal-alone l = sym (words-past refusalWords n l)
+
+  none-at-0 : phrase 0 ≡ wordsFor refusalWords 0
+  unfolding phrase phrases refusalWords wordsFor
+  none-at-0 = refl
+
+  pub no-refusal : n ≡ 0 → phrase 0 ≡ wordsFor refusalWords n
+  no-refusal e = rw e none-at-0

@@ -1,0 +1,18 @@
+-- The entry of a rule meets its contract.
+-- Assumes nothing.
+use borrow.Author.Needs.{needs}
+use Rattle.sentences.proofs.Phrases.{rule-phrase, rule-alone}
+use Rattle.sentences.proofs.words.rule_entry.Statement.{statement}
+use Rattle.sentences.proofs.words.rule_entry.Tie as tie
+
+returns : tie.Need-returns
+returns c = (search needs, search (rule-alone, needs))
+
+wide-requires : tie.Need-wide-requires
+wide-requires c κs = search needs
+
+returns-2 : tie.Need-returns-2
+returns-2 c = (search needs, search (rule-phrase, needs))
+
+pub rule-entry-spec : {M : Type 1} → statement M
+rule-entry-spec = tie.close (tie.spec returns wide-requires returns-2)

@@ -1,0 +1,92 @@
+// A choice and its answer as one English sentence (document 02, Q-1), written into lent bytes.
+mod texts;
+mod words;
+
+use texts::write_named;
+use texts::write_text;
+use words::refusal_entry;
+use words::rule_entry;
+use words::write_words;
+ghost use mathlib.Core.Path.{_≡_};
+ghost use Prim.Native.Nat.{_+_, _≤_};
+ghost use lib.ListN.{length};
+ghost use Rattle.semantics.specs.Definitions.Sentence.{choiceNamed, replyNamed, sentence as Sentence·sentence, sentenceCall};
+ghost use Rattle.decimals.specs.Wrote.{Wrote};
+ghost use Rattle.sentences.specs.Answers.{replyIn, sentenceCallOf};
+
+// The bytes that a buffer must have. No sentence is longer.
+pub const SENTENCE_BYTES: usize = 96;
+
+// The refusal of a shorter one.
+const SHORT_BUFFER: u8 = 21;
+
+// The kind of choice that names no node.
+const KIND_ACT: u8 = 1;
+
+// What a choice was answered: the rule by which it moved, or the number of the refusal.
+pub enum Reply {
+    Moved { rule: u8 },
+    Refused { number: u8 },
+}
+
+// What a sentence's call answers: how many bytes it wrote, or the refusal.
+pub enum SentenceAnswer {
+    Told { length: usize },
+    Refused { number: u8, place: usize },
+}
+
+// A choice, from the front of the bytes on.
+fn write_choice(out: &mut [u8], kind: u8, position: u8, node: u8) -> usize
+    requires { ⌜ length (choiceNamed kind position node) ≤ length (now out) ⌝ }
+    ensures { λ r. ⌜ Wrote (now (out .entry)) 0 (choiceNamed kind position node) (now (out .exit)) r ⌝ }
+{
+    let station = write_named(out, 0, b"Kind ", kind);
+    let end = write_named(out, station, b" at station ", position);
+    if kind == KIND_ACT {
+        return end;
+    }
+    write_named(out, end, b", node ", node)
+}
+
+// What it was answered.
+fn write_reply(out: &mut [u8], at: usize, reply: Reply) -> usize
+    requires { ⌜ at + length (replyNamed (replyIn reply)) ≤ length (now out) ⌝ }
+    ensures { λ r. ⌜ Wrote (now (out .entry)) at (replyNamed (replyIn reply)) (now (out .exit)) r ⌝ }
+{
+    match reply {
+        Reply::Moved { rule } => {
+            let end = write_named(out, at, b" moved by rule ", rule);
+            write_words(out, end, rule_entry(rule))
+        }
+        Reply::Refused { number } => {
+            let end = write_named(out, at, b" met refusal ", number);
+            write_words(out, end, refusal_entry(number))
+        }
+    }
+}
+
+// The sentence, from the front of the bytes on: the answer is its length.
+fn write_sentence(out: &mut [u8], kind: u8, position: u8, node: u8, reply: Reply) -> usize
+    requires { ⌜ length (Sentence·sentence kind position node (replyIn reply)) ≤ length (now out) ⌝ }
+    ensures { λ r. ⌜ Wrote (now (out .entry)) 0 (Sentence·sentence kind position node (replyIn reply)) (now (out .exit)) r ⌝ }
+{
+    let named = write_choice(out, kind, position, node);
+    let answered = write_reply(out, named, reply);
+    write_text(out, answered, b".")
+}
+
+// Writes the sentence of a choice and its answer to the front of a buffer, whose other bytes are left. A buffer that
+// has no room for every sentence is refused before all else.
+pub fn sentence(kind: u8, position: u8, node: u8, reply: Reply, buffer: &mut [u8]) -> SentenceAnswer
+    ensures { λ r. ⌜ sentenceCallOf r (now (buffer .exit)) ≡
+        sentenceCall kind position node (replyIn reply) (now (buffer .entry)) ⌝ }
+{
+    if buffer.len() < SENTENCE_BYTES {
+        return SentenceAnswer::Refused {
+            number: SHORT_BUFFER,
+            place: 0,
+        };
+    }
+    let length = write_sentence(buffer, kind, position, node, reply);
+    SentenceAnswer::Told { length }
+}

@@ -1,0 +1,265 @@
+-- The claims of specs/Claims/Sentences, and what specs/Checks/Sentences says of words, call and room.
+-- Assumes nothing.
+use Prim.Native.Nat.{ℕ, zero, suc, _≤_, _<_}
+use Prim.Native.String.{String}
+use native.Mathlib.Omega.{arith}
+use mathlib.Core.Path.{_≡_, refl, sym, ap, _∙_}
+use mathlib.Core.Bool.{Bool, true, false, cond, _&&_}
+use mathlib.Core.List.{List, [], _∷_, _++_, append-assoc, append-cancel-left}
+use lib.ListN.{length, getD, drop, length-append, length-drop}
+use lib.Seq.{take-append-seam, drop-append-seam}
+use lib.Dec.{leb, eqb}
+use borrow.Author.Tests.{leb-true, lt-ltb, le-ltb, eqb-true, eqb-false}
+use Rattle.semantics.specs.Definitions.Basics.{All, allOf, ascii}
+use Rattle.semantics.specs.Definitions.Moves.{Reply, movedBy, refusedBy}
+use Rattle.semantics.specs.Definitions.Report.{decimal}
+use Rattle.semantics.specs.Definitions.Sentence.{ruleWords, refusalWords, wordsFor, nodeNamed, replyNamed, sentence, told}
+use Rattle.semantics.specs.Claims.Sentences.{replyNumber, AllBytes, SentencesAreShort, SentencesArePrintable, SameChoiceAndReply, SentencesTellApart}
+use Rattle.semantics.specs.Checks.Sentences.{WordsEnd, ShortBuffersRefused, Stands, SentenceStands, RoomIsLeft}
+use Rattle.theorems.proofs.Lists.{all-append, all-weaken}
+use Rattle.theorems.proofs.Reading.{and-true}
+use Rattle.theorems.proofs.Decimals.{decimal-bytes, decimal-short, NoDigit, decimal-apart}
+
+-- ---- numbers without words
+
+pub words-past : (ws : List String) (n : ℕ) → length ws < n → wordsFor ws n ≡ []
+unfolding wordsFor
+words-past [] n l = refl
+words-past (w ∷ ws) zero l = absurd (omega arith)
+words-past (w ∷ ws) (suc zero) l = absurd (omega arith)
+words-past (w ∷ ws) (suc (suc n)) l = words-past ws (suc n) (omega arith)
+
+pub words-end-behind : WordsEnd
+unfolding WordsEnd
+words-end-behind n = (λ l. words-past ruleWords n l, λ l. words-past refusalWords n l)
+
+-- ---- the parts of a sentence
+
+-- in one row, with these bytes for the node
+abbrev rowOf : (kind position : ℕ) → List ℕ → Reply → List ℕ
+rowOf k p node a =
+    ascii "Kind " ++ (decimal k ++ (ascii " at station " ++ (decimal p ++ (node ++ (replyNamed a ++ ascii ".")))))
+
+in-row : (k p n : ℕ) (a : Reply) → sentence k p n a ≡ rowOf k p (nodeNamed k n) a
+unfolding sentence
+in-row k p n a = regroup (ascii "Kind ") (decimal k) (ascii " at station ") (decimal p) (nodeNamed k n) _
+  where
+    regroup : (a b c d e f : List ℕ) → (a ++ (b ++ (c ++ (d ++ e)))) ++ f ≡ a ++ (b ++ (c ++ (d ++ (e ++ f))))
+    regroup a b c d e f = simp append-assoc
+
+-- of kind 1 no node is named
+node-by-kind : (P : (ℕ → List ℕ) → Type 0) (k : ℕ) → (k ≡ 1 → P (λ n. [])) →
+    (¬ (k ≡ 1) → P (λ n. ascii ", node " ++ decimal n)) → P (nodeNamed k)
+unfolding nodeNamed
+node-by-kind P k none some = go (eqb k 1) refl
+  where
+    go : (b : Bool) → eqb k 1 ≡ b → P (λ n. cond b [] (ascii ", node " ++ decimal n))
+    go true e = none (eqb-true k 1 e)
+    go false e = some (eqb-false k 1 e)
+
+-- ---- a test of each reply, by computation
+
+everyBelow : ℕ → (ℕ → Bool) → Bool
+everyBelow zero p = true
+everyBelow (suc m) p = p m && everyBelow m p
+
+every-below : (m : ℕ) (p : ℕ → Bool) → everyBelow m p ≡ true → (n : ℕ) → n < m → p n ≡ true
+unfolding everyBelow
+every-below zero p h n l = absurd (omega arith)
+every-below (suc m) p h n l =
+    let both = and-true (p m) (everyBelow m p) h in go (eqb n m) refl (both .0) (λ k. every-below m p (both .1) n k)
+  where
+    go : (b : Bool) → eqb n m ≡ b → p m ≡ true → (n < m → p n ≡ true) → p n ≡ true
+    go true e q r = let z = eqb-true n m e in rw z q
+    go false e q r = let z = eqb-false n m e in r (omega arith)
+
+every-reply : (p : List ℕ → Bool) → everyBelow 256 (λ n. p (replyNamed (movedBy n))) ≡ true →
+    everyBelow 256 (λ n. p (replyNamed (refusedBy n))) ≡ true → (a : Reply) → replyNumber a ≤ 255 →
+    p (replyNamed a) ≡ true
+every-reply p g h (movedBy n) l = every-below 256 (λ n. p (replyNamed (movedBy n))) g n (omega arith)
+every-reply p g h (refusedBy n) l = every-below 256 (λ n. p (replyNamed (refusedBy n))) h n (omega arith)
+
+-- ---- short
+
+-- longer words stand behind shorter numbers, so these are bounded together
+reply-short : (a : Reply) → replyNumber a ≤ 255 → length (replyNamed a) ≤ 39
+unfolding everyBelow replyNamed
+reply-short a l = leb-true (length (replyNamed a)) 39 (every-reply (λ s. leb (length s) 39) refl refl a l)
+
+node-short : (k n : ℕ) → n ≤ 255 → length (nodeNamed k n) ≤ 10
+unfolding ascii
+node-short k n l =
+    let d = decimal-short 2 n (omega arith) in
+    node-by-kind (λ f. length (f n) ≤ 10) k (λ one. omega arith) (λ other. simp length-append (omega arith))
+
+sentence-short : (k p n : ℕ) (a : Reply) → AllBytes k p n a → length (sentence k p n a) ≤ 73
+unfolding ascii
+sentence-short k p n a bytes =
+    let x = decimal-short 2 k (omega arith) in
+    let y = decimal-short 2 p (omega arith) in
+    let z = node-short k n (omega arith) in
+    let r = reply-short a (omega arith) in rw (in-row k p n a) (simp length-append (omega arith))
+
+pub room-is-left : RoomIsLeft
+unfolding RoomIsLeft
+room-is-left = sentence-short
+
+pub sentences-are-short : SentencesAreShort
+unfolding SentencesAreShort
+sentences-are-short k p n a bytes = let l = sentence-short k p n a bytes in omega arith
+
+-- ---- printable
+
+Printable : List ℕ → Type 0
+Printable s = All (λ b. (32 ≤ b) × (b ≤ 126)) s
+
+isPrintable : List ℕ → Bool
+unfolding allOf
+isPrintable s = allOf (λ b. leb 32 b && leb b 126) s
+
+printable : (s : List ℕ) → isPrintable s ≡ true → Printable s
+unfolding isPrintable Printable
+printable [] h = tt
+printable (b ∷ bs) h =
+    let both = and-true (leb 32 b && leb b 126) (isPrintable bs) h in
+    let here = and-true (leb 32 b) (leb b 126) (both .0) in
+    ((leb-true 32 b (here .0), leb-true b 126 (here .1)), printable bs (both .1))
+
+printable-append : (s t : List ℕ) → Printable s → Printable t → Printable (s ++ t)
+unfolding Printable
+printable-append s t = all-append _ s t
+
+printable-number : (n : ℕ) → Printable (decimal n)
+unfolding Printable
+printable-number n = all-weaken _ _ (λ b l. omega arith) (decimal n) (decimal-bytes n)
+
+printable-reply : (a : Reply) → replyNumber a ≤ 255 → Printable (replyNamed a)
+unfolding everyBelow replyNamed isPrintable
+printable-reply a l = printable (replyNamed a) (every-reply isPrintable refl refl a l)
+
+-- a text in front
+printable-text : (x : String) (s : List ℕ) → isPrintable (ascii x) ≡ true → Printable s → Printable (ascii x ++ s)
+printable-text x s e h = printable-append (ascii x) s (printable (ascii x) e) h
+
+sentence-printable : (k p n : ℕ) (a : Reply) → AllBytes k p n a → Printable (sentence k p n a)
+unfolding ascii isPrintable
+sentence-printable k p n a bytes =
+    let none = printable [] refl in
+    let node = printable-text ", node " (decimal n) refl (printable-number n) in
+    rw (in-row k p n a)
+    (printable-text "Kind " _ refl (printable-append _ _ (printable-number k)
+    (printable-text " at station " _ refl (printable-append _ _ (printable-number p)
+    (printable-append _ _ (node-by-kind (λ f. Printable (f n)) k (λ one. none) (λ other. node))
+    (printable-append _ _ (printable-reply a (omega arith)) (printable (ascii ".") refl)))))))
+
+pub sentences-are-printable : SentencesArePrintable
+unfolding SentencesArePrintable Printable
+sentences-are-printable = sentence-printable
+
+-- ---- no digit follows a number
+
+words-end : (ws : List String) (n : ℕ) → NoDigit (wordsFor ws n ++ ascii ".")
+unfolding wordsFor
+words-end [] n = tt
+words-end (w ∷ ws) zero = tt
+words-end (w ∷ ws) (suc zero) = tt
+words-end (w ∷ ws) (suc (suc n)) = words-end ws (suc n)
+
+reply-ends : (a : Reply) → NoDigit (replyNamed a ++ ascii ".")
+unfolding replyNamed
+reply-ends (movedBy n) = tt
+reply-ends (refusedBy n) = tt
+
+node-ends : (k n : ℕ) (s : List ℕ) → NoDigit s → NoDigit (nodeNamed k n ++ s)
+unfolding ascii
+node-ends k n s h = node-by-kind (λ f. NoDigit (f n ++ s)) k (λ one. h) (λ other. tt)
+
+-- ---- no two alike
+
+-- a text, a number behind it and what follows
+peel : (x : String) (a b : ℕ) (s t : List ℕ) → a ≤ 255 → b ≤ 255 → NoDigit s → NoDigit t →
+    ascii x ++ (decimal a ++ s) ≡ ascii x ++ (decimal b ++ t) → (a ≡ b) × (s ≡ t)
+peel x a b s t l m p q e =
+    decimal-apart a b s t (omega arith) (omega arith) p q
+    (append-cancel-left (ascii x) (decimal a ++ s) (decimal b ++ t) e)
+
+node-same : (k n n′ : ℕ) → (¬ (k ≡ 1) → n ≡ n′) → nodeNamed k n ≡ nodeNamed k n′
+node-same k n n′ h =
+    node-by-kind (λ f. f n ≡ f n′) k (λ one. refl) (λ other. ap (λ i. ascii ", node " ++ decimal i) (h other))
+
+node-apart : (k n n′ : ℕ) (s t : List ℕ) → n ≤ 255 → n′ ≤ 255 → NoDigit s → NoDigit t →
+    nodeNamed k n ++ s ≡ nodeNamed k n′ ++ t → (¬ (k ≡ 1) → n ≡ n′) × (s ≡ t)
+node-apart k n n′ s t l m p q =
+    node-by-kind (λ f. f n ++ s ≡ f n′ ++ t → (¬ (k ≡ 1) → n ≡ n′) × (s ≡ t)) k
+    (λ one e. (λ other. absurd (other one), e))
+    (λ other e. let same = peel ", node " n n′ s t l m p q (simp append-assoc at e) in (λ h. same .0, same .1))
+
+number-apart : (x : String) (ws : List String) (a b : ℕ) → a ≤ 255 → b ≤ 255 →
+    (ascii x ++ (decimal a ++ wordsFor ws a)) ++ ascii "." ≡ (ascii x ++ (decimal b ++ wordsFor ws b)) ++ ascii "." →
+    a ≡ b
+number-apart x ws a b l m e =
+    peel x a b (wordsFor ws a ++ ascii ".") (wordsFor ws b ++ ascii ".") l m (words-end ws a) (words-end ws b)
+    (simp append-assoc at e) .0
+
+-- moved and refused differ at the third byte of their texts
+reply-apart : (a b : Reply) → replyNumber a ≤ 255 → replyNumber b ≤ 255 →
+    replyNamed a ++ ascii "." ≡ replyNamed b ++ ascii "." → a ≡ b
+unfolding replyNamed
+reply-apart (movedBy n) (movedBy m) l k e = ap movedBy (number-apart " moved by rule " ruleWords n m l k e)
+reply-apart (refusedBy n) (refusedBy m) l k e = ap refusedBy (number-apart " met refusal " refusalWords n m l k e)
+reply-apart (movedBy n) (refusedBy m) l k e =
+    let z : _≡_ {A = ℕ} 111 101 = ap (λ s. getD s 2 0) e in absurd (omega arith)
+reply-apart (refusedBy n) (movedBy m) l k e =
+    let z : _≡_ {A = ℕ} 101 111 = ap (λ s. getD s 2 0) e in absurd (omega arith)
+
+module _ (k p n : ℕ) (a : Reply) (k′ p′ n′ : ℕ) (a′ : Reply) where
+  same-of-alike : AllBytes k p n a → AllBytes k′ p′ n′ a′ → sentence k p n a ≡ sentence k′ p′ n′ a′ →
+      SameChoiceAndReply k p n a k′ p′ n′ a′
+  unfolding ascii
+  same-of-alike b b′ e =
+      let r = replyNamed a ++ ascii "." in
+      let r′ = replyNamed a′ ++ ascii "." in
+      let end = reply-ends a in
+      let end′ = reply-ends a′ in
+      let whole = sym (in-row k p n a) ∙ e ∙ in-row k′ p′ n′ a′ in
+      let kind = peel "Kind " k k′ _ _ (omega arith) (omega arith) tt tt whole in
+      let position =
+      peel " at station " p p′ _ _ (omega arith) (omega arith) (node-ends k n r end) (node-ends k′ n′ r′ end′)
+      (kind .1) in
+      let node = node-apart k n n′ r r′ (omega arith) (omega arith) end end′ (rw (← kind .0) at (position .1)) in
+      record {
+        kind = kind .0;
+        position = position .0;
+        node = node .0;
+        reply = reply-apart a a′ (omega arith) (omega arith) (node .1);
+      }
+
+  alike-of-same : SameChoiceAndReply k p n a k′ p′ n′ a′ → sentence k p n a ≡ sentence k′ p′ n′ a′
+  alike-of-same s = let node = node-same k n n′ (s .node) in in-row k p n a ∙ (cc) ∙ sym (in-row k′ p′ n′ a′)
+
+pub sentences-tell-apart : SentencesTellApart
+unfolding SentencesTellApart
+sentences-tell-apart k p n a k′ p′ n′ a′ b b′ =
+    (same-of-alike k p n a k′ p′ n′ a′ b b′, alike-of-same k p n a k′ p′ n′ a′)
+
+-- ---- the call
+
+pub short-buffers-refused : ShortBuffersRefused
+unfolding ShortBuffersRefused
+short-buffers-refused k p n a buffer l = rw (lt-ltb (length buffer) 96 l)
+
+text-stands : (s buffer : List ℕ) → length s ≤ length buffer →
+    Stands s buffer (record { answer = told (length s); buffer = s ++ drop (length s) buffer })
+text-stands s buffer l =
+    record {
+      answer = refl;
+      front = take-append-seam s (drop (length s) buffer);
+      rest = drop-append-seam s (drop (length s) buffer);
+      same-length = simp (length-append, length-drop) (omega arith);
+    }
+
+pub sentence-stands : SentenceStands
+unfolding SentenceStands
+sentence-stands k p n a buffer bytes l =
+    let h = sentence-short k p n a bytes in
+    rw (le-ltb (length buffer) 96 l) (text-stands (sentence k p n a) buffer (omega arith))
