@@ -41,7 +41,7 @@
  *   18  a take from an empty tray
  *   19  over 64 stations would stand afterwards
  *   20  a put on a tray that holds 255
- *   21  a sentence's buffer is too short          place of 21: 0, which no pointer is there for
+ *   21  a sentence's buffer is too short          place of 21: 0, which the call does not set
  *
  * 21 is of ruonfidd_sentence alone, which tests nothing else.
  * Refused by 1 to 11, hall and tally are as they were.  Where a choice is refused, 12 to 20, those
@@ -135,16 +135,18 @@ uint8_t ruonfidd_suggest(const uint8_t *table, size_t table_length, const uint8_
 /* No sentence is longer, and no buffer for one may be shorter. */
 #define RUONFIDD_SENTENCE_BYTES 96
 
-/* Says a choice and its answer in one English sentence, for a board that people read.  It names kind,
- * position, node and number in decimal, and what the number means where it is one of the rules or
- * refusals above.  For kind 1 the node counts for nothing.  moved: 0 where the choice was refused with
- * the number, anything else where it moved by the rule of that number.  All five are taken whatever
- * they are, also together as no hall gives them; two that differ never get the same sentence.
+/* Says a choice and its answer in one English sentence, for a board that people read.
  *
- * Written: 0, and length is the sentence's length in bytes, at most RUONFIDD_SENTENCE_BYTES.  It stands
- * at the front of the buffer, without a zero behind it; all other bytes of the buffer are as they were.
- * Refused: 21, where the buffer is shorter than RUONFIDD_SENTENCE_BYTES; buffer and length are as they
- * were. */
+ * moved: 0 where the choice was refused with the number, any other byte where it moved by the rule of
+ * that number.  A step that returned 0 has moved by its rule; any other was refused with what it
+ * returned.  For kind 1 the node counts for nothing.
+ * The sentence names kind, position, node and number in decimal, and says in words what rules 1 to 13
+ * and refusals 1 to 20 mean.  All bytes are taken, also those that no hall gives; two different choices
+ * or answers never have the same sentence.
+ *
+ * Written: 0, and length is how many bytes the sentence has.  It stands at the front of the buffer,
+ * with no zero behind it; all other bytes of the buffer are as they were.
+ * Refused: 21, where the buffer is shorter than RUONFIDD_SENTENCE_BYTES. */
 uint8_t ruonfidd_sentence(uint8_t kind, uint8_t position, uint8_t node, uint8_t moved, uint8_t number,
                           uint8_t *buffer, size_t buffer_length, size_t *length);
 

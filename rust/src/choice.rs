@@ -137,7 +137,7 @@ impl Moved {
 }
 
 impl Moved {
-    /// The choice and its rule in words, without an allocation.
+    /// The choice and its rule in words. Nothing is allocated.
     #[must_use]
     pub fn sentence(&self) -> Sentence {
         say(self.choice.to_bytes(), Answer::Moved(self.rule))
@@ -146,7 +146,7 @@ impl Moved {
 
 impl fmt::Display for Moved {
     fn fmt(&self, out: &mut fmt::Formatter<'_>) -> fmt::Result {
-        self.sentence().fmt(out)
+        fmt::Display::fmt(&self.sentence(), out)
     }
 }
 
@@ -176,7 +176,7 @@ pub struct Refused {
 }
 
 impl Refused {
-    /// The choice and its refusal in words, without an allocation.
+    /// The choice and its refusal in words. Nothing is allocated.
     #[must_use]
     pub fn sentence(&self) -> Sentence {
         say(self.choice.to_bytes(), Answer::Refused(self.refusal.number))
@@ -185,7 +185,7 @@ impl Refused {
 
 impl fmt::Display for Refused {
     fn fmt(&self, out: &mut fmt::Formatter<'_>) -> fmt::Result {
-        self.sentence().fmt(out)
+        fmt::Display::fmt(&self.sentence(), out)
     }
 }
 

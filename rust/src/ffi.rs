@@ -522,8 +522,8 @@ mod tests {
         }
     }
 
-    /// Two guards around the lent bytes, and around the length one that no
-    /// sentence has.
+    /// Guards stand around the lent bytes, and around a length that no sentence
+    /// has.
     #[test]
     fn a_sentence_writes_its_bytes_and_their_number_and_nothing_beside_them() {
         for (choice, moved, number, text) in [
@@ -549,9 +549,9 @@ mod tests {
             for lent in [SENTENCE_BYTES, SENTENCE_BYTES + 1, 1_000] {
                 let mut buffer = vec![170; lent + 2];
                 let mut lengths = [usize::MAX; 3];
-                let buffer_lent = &mut buffer[1..=lent];
-                let answer = sentence(choice, moved, number, buffer_lent, &mut lengths[1]);
-                assert_eq!(answer, 0);
+                let part = &mut buffer[1..=lent];
+                let refused = sentence(choice, moved, number, part, &mut lengths[1]);
+                assert_eq!(refused, 0);
                 assert_eq!(lengths, [usize::MAX, text.len(), usize::MAX]);
                 assert_eq!(buffer[1..=text.len()], *text);
                 assert_eq!(buffer[0], 170);
@@ -565,8 +565,8 @@ mod tests {
         for lent in [0, 1, 53, SENTENCE_BYTES - 1] {
             let mut buffer = vec![170; lent + 2];
             let mut length = usize::MAX;
-            let answer = sentence([1, 0, 0], 1, 4, &mut buffer[1..=lent], &mut length);
-            assert_eq!((answer, length), (21, usize::MAX));
+            let refused = sentence([1, 0, 0], 1, 4, &mut buffer[1..=lent], &mut length);
+            assert_eq!((refused, length), (21, usize::MAX));
             assert!(buffer.iter().all(|byte| *byte == 170));
         }
     }

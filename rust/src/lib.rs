@@ -23,8 +23,8 @@
 //! - Refused by table or hall, 1 to 11, hall and tally stay as they are.
 //!   Where a choice is refused, those before it stay done.
 //! - The answer of a step, moved or refused, displays as one English sentence
-//!   of at most [`SENTENCE_BYTES`] bytes. Two different choices or answers
-//!   never share one. [`say`] has the sentence of any bytes.
+//!   of at most [`SENTENCE_BYTES`] bytes, which no other choice or answer has.
+//!   [`say`] gives the sentence of any choice and answer.
 //!
 //! What is proved of a whole list of calls, that each committed block acts in
 //! one moment, is proved of calls with the same table, and with hall and tally as

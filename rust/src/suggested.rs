@@ -14,8 +14,8 @@ pub struct Followed {
     pub still: bool,
 }
 
-/// Steps that are suggested and made, one for each item; from
-/// [`Hall::suggested_steps`].
+/// Steps that are suggested and made, one for each item, which says what it did;
+/// from [`Hall::suggested_steps`].
 ///
 /// They end where the hall is still. A waiting block can always begin, so they
 /// may go on for ever: whoever wants an end takes so many of them, or uses

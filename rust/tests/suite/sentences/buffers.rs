@@ -1,76 +1,89 @@
 //! The lent buffer: how long it may be, what is written of it, what is left.
 
 use reference::calls;
-use reference::sentence::Verdict;
 use ruonfidd::{ffi, say_into, Answer, Refusal, SENTENCE_BYTES};
 
-use super::{Choice, MOVED};
+use super::{bare_forms, verdict, Choice};
 
 /// Bytes on each side of the lent ones.
 const AROUND: usize = 64;
 
-/// A short sentence, the longest one, and one that no hall gives.
-const SAID: [(Choice, Verdict); 3] = [
-    ([1, 0, 0], Verdict::Moved(1)),
-    ([255, 255, 255], Verdict::Refused(15)),
-    ([0, 10, 99], Verdict::Moved(0)),
+/// A short sentence, one of the longest, and one that no hall gives.
+const SAID: [(Choice, Answer); 3] = [
+    ([1, 0, 0], Answer::Moved(1)),
+    ([255, 255, 255], Answer::Refused(15)),
+    ([0, 10, 99], Answer::Moved(0)),
 ];
 
-/// The same call by the second implementation: the refusal's number or 0, the
-/// length, and all bytes.
-fn by_second(choice: Choice, verdict: Verdict, lent: usize, before: u8) -> (u8, usize, Vec<u8>) {
-    let [kind, position, node] = choice;
-    let mut bytes = vec![before; AROUND + lent + AROUND];
-    let buffer = &mut bytes[AROUND..AROUND + lent];
-    match calls::say(kind, position, node, verdict, buffer) {
-        Ok(length) => (0, length, bytes),
-        Err(refusal) => {
-            assert_eq!(refusal.place, 0);
-            (refusal.number, usize::MAX, bytes)
+/// What a call answered: its number, 0 where it wrote, and the length, or one
+/// that no sentence has where none was set.
+type Answered = (u8, usize);
+
+const UNSET: usize = usize::MAX;
+
+fn answered(result: Result<usize, (u8, usize)>) -> Answered {
+    match result {
+        Ok(length) => (0, length),
+        Err((number, place)) => {
+            assert_eq!(place, 0);
+            (number, UNSET)
         }
     }
 }
 
-/// A buffer of this length, with bytes around it that are not lent, is written
-/// as the second implementation writes it. The length is first one that no
-/// sentence has, so that it is seen whether it was set.
+/// Calls with so many bytes lent, in the midst of others that are not: the
+/// answer, and all bytes afterwards.
+fn among_others(
+    length: usize,
+    before: u8,
+    call: impl FnOnce(&mut [u8]) -> Answered,
+) -> (Answered, Vec<u8>) {
+    let mut bytes = vec![before; AROUND + length + AROUND];
+    let answer = call(&mut bytes[AROUND..AROUND + length]);
+    (answer, bytes)
+}
+
+fn by_second(choice: Choice, answer: Answer, buffer: &mut [u8]) -> Answered {
+    let [kind, position, node] = choice;
+    let said = calls::say(kind, position, node, verdict(answer), buffer);
+    answered(said.map_err(|refusal| (refusal.number, refusal.place)))
+}
+
+fn by_safe_call(choice: Choice, answer: Answer, buffer: &mut [u8]) -> Answered {
+    let said = say_into(choice, answer, buffer);
+    answered(said.map_err(|refusal| (refusal.number, refusal.place)))
+}
+
+/// The length stands between two guards.
+fn by_bare_call(choice: Choice, (moved, number): (u8, u8), buffer: &mut [u8]) -> Answered {
+    let mut lengths = [UNSET; 3];
+    let refused = ffi::sentence(choice, moved, number, buffer, &mut lengths[1]);
+    assert_eq!((lengths[0], lengths[2]), (UNSET, UNSET));
+    (refused, lengths[1])
+}
+
+/// The number that is answered to a buffer of this length. All calls agree with
+/// the second implementation on it, on the length and on every byte, lent or
+/// not.
 #[track_caller]
 fn lent(length: usize) -> u8 {
-    let mut answered = None;
-    for (choice, verdict) in SAID {
-        let (bytes_for_moved, number, answer) = match verdict {
-            Verdict::Moved(rule) => (&MOVED[..], rule, Answer::Moved(rule)),
-            Verdict::Refused(number) => (&[0][..], number, Answer::Refused(number)),
-        };
+    let mut numbers = Vec::new();
+    for (choice, answer) in SAID {
         for before in [0, 170] {
-            let expected = by_second(choice, verdict, length, before);
-            for moved in bytes_for_moved {
-                let mut bytes = vec![before; AROUND + length + AROUND];
-                let mut written = [usize::MAX; 3];
-                let buffer = &mut bytes[AROUND..AROUND + length];
-                let refused = ffi::sentence(choice, *moved, number, buffer, &mut written[1]);
-                assert_eq!((written[0], written[2]), (usize::MAX, usize::MAX));
-                assert_eq!(
-                    (refused, written[1], bytes),
-                    expected,
-                    "{length} bytes lent"
-                );
-            }
-            let mut bytes = vec![before; AROUND + length + AROUND];
-            let safe = say_into(choice, answer, &mut bytes[AROUND..AROUND + length]);
-            let safe = match safe {
-                Ok(written) => (0, written, bytes),
-                Err(refusal) => {
-                    assert_eq!(refusal.place, 0);
-                    (refusal.number, usize::MAX, bytes)
-                }
-            };
+            let expected = among_others(length, before, |it| by_second(choice, answer, it));
+            let safe = among_others(length, before, |it| by_safe_call(choice, answer, it));
             assert_eq!(safe, expected, "{length} bytes lent");
-            let (number, ..) = expected;
-            assert_eq!(*answered.get_or_insert(number), number);
+            for form in bare_forms(answer) {
+                let bare = among_others(length, before, |it| by_bare_call(choice, form, it));
+                assert_eq!(bare, expected, "{length} bytes lent");
+            }
+            let ((number, _), _) = expected;
+            numbers.push(number);
         }
     }
-    answered.expect("some were said")
+    numbers.dedup();
+    assert_eq!(numbers.len(), 1, "{numbers:?} to {length} bytes lent");
+    numbers[0]
 }
 
 #[test]

@@ -14,55 +14,44 @@ use ruonfidd::{ffi, say, say_into, Answer, SENTENCE_BYTES};
 /// Kind, position and node, any bytes.
 type Choice = [u8; 3];
 
-/// The bytes that stand for moved and that are tried for it; 0 stands for
-/// refused.
-const MOVED: [u8; 3] = [1, 2, 255];
-
-/// The second implementation's sentence.
-fn expected(choice: Choice, answer: Answer) -> String {
-    let [kind, position, node] = choice;
-    let verdict = match answer {
+/// The answer as the second implementation takes it.
+fn verdict(answer: Answer) -> Verdict {
+    match answer {
         Answer::Moved(rule) => Verdict::Moved(rule),
         Answer::Refused(number) => Verdict::Refused(number),
-    };
-    sentence(kind, position, node, verdict)
+    }
 }
 
-/// By the bare call, in a buffer just long enough that held this byte everywhere.
-#[track_caller]
-fn bare(choice: Choice, moved: u8, number: u8, before: u8) -> ([u8; SENTENCE_BYTES], usize) {
-    let mut bytes = [before; SENTENCE_BYTES];
-    let mut length = usize::MAX;
-    let refused = ffi::sentence(choice, moved, number, &mut bytes, &mut length);
-    assert_eq!(refused, 0, "{choice:?} {moved} {number}");
-    (bytes, length)
+/// The answer as the bare call takes it, once for each byte that is tried for
+/// moved.
+fn bare_forms(answer: Answer) -> Vec<(u8, u8)> {
+    match answer {
+        Answer::Moved(rule) => [1, 2, 255].map(|moved| (moved, rule)).to_vec(),
+        Answer::Refused(number) => vec![(0, number)],
+    }
 }
 
 /// The sentence by all calls that say one, each as the second implementation has
 /// it, and with the bytes behind it as they were.
 #[track_caller]
 fn said(choice: Choice, answer: Answer) -> String {
-    let expected = expected(choice, answer);
+    let [kind, position, node] = choice;
+    let expected = sentence(kind, position, node, verdict(answer));
     assert!(expected.len() <= SENTENCE_BYTES, "{expected}");
-    let (moved, number) = match answer {
-        Answer::Moved(rule) => (&MOVED[..], rule),
-        Answer::Refused(number) => (&[0][..], number),
-    };
-    // A byte written behind the sentence is none of the two.
+    // What is written behind the sentence differs from one of the two.
     for before in [0, 170] {
+        let mut all = [before; SENTENCE_BYTES];
+        all[..expected.len()].copy_from_slice(expected.as_bytes());
         let mut lent = [before; SENTENCE_BYTES];
-        assert_eq!(
-            say_into(choice, answer, &mut lent),
-            Ok(expected.len()),
-            "{choice:?} {answer:?}"
-        );
-        let (front, behind) = lent.split_at(expected.len());
-        assert_eq!(front, expected.as_bytes(), "{choice:?} {answer:?}");
-        assert!(behind.iter().all(|byte| *byte == before), "{lent:?}");
-        for moved in moved {
-            let (bytes, length) = bare(choice, *moved, number, before);
-            assert_eq!(length, expected.len(), "{choice:?} {moved} {number}");
-            assert!(bytes == lent, "{choice:?} {moved} {number}: {bytes:?}");
+        let length = say_into(choice, answer, &mut lent);
+        assert_eq!(length, Ok(expected.len()), "{expected}");
+        assert_eq!(lent, all, "{expected}");
+        for (moved, number) in bare_forms(answer) {
+            let mut bare = [before; SENTENCE_BYTES];
+            let mut length = usize::MAX;
+            let refused = ffi::sentence(choice, moved, number, &mut bare, &mut length);
+            assert_eq!((refused, length), (0, expected.len()), "{expected}");
+            assert_eq!(bare, all, "{expected}");
         }
     }
     let owned = say(choice, answer);

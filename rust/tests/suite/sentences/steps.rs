@@ -27,6 +27,15 @@ struct Met {
     refusals: [usize; 21],
 }
 
+impl Met {
+    fn note(&mut self, verdict: Verdict) {
+        match verdict {
+            Verdict::Moved(rule) => self.rules[usize::from(rule)] += 1,
+            Verdict::Refused(number) => self.refusals[usize::from(number)] += 1,
+        }
+    }
+}
+
 /// One table and hall, stepped by the engine and by the second implementation.
 struct Stepped {
     table: Vec<u8>,
@@ -54,6 +63,20 @@ impl Stepped {
         Stepped::new(table, &hall)
     }
 
+    /// The second implementation's answer.
+    fn second_step(&mut self, choice: Second) -> Verdict {
+        let answer = calls::step(
+            &self.table,
+            &mut self.by_second,
+            &mut self.tally_of_second,
+            &choice.bytes(),
+        );
+        match answer {
+            StepAnswer::Moved(rule) => Verdict::Moved(rule),
+            StepAnswer::Refused(refusal) => Verdict::Refused(refusal.number),
+        }
+    }
+
     /// What is displayed of a step is the second implementation's sentence on
     /// what it answers itself.
     #[track_caller]
@@ -64,37 +87,17 @@ impl Stepped {
                 (Choice::Inside { position, node }, [2, position, node])
             }
         };
-        let verdict = match calls::step(
-            &self.table,
-            &mut self.by_second,
-            &mut self.tally_of_second,
-            &second.bytes(),
-        ) {
-            StepAnswer::Moved(rule) => Verdict::Moved(rule),
-            StepAnswer::Refused(refusal) => Verdict::Refused(refusal.number),
-        };
+        let verdict = self.second_step(second);
+        met.note(verdict);
         let answer = step(&self.table, &mut self.hall, choice, &mut self.tally);
-        match verdict {
-            Verdict::Moved(rule) => met.rules[usize::from(rule)] += 1,
-            Verdict::Refused(number) => met.refusals[usize::from(number)] += 1,
-        }
         let expected = sentence(kind, position, node, verdict);
-        assert_eq!(
-            displayed(answer),
-            expected,
-            "{choice:?} on {:?}",
-            self.table
-        );
+        assert_eq!(displayed(answer), expected, "on {:?}", self.table);
         let answered = match answer {
             Ok(moved) => (moved.choice, Verdict::Moved(moved.rule)),
             Err(refused) => (refused.choice, Verdict::Refused(refused.refusal.number)),
         };
-        assert_eq!(answered, (choice, verdict));
-        assert!(
-            self.hall == self.by_second,
-            "{choice:?} on {:?}",
-            self.table
-        );
+        assert_eq!(answered, (choice, verdict), "on {:?}", self.table);
+        assert!(self.hall == self.by_second, "{expected}");
     }
 }
 
