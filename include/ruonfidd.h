@@ -1,4 +1,4 @@
-/* The hall engine for C and C++: rule tables, halls, choices.
+/* The hall engine for C and C++: rule tables, halls, choices, sentences.
  *
  * Link with target/staticlib/libruonfidd.a, which `rt staticlib ruonfidd` writes (x86-64 Linux).
  * The library is proved to answer as the definitions in crates/semantics/specs/Definitions say; this
@@ -8,7 +8,8 @@
  *
  * Each call but ruonfidd_fresh_tally and ruonfidd_report returns a number, 0 where nothing is
  * refused.  Whatever is returned, it has set every number that it was given a pointer to: none has
- * to be set beforehand but the tally, which runs and steps count on from.
+ * to be set beforehand but the tally, which runs and steps count on from.  The one exception is
+ * ruonfidd_sentence, which leaves its length as it was where it refuses.
  * Any bytes may be handed in; there are none on which a call does not end, stops the program, or
  * reads or writes past what it was lent.  A call keeps nothing for the next one, allocates nothing
  * and needs a few KB of stack, ruonfidd_report some 20.  The same bytes always get the same answer;
@@ -17,7 +18,8 @@
  *
  * The table is tested first, record by record, each record by the numbers in their order; then the
  * hall; then the choices, one by one.  A place is an offset in bytes.  The bytes of tables, halls
- * and choices, width, branches and length are explained in docs/FORMAT.md.
+ * and choices, width, branches and length, and the words of a sentence are explained in
+ * docs/FORMAT.md.
  *
  *    1  a record's kind is not 1 to 13            place of 1 to 8: the record's first byte
  *    2  the bytes end inside a record
@@ -39,9 +41,11 @@
  *   18  a take from an empty tray
  *   19  over 64 stations would stand afterwards
  *   20  a put on a tray that holds 255
+ *   21  a sentence's buffer is too short          place of 21: 0, which the call does not set
  *
+ * 21 is of ruonfidd_sentence alone, which tests nothing else.
  * Refused by 1 to 11, hall and tally are as they were.  Where a choice is refused, 12 to 20, those
- * before it stay done.
+ * before it stay done.  Refused by 21, buffer and length are as they were.
  *
  * WHAT A CALLER OWES
  *
@@ -127,6 +131,24 @@ uint8_t ruonfidd_step(const uint8_t *table, size_t table_length, uint8_t *hall, 
  * suggestions sets a limit. */
 uint8_t ruonfidd_suggest(const uint8_t *table, size_t table_length, const uint8_t *hall,
                          size_t hall_length, uint8_t choice[3], size_t *place);
+
+/* No sentence is longer, and no buffer for one may be shorter. */
+#define RUONFIDD_SENTENCE_BYTES 96
+
+/* Says a choice and its answer in one English sentence, for a board that people read.
+ *
+ * moved: 0 where the choice was refused with the number, any other byte where it moved by the rule of
+ * that number.  A step that returned 0 has moved by its rule; any other was refused with what it
+ * returned.  For kind 1 the node counts for nothing.
+ * The sentence names kind, position, node and number in decimal, and says in words what rules 1 to 13
+ * and refusals 1 to 20 mean.  All bytes are taken, also those that no hall gives; two different choices
+ * or answers never have the same sentence.
+ *
+ * Written: 0, and length is how many bytes the sentence has.  It stands at the front of the buffer,
+ * with no zero behind it; all other bytes of the buffer are as they were.
+ * Refused: 21, where the buffer is shorter than RUONFIDD_SENTENCE_BYTES. */
+uint8_t ruonfidd_sentence(uint8_t kind, uint8_t position, uint8_t node, uint8_t moved, uint8_t number,
+                          uint8_t *buffer, size_t buffer_length, size_t *length);
 
 /* No printed run is longer. */
 #define RUONFIDD_REPORT_BYTES 1024

@@ -1,9 +1,10 @@
-//! One choice, what an accepted one did, and what ends a list of them.
+//! One choice, what an accepted one did, why one was refused, and what ends a
+//! list of them.
 
 use std::error::Error;
 use std::fmt;
 
-use crate::Refusal;
+use crate::{say, Answer, Refusal, Sentence};
 
 /// One choice. Positions and nodes count from 0. A node of an attempt counts
 /// before the sides below it, and those on the left before those on the right.
@@ -43,8 +44,17 @@ impl Choice {
         }
     }
 
-    /// Kind, position and node, which is 0 for a choice that has none.
-    pub(crate) fn to_bytes(self) -> [u8; 3] {
+    /// Kind, position and node, as [`say`] takes them. The node of a choice that
+    /// has none is 0.
+    ///
+    /// ```
+    /// use ruonfidd::Choice;
+    ///
+    /// assert_eq!(Choice::Act { position: 5 }.to_bytes(), [1, 5, 0]);
+    /// assert_eq!(Choice::Inside { position: 5, node: 3 }.to_bytes(), [2, 5, 3]);
+    /// ```
+    #[must_use]
+    pub fn to_bytes(self) -> [u8; 3] {
         match self {
             Choice::Act { position } => [1, position, 0],
             Choice::Inside { position, node } => [2, position, node],
@@ -61,12 +71,26 @@ impl Choice {
     }
 }
 
-/// What an accepted choice did.
+/// What an accepted choice did. It displays as its sentence.
 ///
 /// Rules have the calculus's names, each an associated constant of this type.
+///
+/// ```
+/// use ruonfidd::{Choice, Hall, Moved, Refusal};
+///
+/// // A put into tray 3.
+/// let table = [2, 3, 13, 0];
+/// let (mut hall, mut tally) = Hall::open(&table)?;
+/// let moved = hall.step(&table, Choice::Act { position: 0 }, &mut tally)?;
+/// assert_eq!(moved.rule, Moved::OUT);
+/// assert_eq!(moved.to_string(), "Kind 1 at station 0 moved by rule 1, token put.");
+/// # Ok::<(), Refusal>(())
+/// ```
 #[derive(Clone, Copy, Debug, PartialEq, Eq, Hash)]
 #[non_exhaustive]
 pub struct Moved {
+    /// The choice.
+    pub choice: Choice,
     /// The number of the rule, 1 to 13.
     pub rule: u8,
     /// How many bytes the choice has in a list: what a run of this choice alone
@@ -110,6 +134,71 @@ impl Moved {
     pub const AOF: u8 = 12;
     /// A fork kept its left side.
     pub const AOE: u8 = 13;
+}
+
+impl Moved {
+    /// The choice and its rule in words. Nothing is allocated.
+    #[must_use]
+    pub fn sentence(&self) -> Sentence {
+        say(self.choice.to_bytes(), Answer::Moved(self.rule))
+    }
+}
+
+impl fmt::Display for Moved {
+    fn fmt(&self, out: &mut fmt::Formatter<'_>) -> fmt::Result {
+        fmt::Display::fmt(&self.sentence(), out)
+    }
+}
+
+/// A choice that was refused. It displays as its sentence; the refusal, which
+/// has the place too, is its source.
+///
+/// In a function that returns a [`Refusal`], `?` keeps the refusal alone.
+///
+/// ```
+/// use ruonfidd::{Choice, Hall, Refusal};
+///
+/// // A put into tray 3.
+/// let table = [2, 3, 13, 0];
+/// let (mut hall, mut tally) = Hall::open(&table)?;
+/// let refused = hall.step(&table, Choice::Act { position: 7 }, &mut tally).unwrap_err();
+/// assert_eq!(refused.refusal.number, Refusal::NO_STATION);
+/// assert_eq!(refused.to_string(), "Kind 1 at station 7 met refusal 14, no such station.");
+/// # Ok::<(), Refusal>(())
+/// ```
+#[derive(Clone, Copy, Debug, PartialEq, Eq, Hash)]
+#[non_exhaustive]
+pub struct Refused {
+    /// The choice.
+    pub choice: Choice,
+    /// Why it was refused, and where.
+    pub refusal: Refusal,
+}
+
+impl Refused {
+    /// The choice and its refusal in words. Nothing is allocated.
+    #[must_use]
+    pub fn sentence(&self) -> Sentence {
+        say(self.choice.to_bytes(), Answer::Refused(self.refusal.number))
+    }
+}
+
+impl fmt::Display for Refused {
+    fn fmt(&self, out: &mut fmt::Formatter<'_>) -> fmt::Result {
+        fmt::Display::fmt(&self.sentence(), out)
+    }
+}
+
+impl Error for Refused {
+    fn source(&self) -> Option<&(dyn Error + 'static)> {
+        Some(&self.refusal)
+    }
+}
+
+impl From<Refused> for Refusal {
+    fn from(refused: Refused) -> Refusal {
+        refused.refusal
+    }
 }
 
 /// A run that was refused, and how many choices it had done by then.

@@ -74,6 +74,16 @@ mod library {
             output: *mut [u8; REPORT_BYTES],
             written: *mut usize,
         );
+        pub(super) fn ruonfidd_sentence(
+            kind: u8,
+            position: u8,
+            node: u8,
+            moved: u8,
+            number: u8,
+            buffer: *mut u8,
+            buffer_length: usize,
+            length: *mut usize,
+        ) -> u8;
     }
 }
 
@@ -212,10 +222,41 @@ pub fn report(input: &[u8], output: &mut [u8; REPORT_BYTES], written: &mut usize
     unsafe { library::ruonfidd_report(input.as_ptr(), input.len(), output, written) }
 }
 
+/// The sentence of a choice, in its three bytes, and of its answer: refused with
+/// `number` where `moved` is 0, else moved by the rule `number`.
+///
+/// The number, 0 or 21. Where it is 0, the sentence stands at the front of the
+/// buffer and its length in `length`; what follows it in the buffer is as it was.
+/// Where it is 21, neither was written: this call alone does not always set what
+/// it was given to set.
+pub fn sentence(
+    [kind, position, node]: [u8; 3],
+    moved: u8,
+    number: u8,
+    buffer: &mut [u8],
+    length: &mut usize,
+) -> u8 {
+    // SAFETY: the pointer and the length are those of one slice; it and `length`
+    // are the caller's alone meanwhile. The call keeps neither of them.
+    unsafe {
+        library::ruonfidd_sentence(
+            kind,
+            position,
+            node,
+            moved,
+            number,
+            buffer.as_mut_ptr(),
+            buffer.len(),
+            length,
+        )
+    }
+}
+
 #[cfg(test)]
 mod tests {
+    use super::sentence;
     use super::{check_hall, check_table, fresh_tally, open_hall, report, run, step, suggest};
-    use crate::{HALL_BYTES, REPORT_BYTES};
+    use crate::{HALL_BYTES, REPORT_BYTES, SENTENCE_BYTES};
 
     const TABLE: [u8; 14] = [7, 10, 1, 0, 9, 0, 1, 6, 2, 12, 0, 1, 13, 3];
 
@@ -478,6 +519,55 @@ mod tests {
             assert_eq!(buffer[0], 170);
             assert!(buffer[text.len() + 1..].iter().all(|byte| *byte == 170));
             assert_eq!(input, before);
+        }
+    }
+
+    /// Guards stand around the lent bytes, and around a length that no sentence
+    /// has.
+    #[test]
+    fn a_sentence_writes_its_bytes_and_their_number_and_nothing_beside_them() {
+        for (choice, moved, number, text) in [
+            (
+                [1, 0, 7],
+                1,
+                4,
+                &b"Kind 1 at station 0 moved by rule 4, attempt begun."[..],
+            ),
+            (
+                [2, 63, 14],
+                0,
+                18,
+                b"Kind 2 at station 63, node 14 met refusal 18, tray empty.",
+            ),
+            (
+                [255; 3],
+                255,
+                255,
+                b"Kind 255 at station 255, node 255 moved by rule 255.",
+            ),
+        ] {
+            for lent in [SENTENCE_BYTES, SENTENCE_BYTES + 1, 1_000] {
+                let mut buffer = vec![170; lent + 2];
+                let mut lengths = [usize::MAX; 3];
+                let part = &mut buffer[1..=lent];
+                let refused = sentence(choice, moved, number, part, &mut lengths[1]);
+                assert_eq!(refused, 0);
+                assert_eq!(lengths, [usize::MAX, text.len(), usize::MAX]);
+                assert_eq!(buffer[1..=text.len()], *text);
+                assert_eq!(buffer[0], 170);
+                assert!(buffer[text.len() + 1..].iter().all(|byte| *byte == 170));
+            }
+        }
+    }
+
+    #[test]
+    fn a_refused_sentence_writes_neither_its_bytes_nor_their_number() {
+        for lent in [0, 1, 53, SENTENCE_BYTES - 1] {
+            let mut buffer = vec![170; lent + 2];
+            let mut length = usize::MAX;
+            let refused = sentence([1, 0, 0], 1, 4, &mut buffer[1..=lent], &mut length);
+            assert_eq!((refused, length), (21, usize::MAX));
+            assert!(buffer.iter().all(|byte| *byte == 170));
         }
     }
 }

@@ -3,7 +3,9 @@
 use std::fmt;
 
 use crate::{check_hall, open_hall, run, step, suggest};
-use crate::{Choice, Followed, Moved, Refusal, Stopped, SuggestedSteps, Tally, HALL_BYTES};
+use crate::{
+    Choice, Followed, Moved, Refusal, Refused, Stopped, SuggestedSteps, Tally, HALL_BYTES,
+};
 
 /// How many trays there are: a stored hall begins with so many counts.
 const TRAYS: usize = 16;
@@ -97,7 +99,8 @@ impl Hall {
         run(table, self.bytes.as_mut_slice(), choices, tally)
     }
 
-    /// Makes one choice: see [`step`].
+    /// Makes one choice: see [`step`]. The answer, moved or refused, displays as
+    /// its sentence.
     ///
     /// # Errors
     ///
@@ -108,7 +111,7 @@ impl Hall {
         table: &[u8],
         choice: Choice,
         tally: &mut Tally,
-    ) -> Result<Moved, Refusal> {
+    ) -> Result<Moved, Refused> {
         step(table, self.bytes.as_mut_slice(), choice, tally)
     }
 

@@ -22,6 +22,9 @@
 //!   suggested is promised by nothing, and may differ in another version.
 //! - Refused by table or hall, 1 to 11, hall and tally stay as they are.
 //!   Where a choice is refused, those before it stay done.
+//! - The answer of a step, moved or refused, displays as one English sentence
+//!   of at most [`SENTENCE_BYTES`] bytes, which no other choice or answer has.
+//!   [`say`] gives the sentence of any choice and answer.
 //!
 //! What is proved of a whole list of calls, that each committed block acts in
 //! one moment, is proved of calls with the same table, and with hall and tally as
@@ -48,17 +51,28 @@
 //!
 //! // Nothing is left to do.
 //! assert_eq!(hall.suggest(&table), Ok(None));
-//! let refusal = hall.step(&table, Choice::Act { position: 0 }, &mut tally).unwrap_err();
-//! assert_eq!(refusal.number, Refusal::NO_STATION);
+//! let refused = hall.step(&table, Choice::Act { position: 0 }, &mut tally).unwrap_err();
+//! assert_eq!(refused.refusal.number, Refusal::NO_STATION);
+//! assert_eq!(refused.to_string(), "Kind 1 at station 0 met refusal 14, no such station.");
 //!
 //! // The same by suggestions, step by step, and no more than a hundred.
 //! let (mut hall, mut tally) = Hall::open(&table)?;
-//! let mut rules = Vec::new();
+//! let (mut rules, mut board) = (Vec::new(), String::new());
 //! for step in hall.suggested_steps(&table, &mut tally).take(100) {
-//!     rules.push(step?.moved.rule);
+//!     let moved = step?;
+//!     rules.push(moved.rule);
+//!     board += &format!("{moved}\n");
 //! }
 //! use Moved as M;
 //! assert_eq!(rules, [M::ATST, M::ARDOK, M::AWR, M::ATOK, M::OUT]);
+//! assert_eq!(
+//!     board,
+//!     "Kind 1 at station 0 moved by rule 4, attempt begun.\n\
+//!      Kind 2 at station 0, node 0 moved by rule 8, read noted.\n\
+//!      Kind 2 at station 0, node 0 moved by rule 10, write noted.\n\
+//!      Kind 1 at station 0 moved by rule 7, block committed.\n\
+//!      Kind 1 at station 0 moved by rule 1, token put.\n"
+//! );
 //! assert_eq!(hall.counts()[..2], [0, 1]);
 //! # Ok::<(), Refusal>(())
 //! ```
@@ -69,14 +83,16 @@ pub mod ffi;
 mod hall;
 mod printed;
 mod refusal;
+mod sentence;
 mod suggested;
 mod tally;
 
-pub use choice::{Choice, Moved, Stopped};
+pub use choice::{Choice, Moved, Refused, Stopped};
 pub use hall::Hall;
 pub use printed::Printed;
 pub use refusal::Refusal;
-pub use suggested::{Followed, Suggested, SuggestedSteps};
+pub use sentence::{Answer, Sentence};
+pub use suggested::{Followed, SuggestedSteps};
 pub use tally::Tally;
 
 /// The length of a stored hall.
@@ -85,6 +101,10 @@ pub const HALL_BYTES: usize = 11_344;
 /// The length of the memory that a run is printed into. No printed run is
 /// longer.
 pub const REPORT_BYTES: usize = 1_024;
+
+/// The least length of the memory that a sentence is written into. No sentence
+/// is longer.
+pub const SENTENCE_BYTES: usize = 96;
 
 /// Whether a rule table is accepted.
 ///
@@ -193,7 +213,8 @@ pub fn run(
 }
 
 /// Makes one choice and says by which rule. [`Hall::step`] is the same on a
-/// hall that owns its bytes.
+/// hall that owns its bytes. The answer, moved or refused, displays as its
+/// sentence.
 ///
 /// # Errors
 ///
@@ -201,26 +222,43 @@ pub fn run(
 /// choice. Hall and tally are then as they were.
 ///
 /// ```
-/// use ruonfidd::{open_hall, step, Choice, Moved, HALL_BYTES};
+/// use ruonfidd::{open_hall, step, Choice, Moved, Refusal, HALL_BYTES};
 ///
 /// let table = [7, 10, 1, 0, 9, 0, 1, 6, 2, 12, 0, 1, 13, 3];
 /// let mut hall = vec![0; HALL_BYTES];
 /// let mut tally = open_hall(&table, &mut hall).unwrap();
-/// let moved = step(&table, &mut hall, Choice::Act { position: 0 }, &mut tally).unwrap();
+/// let act = Choice::Act { position: 0 };
+/// let moved = step(&table, &mut hall, act, &mut tally).unwrap();
 /// assert_eq!((moved.rule, moved.place), (Moved::ATST, 2));
+/// assert_eq!(moved.to_string(), "Kind 1 at station 0 moved by rule 4, attempt begun.");
+///
+/// // The attempt has not come to its end.
+/// let refused = step(&table, &mut hall, act, &mut tally).unwrap_err();
+/// assert_eq!(refused.refusal.number, Refusal::WRONG_STATION);
+/// assert_eq!(
+///     refused.to_string(),
+///     "Kind 1 at station 0 met refusal 15, station cannot do this."
+/// );
 /// ```
 pub fn step(
     table: &[u8],
     hall: &mut [u8],
     choice: Choice,
     tally: &mut Tally,
-) -> Result<Moved, Refusal> {
+) -> Result<Moved, Refused> {
     let mut words = tally.to_words();
     let (mut rule, mut place) = (0, 0);
     let bytes = choice.to_bytes();
     let number = ffi::step(table, hall, bytes, &mut words, &mut rule, &mut place);
     *tally = Tally::from_words(words);
-    Refusal::unless_zero(number, place).map(|()| Moved { rule, place })
+    match Refusal::unless_zero(number, place) {
+        Ok(()) => Ok(Moved {
+            choice,
+            rule,
+            place,
+        }),
+        Err(refusal) => Err(Refused { choice, refusal }),
+    }
 }
 
 /// Suggests a choice, which is an accepted one; none where no choice is
@@ -284,6 +322,62 @@ pub fn print_run_into(input: &[u8], output: &mut [u8; REPORT_BYTES]) -> usize {
 #[must_use]
 pub fn print_run(input: &[u8]) -> Printed {
     Printed::of(input)
+}
+
+/// Writes the sentence of a choice and its answer into lent memory and gives how
+/// many bytes it has. [`say`] brings its own memory.
+///
+/// The choice is its kind, position and node, any bytes, also those that no hall
+/// takes; with kind 1 the node counts for nothing. The sentence stands at the
+/// front of the buffer, and what follows it there is as it was. `docs/FORMAT.md`
+/// has the words.
+///
+/// # Errors
+///
+/// 21, place 0, where the buffer is shorter than [`SENTENCE_BYTES`]; nothing is
+/// written then.
+///
+/// ```
+/// use ruonfidd::{say_into, Answer, Refusal, SENTENCE_BYTES};
+///
+/// let mut buffer = [b'.'; SENTENCE_BYTES];
+/// let length = say_into([1, 0, 0], Answer::Moved(6), &mut buffer)?;
+/// assert_eq!(buffer[..length], *b"Kind 1 at station 0 moved by rule 6, commit failed.");
+/// assert!(buffer[length..].iter().all(|byte| *byte == b'.'));
+///
+/// let refusal = say_into([1, 0, 0], Answer::Moved(6), &mut buffer[1..]).unwrap_err();
+/// assert_eq!((refusal.number, refusal.place), (Refusal::BUFFER_TOO_SHORT, 0));
+/// # Ok::<(), Refusal>(())
+/// ```
+pub fn say_into(choice: [u8; 3], answer: Answer, buffer: &mut [u8]) -> Result<usize, Refusal> {
+    let [moved, number] = answer.to_bytes();
+    let mut length = 0;
+    let refused = ffi::sentence(choice, moved, number, buffer, &mut length);
+    Refusal::unless_zero(refused, 0).map(|()| length)
+}
+
+/// The sentence of a choice and its answer: [`say_into`] in memory of its own.
+///
+/// The answers of a step have theirs already: see [`Moved`] and [`Refused`].
+///
+/// ```
+/// use ruonfidd::{say, Answer};
+///
+/// let sentence = say([2, 3, 14], Answer::Refused(17));
+/// assert_eq!(
+///     sentence.to_string(),
+///     "Kind 2 at station 3, node 14 met refusal 17, no move at this node."
+/// );
+/// // No hall gives this one.
+/// let sentence = say([255, 255, 255], Answer::Moved(255));
+/// assert_eq!(
+///     sentence.to_string(),
+///     "Kind 255 at station 255, node 255 moved by rule 255."
+/// );
+/// ```
+#[must_use]
+pub fn say(choice: [u8; 3], answer: Answer) -> Sentence {
+    Sentence::of(choice, answer)
 }
 
 /// The README's example.

@@ -53,6 +53,14 @@ use std::fmt;
 /// | 18 | [`Refusal::EMPTY_TRAY`] | it takes from a tray without tokens |
 /// | 19 | [`Refusal::TOO_MANY_STATIONS`] | more than 64 stations would stand after it |
 /// | 20 | [`Refusal::FULL_TRAY`] | it puts a token on a tray that holds 255 |
+///
+/// # On a sentence's buffer
+///
+/// The place is 0. Of [`say_into`](crate::say_into) alone.
+///
+/// | Number | Name | Reason |
+/// |---|---|---|
+/// | 21 | [`Refusal::BUFFER_TOO_SHORT`] | it is shorter than 96 bytes |
 #[derive(Clone, Copy, Debug, PartialEq, Eq, Hash)]
 #[non_exhaustive]
 pub struct Refusal {
@@ -115,6 +123,13 @@ impl Refusal {
     pub const FULL_TRAY: u8 = 20;
 }
 
+/// Sentences.
+impl Refusal {
+    /// A buffer for a sentence that is shorter than
+    /// [`SENTENCE_BYTES`](crate::SENTENCE_BYTES).
+    pub const BUFFER_TOO_SHORT: u8 = 21;
+}
+
 impl Refusal {
     /// An answer of the library: 0 is no refusal.
     pub(crate) fn unless_zero(number: u8, place: usize) -> Result<(), Refusal> {
@@ -149,6 +164,7 @@ impl Refusal {
             Self::EMPTY_TRAY => "a take from a tray without tokens",
             Self::TOO_MANY_STATIONS => "more than 64 stations afterwards",
             Self::FULL_TRAY => "a put on a tray that holds 255 tokens",
+            Self::BUFFER_TOO_SHORT => "a buffer for a sentence shorter than 96 bytes",
             _ => "a number without words here",
         }
     }
@@ -202,8 +218,9 @@ mod tests {
             Refusal::EMPTY_TRAY,
             Refusal::TOO_MANY_STATIONS,
             Refusal::FULL_TRAY,
+            Refusal::BUFFER_TOO_SHORT,
         ];
-        assert!(names.into_iter().eq(1..=20));
+        assert!(names.into_iter().eq(1..=21));
     }
 
     #[test]
@@ -218,18 +235,18 @@ mod tests {
         );
     }
 
-    /// Twenty numbers have words of their own, the others share theirs.
+    /// Twenty-one numbers have words of their own, the others share theirs.
     #[test]
     fn no_words_are_used_twice() {
         let words = |number| Refusal { number, place: 0 }.reason();
-        for number in 1..=20 {
-            for other in number + 1..=21 {
+        for number in 1..=21 {
+            for other in number + 1..=22 {
                 assert_ne!(words(number), words(other));
             }
         }
-        for number in 22..=255 {
-            assert_eq!(words(number), words(21));
+        for number in 23..=255 {
+            assert_eq!(words(number), words(22));
         }
-        assert_eq!(words(0), words(21));
+        assert_eq!(words(0), words(22));
     }
 }

@@ -2,17 +2,7 @@
 
 use std::iter::FusedIterator;
 
-use crate::{Choice, Hall, Moved, Refusal, Tally};
-
-/// A choice that was suggested and made.
-#[derive(Clone, Copy, Debug, PartialEq, Eq, Hash)]
-#[non_exhaustive]
-pub struct Suggested {
-    /// The choice.
-    pub choice: Choice,
-    /// What it did.
-    pub moved: Moved,
-}
+use crate::{Hall, Moved, Refusal, Tally};
 
 /// How far suggestions were followed.
 #[derive(Clone, Copy, Debug, PartialEq, Eq, Hash)]
@@ -24,8 +14,8 @@ pub struct Followed {
     pub still: bool,
 }
 
-/// Steps that are suggested and made, one for each item; from
-/// [`Hall::suggested_steps`].
+/// Steps that are suggested and made, one for each item, which says what it did;
+/// from [`Hall::suggested_steps`].
 ///
 /// They end where the hall is still. A waiting block can always begin, so they
 /// may go on for ever: whoever wants an end takes so many of them, or uses
@@ -51,17 +41,17 @@ impl<'a> SuggestedSteps<'a> {
     }
 
     /// The next step, none where the hall is still.
-    fn step(&mut self) -> Result<Option<Suggested>, Refusal> {
+    fn step(&mut self) -> Result<Option<Moved>, Refusal> {
         let Some(choice) = self.hall.suggest(self.table)? else {
             return Ok(None);
         };
         let moved = self.hall.step(self.table, choice, self.tally)?;
-        Ok(Some(Suggested { choice, moved }))
+        Ok(Some(moved))
     }
 }
 
 impl Iterator for SuggestedSteps<'_> {
-    type Item = Result<Suggested, Refusal>;
+    type Item = Result<Moved, Refusal>;
 
     fn next(&mut self) -> Option<Self::Item> {
         if self.over {

@@ -88,7 +88,7 @@ impl<'a> Rehearsal<'a> {
         let mut tally = self.tally;
         let moved = hall
             .step(self.table.bytes(), choice, &mut tally)
-            .map_err(Unmade::Refused)?;
+            .map_err(|refused| Unmade::Refused(refused.refusal))?;
         let rule = rules::by_number(moved.rule).ok_or(Unmade::Contradiction)?;
         let position = position_of(choice);
         let acted = self

@@ -1,10 +1,12 @@
-//! Printing a run, from input bytes to output bytes.
+//! Printing a run, from input bytes to output bytes, and saying a sentence.
 
 use std::hint::black_box;
 
 use reference::build::Builder;
+use reference::calls;
 use reference::print::printed_run;
-use ruonfidd::{print_run_into, REPORT_BYTES};
+use reference::sentence::Verdict;
+use ruonfidd::{print_run_into, say_into, Answer, REPORT_BYTES, SENTENCE_BYTES};
 
 use crate::measure::{print_part, print_row};
 
@@ -38,7 +40,37 @@ fn many_choices() -> Vec<u8> {
     input
 }
 
+/// No sentence is longer: three bytes of three digits, and many words.
+fn print_sentence() {
+    print_part("saying a sentence");
+    let choice = [255; 3];
+    let [kind, position, node] = choice;
+    let (mut by_engine, mut by_second) = ([0; SENTENCE_BYTES], [0; SENTENCE_BYTES]);
+    print_row(
+        "the longest, 73 bytes",
+        ROUNDS,
+        &mut || {
+            say_into(
+                black_box(choice),
+                Answer::Refused(15),
+                black_box(&mut by_engine),
+            ) == Ok(73)
+        },
+        &mut || {
+            let buffer = black_box(&mut by_second);
+            let verdict = Verdict::Refused(15);
+            calls::say(black_box(kind), position, node, verdict, buffer) == Ok(73)
+        },
+    );
+    assert_eq!(by_engine, by_second);
+}
+
 pub(crate) fn print() {
+    print_runs();
+    print_sentence();
+}
+
+fn print_runs() {
     print_part("printing a run");
     for (name, input) in [
         ("the scope's example, 26 bytes", example()),

@@ -6,4 +6,5 @@ mod halls;
 mod header;
 mod printed;
 mod runs;
+mod sentences;
 mod tables;

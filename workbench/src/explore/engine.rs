@@ -255,9 +255,9 @@ fn each_choice(table: &Table, hall: &Hall, mut show: impl FnMut(Choice, Result<&
                 next.clone_from(hall);
                 0
             }
-            Err(refusal) => {
-                show(choice, Err(refusal.number));
-                refusal.number
+            Err(refused) => {
+                show(choice, Err(refused.refusal.number));
+                refused.refusal.number
             }
         }
     };

@@ -1,5 +1,7 @@
 //! What is written for programs, read back.
 
+use reference::sentence::{sentence, Verdict};
+
 use crate::common::{files, hall_in, name_of, package};
 
 /// A value that was read.
@@ -217,6 +219,58 @@ fn runs_for_programs() {
             );
         }
     }
+}
+
+/// The choice of an object, and what the second implementation says of it and its
+/// answer.
+fn said_by_the_second(choice: &Value) -> String {
+    let bytes: Vec<u8> = choice.field("choice").list().iter().map(byte).collect();
+    let (kind, position, node) = match bytes[..] {
+        [kind, position] => (kind, position, 0),
+        [kind, position, node] => (kind, position, node),
+        _ => panic!("{choice:?}"),
+    };
+    let has = |name: &str| choice.fields().iter().any(|(field, _)| field == name);
+    let verdict = match (has("moved"), has("refused")) {
+        (true, false) => Verdict::Moved(byte(choice.field("moved"))),
+        (false, true) => Verdict::Refused(byte(choice.field("refused"))),
+        _ => panic!("{choice:?}"),
+    };
+    sentence(kind, position, node, verdict)
+}
+
+fn byte(value: &Value) -> u8 {
+    match value {
+        Value::Number(number) => u8::try_from(*number).unwrap(),
+        other => panic!("no byte: {other:?}"),
+    }
+}
+
+/// Each choice has the engine's own sentence, moved or refused.
+#[test]
+fn the_engine_s_sentences_for_programs() {
+    let folder = package().join("examples");
+    let (mut moved, mut refused) = (0, 0);
+    for file in files(&folder, "hall") {
+        let name = name_of(&file);
+        let objects = hall_in(&folder, &["run", "--json", name], b"").out;
+        let objects: Vec<Value> = objects.lines().map(parsed).collect();
+        let (last, choices) = objects.split_last().unwrap();
+        for choice in choices {
+            assert_eq!(
+                choice.words("engine"),
+                said_by_the_second(choice),
+                "{name}: {choice:?}"
+            );
+        }
+        moved += last.number("done");
+        refused += last.number("refused");
+        assert_eq!(
+            choices.len() as u64,
+            last.number("done") + last.number("refused")
+        );
+    }
+    assert!(moved >= 300 && refused >= 5, "{moved} {refused}");
 }
 
 /// What goes wrong in a run is an object too, and the last line still comes.

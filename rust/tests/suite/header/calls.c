@@ -20,10 +20,14 @@ static uint8_t before[RUONFIDD_HALL_BYTES];
 static const uint8_t input[] = {7, 10, 1, 0, 9, 0, 1, 6, 2, 12, 0, 1, 13, 3, 1, 0, 2, 0, 0, 2, 0, 0, 1, 0, 1, 0};
 static const char printed[] = "R 0 12 5\nC 1 0 0\nT 0 1 -1 0\nT 1 0 1 1\n";
 static uint8_t report[RUONFIDD_REPORT_BYTES];
+/* One byte more than must be lent. */
+static uint8_t board[RUONFIDD_SENTENCE_BYTES + 1];
+static const char begun[] = "Kind 1 at station 0 moved by rule 4, attempt begun.";
+static const char unknown[] = "Kind 255 at station 0, node 9 met refusal 12, no such kind.";
 
 int main(void) {
     const size_t unset = (size_t)-1;
-    size_t place = unset, done = unset;
+    size_t place = unset, done = unset, length = unset;
     uint32_t tally[3] = {9, 9, 9};
     uint8_t rule = 99, choice[3] = {99, 99, 99};
 
@@ -52,6 +56,11 @@ int main(void) {
     place = unset;
     MUST(ruonfidd_step(table, sizeof table, hall, sizeof hall, 1, 0, 200, tally, &rule, &place) == 0);
     MUST(rule == 4 && place == 2 && hall[16] == 21);
+    /* What it did, in words; behind them nothing is written. */
+    memset(board, 99, sizeof board);
+    MUST(ruonfidd_sentence(1, 0, 200, 1, rule, board, RUONFIDD_SENTENCE_BYTES, &length) == 0);
+    MUST(length == sizeof begun - 1 && memcmp(board, begun, length) == 0 && board[length] == 99);
+    MUST(board[sizeof board - 2] == 99 && board[sizeof board - 1] == 99);
     place = unset;
     MUST(ruonfidd_suggest(table, sizeof table, hall, sizeof hall, choice, &place) == 0 && place == 0);
     MUST(choice[0] == 2 && choice[1] == 0 && choice[2] == 0);
@@ -60,6 +69,17 @@ int main(void) {
     MUST(rule == 8 && place == 3);
     MUST(ruonfidd_step(table, sizeof table, hall, sizeof hall, 255, 0, 0, tally, &rule, &place) == 12);
     MUST(rule == 0 && place == 0);
+    MUST(ruonfidd_sentence(255, 0, 9, 0, 12, board, sizeof board, &length) == 0);
+    MUST(length == sizeof unknown - 1 && memcmp(board, unknown, length) == 0 && board[length] == 99);
+    /* Any byte but 0 says that it moved. */
+    MUST(ruonfidd_sentence(1, 0, 0, 255, 4, board, sizeof board, &length) == 0);
+    MUST(length == sizeof begun - 1 && memcmp(board, begun, length) == 0);
+    /* A byte too short, and no memory at all: neither is written, and the length neither. */
+    memset(board, 99, sizeof board);
+    length = unset;
+    MUST(ruonfidd_sentence(1, 0, 0, 1, 4, board, RUONFIDD_SENTENCE_BYTES - 1, &length) == 21);
+    MUST(length == unset && board[0] == 99);
+    MUST(ruonfidd_sentence(1, 0, 0, 1, 4, NULL, 0, &length) == 21 && length == unset);
     place = done = unset;
     MUST(ruonfidd_run(table, sizeof table, hall, sizeof hall, choices + 5, sizeof choices - 5, tally, &place,
                       &done) == 0);

@@ -81,6 +81,7 @@ fn steps_with_their_rules() {
     for choice in whole_choices(&CHOICES) {
         let moved = hall.step(&EXAMPLE, choice_of(choice), &mut tally);
         let moved = moved.expect("an accepted choice");
+        assert_eq!(moved.choice, choice_of(choice));
         answers.push((moved.rule, moved.place));
     }
     let expected = [
@@ -92,10 +93,15 @@ fn steps_with_their_rules() {
     ];
     assert_eq!(answers, expected);
     let before = hall.clone();
-    let refusal = hall
+    let refused = hall
         .step(&EXAMPLE, Choice::Act { position: 7 }, &mut tally)
         .unwrap_err();
+    assert_eq!(refused.choice, Choice::Act { position: 7 });
+    let refusal = refused.refusal;
     assert_eq!((refusal.number, refusal.place), (Refusal::NO_STATION, 0));
+    assert_eq!(Refusal::from(refused), refusal);
+    let source = std::error::Error::source(&refused).expect("a source");
+    assert_eq!(source.to_string(), refusal.to_string());
     assert_eq!((hall, tally.commits), (before, 1));
 }
 
@@ -130,9 +136,9 @@ fn with_another_table() {
         (Refusal::HALL_FORM, 0)
     );
     let act = Choice::Act { position: 0 };
-    let refusal = hall.step(&[1], act, &mut tally).unwrap_err();
+    let refused = hall.step(&[1], act, &mut tally).unwrap_err();
     assert_eq!(
-        (refusal.number, refusal.place),
+        (refused.refusal.number, refused.refusal.place),
         (Refusal::START_NOT_LAST, 1)
     );
     let refusal = hall.suggest(&[1, 13, 0]).unwrap_err();
@@ -156,7 +162,7 @@ fn suggested_steps_to_a_still_hall() {
     let mut made = Vec::new();
     for step in steps.by_ref().take(100) {
         let step = step.expect("an accepted choice");
-        made.push((step.choice, step.moved.rule));
+        made.push((step.choice, step.rule));
     }
     // It has ended and stays so.
     assert!(steps.next().is_none());

@@ -24,7 +24,7 @@ use crate::text::choices::{Ask, Line};
 use crate::text::problems::Problem;
 use crate::text::source::{Source, Span};
 use crate::why::why;
-use objects::{bytes_of, last_object, moved_object};
+use objects::{last_object, moved_object, refused_object};
 use problems::{ends_here, lost_problem, missed, unexpected};
 use script::{script, Script};
 
@@ -243,12 +243,7 @@ impl Run<'_, '_, '_> {
         match self.told {
             Told::Quiet => {}
             Told::Json => {
-                let object = Object::new()
-                    .raw("choice", bytes_of(choice))
-                    .string("station", self.lesson.now().names.name(position_of(choice)))
-                    .number("refused", refusal.number)
-                    .string("sentence", &sentence)
-                    .written();
+                let object = refused_object(&self.lesson, choice, refusal, &sentence);
                 writeln!(self.streams.out, "{object}")?;
             }
             Told::Sentences | Told::Boards => self.numbered("-", None, &sentence)?,

@@ -1,16 +1,16 @@
 //! Runs for programs: one object a line.
 
-use ruonfidd::Choice;
+use ruonfidd::{say, Answer, Choice, Refusal};
 
 use super::still;
 use crate::commands::Failure;
 use crate::json::{self, Object};
 use crate::lesson::Lesson;
-use crate::rehearsal::Happened;
+use crate::rehearsal::{position_of, Happened};
 use crate::ways::count_of;
 
 /// The bytes of a choice.
-pub(crate) fn bytes_of(choice: Choice) -> String {
+fn bytes_of(choice: Choice) -> String {
     let mut bytes = Vec::new();
     choice.write_to(&mut bytes);
     json::list(bytes.iter().map(u8::to_string))
@@ -29,8 +29,33 @@ pub(crate) fn moved_object(lesson: &Lesson<'_>, happened: &Happened, sentence: &
         .string("rule", happened.rule.calculus)
         .string("word", happened.rule.word)
         .string("sentence", sentence)
+        .string(
+            "engine",
+            by_engine(happened.choice, Answer::Moved(happened.rule.number)),
+        )
         .raw("trays", trays.written())
         .written()
+}
+
+/// A choice that was refused, as the lesson expects.
+pub(crate) fn refused_object(
+    lesson: &Lesson<'_>,
+    choice: Choice,
+    refusal: Refusal,
+    sentence: &str,
+) -> String {
+    Object::new()
+        .raw("choice", bytes_of(choice))
+        .string("station", lesson.now().names.name(position_of(choice)))
+        .number("refused", refusal.number)
+        .string("sentence", sentence)
+        .string("engine", by_engine(choice, Answer::Refused(refusal.number)))
+        .written()
+}
+
+/// The engine's own sentence, which has numbers where the other one has names.
+fn by_engine(choice: Choice, answer: Answer) -> String {
+    say(choice.to_bytes(), answer).to_string()
 }
 
 /// The end of a run.

@@ -1,0 +1,90 @@
+//! Two different pairs of choice and answer never share a sentence.
+
+use std::collections::HashMap;
+
+use ruonfidd::{say, Answer, Sentence};
+
+/// A choice and its answer as they count: kind 1 has no node.
+type Pair = (u8, u8, Option<u8>, Answer);
+
+/// Sentences so far, each with its pair.
+#[derive(Default)]
+struct Heard(HashMap<Sentence, Pair>);
+
+impl Heard {
+    #[track_caller]
+    fn hear(&mut self, [kind, position, node]: [u8; 3], answer: Answer) {
+        let pair = (kind, position, (kind != 1).then_some(node), answer);
+        let sentence = say([kind, position, node], answer);
+        if let Some(other) = self.0.insert(sentence, pair) {
+            assert_eq!(other, pair, "{sentence}");
+        }
+    }
+}
+
+fn both(number: u8) -> [Answer; 2] {
+    [Answer::Moved(number), Answer::Refused(number)]
+}
+
+/// Numbers whose digits run together in many ways: 1 and 12 as 11 and 2 do.
+#[test]
+fn over_digits_that_run_together() {
+    let bytes = [
+        0, 1, 2, 3, 10, 11, 12, 13, 20, 21, 22, 25, 31, 55, 99, 100, 112, 121, 212, 255,
+    ];
+    let mut heard = Heard::default();
+    for kind in bytes {
+        for position in bytes {
+            for node in bytes {
+                for number in bytes {
+                    for answer in both(number) {
+                        heard.hear([kind, position, node], answer);
+                    }
+                }
+            }
+        }
+    }
+    // 19 kinds with a node, kind 1 without.
+    let choices = 19 * 20 * 20 + 20;
+    assert_eq!(heard.0.len(), choices * 20 * 2);
+}
+
+/// All rules and refusals of all choices that a hall takes.
+#[test]
+fn over_the_choices_of_a_hall() {
+    let answers = (1..=13)
+        .map(Answer::Moved)
+        .chain((1..=20).map(Answer::Refused));
+    let mut heard = Heard::default();
+    for answer in answers {
+        for position in 0..64 {
+            heard.hear([1, position, 0], answer);
+            for node in 0..15 {
+                heard.hear([2, position, node], answer);
+            }
+        }
+    }
+    assert_eq!(heard.0.len(), 33 * 64 * 16);
+}
+
+/// All kinds with all numbers, which a table of words might confuse.
+#[test]
+fn over_kinds_and_numbers() {
+    let mut heard = Heard::default();
+    for kind in 0..=255 {
+        for answer in (0..=255).flat_map(both) {
+            heard.hear([kind, 7, 7], answer);
+        }
+    }
+    assert_eq!(heard.0.len(), 256 * 256 * 2);
+}
+
+/// What the test above rests on: the same sentence of another pair is noticed.
+#[test]
+#[should_panic(expected = "moved by rule 1, token put")]
+fn a_shared_sentence_is_noticed() {
+    let mut heard = Heard::default();
+    let shared = say([1, 0, 0], Answer::Moved(1));
+    heard.0.insert(shared, (1, 1, None, Answer::Moved(1)));
+    heard.hear([1, 0, 0], Answer::Moved(1));
+}

@@ -1,0 +1,24 @@
+//! Several threads at once, each with its own buffers.
+
+use reference::generator::Random;
+use ruonfidd::Answer;
+
+use super::said;
+
+/// The call keeps nothing from one to the next.
+#[test]
+fn several_threads() {
+    std::thread::scope(|scope| {
+        for seed in 0..4 {
+            scope.spawn(move || {
+                let mut random = Random::new(seed);
+                for _ in 0..5_000 {
+                    let choice = [(); 3].map(|()| random.byte_below(256));
+                    let number = random.byte_below(32);
+                    said(choice, Answer::Moved(number));
+                    said(choice, Answer::Refused(number));
+                }
+            });
+        }
+    });
+}
