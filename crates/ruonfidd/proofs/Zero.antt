@@ -3,13 +3,19 @@
 use Prim.Native.Nat.{ℕ, _≤_}
 use native.Mathlib.Omega.{arith}
 use mathlib.Core.Path.{_≡_, refl}
+use mathlib.Core.Bool.{Bool, true, false}
 use mathlib.Core.Logic.{_⊎_, inl, inr}
 use mathlib.Core.List.{List, [], _∷_}
-use Rattle.semantics.specs.Definitions.Moves.{Entry}
+use lib.ListN.{length}
+use lib.Dec.{ltb}
+use borrow.Author.Tests.{ltb-true, ltb-false}
+use Rattle.semantics.specs.Definitions.Moves.{Entry, Reply}
 use Rattle.semantics.specs.Definitions.Calls.{Verdict, ok, rejected, checkTable, checkHall, OpenAnswer, opened, notOpened, openHall, openVerdict, Admission, admitted, notAdmitted, admission, SuggestAnswer, suggested, still, notSuggested, SuggestAdmitted, SuggestAllowed}
+use Rattle.semantics.specs.Definitions.Sentence.{sentenceCall}
 use Rattle.semantics.specs.Checks.Conditions.{RefusalNumbers}
-use Rattle.theorems.proofs.Theorems.{refusal-numbers}
-use Rattle.ruonfidd.specs.Answered.{VerdictAnswered, OpeningAnswered, choiceWords, SuggestionAnswered}
+use Rattle.semantics.specs.Checks.Sentences.{ShortBuffersRefused}
+use Rattle.theorems.proofs.Theorems.{refusal-numbers, short-buffers-refused}
+use Rattle.ruonfidd.specs.Answered.{VerdictAnswered, OpeningAnswered, choiceWords, SuggestionAnswered, SentenceAnswered}
 
 zero-ok : (v : Verdict) → ((n p : ℕ) → v ≡ rejected n p → 1 ≤ n) → (set : ℕ) → VerdictAnswered v 0 set → v ≡ ok
 zero-ok ok above set t = refl
@@ -54,3 +60,15 @@ zero-suggested table hall place w x = go (x .answer) refl
         absurd (
         let n : 0 ≡ m = rw h at (x .values .number) in
         let l = refused m q (admission table hall) refl (rw h at (x .allowed)) in omega arith)
+
+-- a sentence with number 0 had room
+pub zero-sentence : (k p n : ℕ) (a : Reply) (buffer : List ℕ) (before after : ℕ) (buffer′ : List ℕ) →
+    SentenceAnswered (sentenceCall k p n a buffer) 0 before after buffer′ → 96 ≤ length buffer
+unfolding ShortBuffersRefused
+zero-sentence k p n a buffer before after buffer′ t = go (ltb (length buffer) 96) refl
+  where
+    go : (b : Bool) → ltb (length buffer) 96 ≡ b → 96 ≤ length buffer
+    go true e =
+        let short = short-buffers-refused k p n a buffer (ltb-true (length buffer) 96 e) in
+        absurd (let z : 0 ≡ 21 = rw short at (t .number) in omega arith)
+    go false e = ltb-false (length buffer) 96 e

@@ -9,8 +9,6 @@ use mathlib.Core.Bool.{Bool, true, false, cond}
 use mathlib.Core.List.{List, [], _∷_, _++_, append-assoc, append-nil, flatten, map}
 use lib.ListN.{length, getD, take, drop, length-append, List·getD-append}
 use lib.Seq.{drop-append-seam, getD-append-add}
-use mir.Syntax.{w64}
-use mir.Val.{Fits}
 use Rattle.semantics.specs.Definitions.Basics.{ascii}
 use Rattle.semantics.specs.Definitions.Sentence.{ruleWords, refusalWords, wordsFor}
 use Rattle.decimals.specs.Wrote.{Wrote}
@@ -75,12 +73,9 @@ all-long : length (flatten phrases) ≡ 603
 unfolding phrases flatten
 all-long = refl
 
-pub start-inside : (i : ℕ) → i ≤ entries → startOf i ≤ 603
+start-inside : (i : ℕ) → i ≤ entries → startOf i ≤ 603
 unfolding startOf phrases
 start-inside i l = rw all-long at (start-within 0 phrases i l)
-
-pub start-fits : (i : ℕ) → i ≤ entries → Fits w64 (startOf i)
-start-fits i l = record { fits = let m = start-inside i l in omega arith }
 
 -- what lies between the starts of an entry and of the next one
 module _ (i from end : ℕ) (l : i < entries) (a : from ≡ startOf i) (b : end ≡ startOf (i + 1)) where

@@ -11,42 +11,55 @@ use lib.Seq.{take-length}
 use borrow.Author.Tests.{le-ltb}
 use mir.Syntax.{w8}
 use mir.Val.{Fits}
+use Rattle.semantics.specs.Definitions.Moves.{Reply}
 use Rattle.semantics.specs.Definitions.Sentence.{sentence, told, SentenceCall, sentenceCall}
 use Rattle.semantics.specs.Claims.Sentences.{AllBytes, SentencesAreShort}
 use Rattle.semantics.specs.Checks.Sentences.{ShortBuffersRefused}
 use Rattle.theorems.proofs.Sentences.{short-buffers-refused, sentences-are-short}
 use Rattle.buffer.specs.Splice.{written}
 use Rattle.decimals.specs.Wrote.{Wrote}
+use Rattle.sentences.specs.declared.SentenceAnswer.{SentenceAnswer}
 use Rattle.sentences.specs.declared.SentenceAnswer.the-variants as answer
-use Rattle.sentences.specs.Answers.{replyIn, sentenceCallOf}
+use Rattle.sentences.specs.Answers.{replyIn, answerOf, sentenceCallOf}
 
 -- a text that stands at the front, and how it is answered
-pub toldAs : (v s : List ℕ) → SentenceCall
+toldAs : (v s : List ℕ) → SentenceCall
 toldAs v s = record { answer = told (length v); buffer = v ++ drop (length v) s }
 
 as-told : (v s s₁ : List ℕ) (r : ℕ) → Wrote s 0 v s₁ r → sentenceCallOf (answer.Told r) s₁ ≡ toldAs v s
 unfolding written toldAs
 as-told v s s₁ r w = rw (w .end, w .bytes, take-length v, zero-add (length v)) refl
 
-module _ (k p n : ℕ) (b : Bool) (m : ℕ) (s : List ℕ) where
-  pub short-refused : length s < 96 → sentenceCallOf (answer.Refused 21 0) s ≡ sentenceCall k p n (replyIn b m) s
+module _ (k p n : ℕ) (a : Reply) (s : List ℕ) where
+  pub short-refused : length s < 96 → sentenceCallOf (answer.Refused 21 0) s ≡ sentenceCall k p n a s
   unfolding ShortBuffersRefused
-  short-refused l = sym (short-buffers-refused k p n (replyIn b m) s l)
+  short-refused l = sym (short-buffers-refused k p n a s l)
 
-  module _ (room : 96 ≤ length s) where
-    has-room : sentenceCall k p n (replyIn b m) s ≡ toldAs (sentence k p n (replyIn b m)) s
-    unfolding sentenceCall toldAs
-    has-room = rw (le-ltb (length s) 96 room)
+  has-room : 96 ≤ length s → sentenceCall k p n a s ≡ toldAs (sentence k p n a) s
+  unfolding sentenceCall toldAs
+  has-room room = rw (le-ltb (length s) 96 room)
 
-    pub sentence-told : (s₁ : List ℕ) (r : ℕ) → Wrote s 0 (sentence k p n (replyIn b m)) s₁ r →
-        sentenceCallOf (answer.Told r) s₁ ≡ sentenceCall k p n (replyIn b m) s
-    sentence-told s₁ r w = as-told (sentence k p n (replyIn b m)) s s₁ r w ∙ sym has-room
+  pub sentence-told : 96 ≤ length s → (s₁ : List ℕ) (r : ℕ) → Wrote s 0 (sentence k p n a) s₁ r →
+      sentenceCallOf (answer.Told r) s₁ ≡ sentenceCall k p n a s
+  sentence-told room s₁ r w = as-told (sentence k p n a) s s₁ r w ∙ sym (has-room room)
 
-    module _ (fk : Fits w8 k) (fp : Fits w8 p) (fn : Fits w8 n) (fm : Fits w8 m) where
-      all-bytes : (c : Bool) → AllBytes k p n (replyIn c m)
-      all-bytes true = omega (arith, fk .fits, fp .fits, fn .fits, fm .fits)
-      all-bytes false = omega (arith, fk .fits, fp .fits, fn .fits, fm .fits)
+module _ (k p n m : ℕ) (fk : Fits w8 k) (fp : Fits w8 p) (fn : Fits w8 n) (fm : Fits w8 m) where
+  all-bytes : (b : Bool) → AllBytes k p n (replyIn b m)
+  all-bytes true = omega (arith, fk .fits, fp .fits, fn .fits, fm .fits)
+  all-bytes false = omega (arith, fk .fits, fp .fits, fn .fits, fm .fits)
 
-      pub sentence-fits : length (sentence k p n (replyIn b m)) ≤ length s
-      unfolding SentencesAreShort
-      sentence-fits = let l = sentences-are-short k p n (replyIn b m) (all-bytes b) in omega arith
+  pub sentence-fits : (b : Bool) (s : List ℕ) → 96 ≤ length s → length (sentence k p n (replyIn b m)) ≤ length s
+  unfolding SentencesAreShort
+  sentence-fits b s room = let l = sentences-are-short k p n (replyIn b m) (all-bytes b) in omega arith
+
+-- ---- the cases are kept apart
+
+answer-injective : (a b : SentenceAnswer) → answerOf a ≡ answerOf b → a ≡ b
+answer-injective (answer.Told n) (answer.Told m) e = cc
+answer-injective (answer.Told n) (answer.Refused m q) e = absurd (let z : _≡_ {A = ℕ} 0 1 = cc in omega arith)
+answer-injective (answer.Refused n p) (answer.Told m) e = absurd (let z : _≡_ {A = ℕ} 0 1 = cc in omega arith)
+answer-injective (answer.Refused n p) (answer.Refused m q) e = cc
+
+pub sentence-call-injective : (a b : SentenceAnswer) (x y : List ℕ) → sentenceCallOf a x ≡ sentenceCallOf b y →
+    (a ≡ b) × (x ≡ y)
+sentence-call-injective a b x y e = (answer-injective a b (ap (λ c. c .answer) e), ap (λ c. c .buffer) e)

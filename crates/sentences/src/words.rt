@@ -45,7 +45,7 @@ const WORDS: [u8; 603] = *b"\
 , tray full";
 
 // Where those of each entry begin, and last where all end. Entry 0 has no words; rules begin at entry 1.
-const STARTS: [u16; 35] = [
+const STARTS: [usize; 35] = [
     0,
     0,
     11,
@@ -116,7 +116,7 @@ fn start_of(entry: usize) -> usize
     requires { ⌜ entry ≤ entries ⌝ }
     ensures { λ r. ⌜ r ≡ startOf entry ⌝ }
 {
-    STARTS[entry] as usize
+    STARTS[entry]
 }
 
 // The words of an entry: the answer is the offset behind them.

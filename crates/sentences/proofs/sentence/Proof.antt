@@ -6,7 +6,7 @@ use Rattle.sentences.proofs.sentence.Statement.{statement}
 use Rattle.sentences.proofs.sentence.Tie as tie
 
 returns : tie.Need-returns
-returns c = search (short-refused, needs)
+returns c = short-refused _ _ _ _ _ (search needs)
 
 write-sentence-requires : tie.Need-write-sentence-requires
 write-sentence-requires c κs = search (sentence-fits, needs)

@@ -2,10 +2,7 @@
 -- Assumes nothing.
 use borrow.Author.Needs.{needs}
 use mathlib.Core.Path.{refl}
-use Rattle.semantics.specs.Definitions.Basics.{ascii}
-use Rattle.semantics.specs.Definitions.Sentence.{ruleWords, refusalWords}
 use Rattle.sentences.specs.Words.{phrases, startOf}
-use Rattle.sentences.proofs.Phrases.{start-fits}
 use Rattle.sentences.proofs.words.start_of.Statement.{statement}
 use Rattle.sentences.proofs.words.start_of.Tie as tie
 
@@ -15,13 +12,9 @@ mul-result c = search needs
 array-read-result : tie.Need-array-read-result
 array-read-result c = search needs
 
-cast-result : tie.Need-cast-result
-unfolding startOf phrases
-cast-result c = start-fits (c .args .entry) (search needs)
-
 returns : tie.Need-returns
 unfolding startOf phrases
 returns c = refl
 
 pub start-of-spec : {M : Type 1} → statement M
-start-of-spec = tie.close (tie.spec mul-result array-read-result cast-result returns)
+start-of-spec = tie.close (tie.spec mul-result array-read-result returns)
