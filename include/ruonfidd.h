@@ -141,8 +141,8 @@ uint8_t ruonfidd_suggest(const uint8_t *table, size_t table_length, const uint8_
  * that number.  A step that returned 0 has moved by its rule; any other was refused with what it
  * returned.  For kind 1 the node counts for nothing.
  * The sentence names kind, position, node and number in decimal, and says in words what rules 1 to 13
- * and refusals 1 to 20 mean.  All bytes are taken, also those that no hall gives; two different choices
- * or answers never have the same sentence.
+ * and refusals 1 to 20 mean.  All bytes are taken, also those that no hall gives; no two choices or
+ * answers that differ have the same sentence.
  *
  * Written: 0, and length is how many bytes the sentence has.  It stands at the front of the buffer,
  * with no zero behind it; all other bytes of the buffer are as they were.

@@ -149,8 +149,8 @@ pub fn is_still(table: &[u8], hall: &[u8]) -> Result<bool, Refusal> {
 ///
 /// # Errors
 ///
-/// Refusal 21, even where a shorter buffer would hold the sentence. Nothing is
-/// written then.
+/// Refusal 21 where the buffer has fewer bytes than [`SENTENCE_ROOM`], even where
+/// they would hold the sentence. Nothing is written then.
 pub fn say(
     kind: u8,
     position: u8,

@@ -56,8 +56,8 @@ const REFUSALS: &[&str] = &[
     "tray full",
 ];
 
-/// The sentence for any four bytes. Kind 1 has no node: one handed in counts
-/// for nothing.
+/// The sentence for any four bytes. Kind 1 has no node: one that comes with it
+/// is passed over.
 pub fn sentence(kind: u8, position: u8, node: u8, verdict: Verdict) -> String {
     let node = match kind {
         1 => String::new(),

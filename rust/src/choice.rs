@@ -45,7 +45,8 @@ impl Choice {
     }
 
     /// Kind, position and node, as [`say`] takes them. The node of a choice that
-    /// has none is 0.
+    /// has none is 0. In a list of choices such a one has two bytes, and not
+    /// these: see [`Choice::write_to`].
     ///
     /// ```
     /// use ruonfidd::Choice;

@@ -5,7 +5,7 @@
 //! alone; they are no part of its interface. All unsafe code of the package is
 //! here. In the library's calls a `&[u8]` or `&mut [u8]` is a pointer and a
 //! length, a `&mut` of a number is a pointer; a call returns the number of the
-//! refusal, 0 for none, and sets the place.
+//! refusal, 0 for none, and sets the place (a sentence has none).
 
 #![allow(unsafe_code)]
 

@@ -2,7 +2,8 @@
 //!
 //! The engine is a static library, `libruonfidd.a`, that is proved to answer
 //! as the scope's definitions say. This package links it and adds nothing to
-//! its answers: only its number and its place become a [`Result`].
+//! its answers: only its number and its place become a [`Result`], those of a
+//! step with its choice.
 //!
 //! # Linking
 //!
@@ -23,7 +24,8 @@
 //! - Refused by table or hall, 1 to 11, hall and tally stay as they are.
 //!   Where a choice is refused, those before it stay done.
 //! - The answer of a step, moved or refused, displays as one English sentence
-//!   of at most [`SENTENCE_BYTES`] bytes, which no other choice or answer has.
+//!   of at most [`SENTENCE_BYTES`] bytes, which no other choice, rule or number
+//!   of a refusal has; where a refusal was, is not told.
 //!   [`say`] gives the sentence of any choice and answer.
 //!
 //! What is proved of a whole list of calls, that each committed block acts in

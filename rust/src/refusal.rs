@@ -60,7 +60,7 @@ use std::fmt;
 ///
 /// | Number | Name | Reason |
 /// |---|---|---|
-/// | 21 | [`Refusal::BUFFER_TOO_SHORT`] | it is shorter than 96 bytes |
+/// | 21 | [`Refusal::BUFFER_TOO_SHORT`] | it has fewer than 96 bytes |
 #[derive(Clone, Copy, Debug, PartialEq, Eq, Hash)]
 #[non_exhaustive]
 pub struct Refusal {
@@ -125,7 +125,7 @@ impl Refusal {
 
 /// Sentences.
 impl Refusal {
-    /// A buffer for a sentence that is shorter than
+    /// A sentence's buffer of fewer bytes than
     /// [`SENTENCE_BYTES`](crate::SENTENCE_BYTES).
     pub const BUFFER_TOO_SHORT: u8 = 21;
 }
@@ -164,7 +164,7 @@ impl Refusal {
             Self::EMPTY_TRAY => "a take from a tray without tokens",
             Self::TOO_MANY_STATIONS => "more than 64 stations afterwards",
             Self::FULL_TRAY => "a put on a tray that holds 255 tokens",
-            Self::BUFFER_TOO_SHORT => "a buffer for a sentence shorter than 96 bytes",
+            Self::BUFFER_TOO_SHORT => "a sentence's buffer of fewer than 96 bytes",
             _ => "a number without words here",
         }
     }

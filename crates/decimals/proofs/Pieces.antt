@@ -2,7 +2,7 @@
 -- Assumes nothing.
 use Prim.Native.Nat.{ℕ, _+_, _≤_}
 use native.Mathlib.Omega.{arith}
-use mathlib.Core.Path.{_≡_, ap}
+use mathlib.Core.Path.{_≡_}
 use mathlib.Core.List.{List, [], _++_, append-assoc, append-nil}
 use lib.ListN.{length, length-append}
 use Rattle.decimals.specs.Wrote.{Wrote}
@@ -32,6 +32,9 @@ module _ (s₀ : List ℕ) (at : ℕ) (v w rest s : List ℕ) (end : ℕ) (x : B
 
 -- ---- two pieces
 
+pub first-fits : (room at : ℕ) (v w : List ℕ) → at + length (v ++ w) ≤ room → at + length v ≤ room
+first-fits room at v w fits = let a = length-append v w in omega arith
+
 module _ (s : List ℕ) (at : ℕ) (v w s₁ : List ℕ) (i : ℕ) where
   pub second-fits : at + length (v ++ w) ≤ length s → Wrote s at v s₁ i → i + length w ≤ length s₁
   second-fits room a = piece-fits s at v w [] s₁ i (record { room = rw append-nil room; wrote = a })
@@ -41,13 +44,14 @@ module _ (s : List ℕ) (at : ℕ) (v w s₁ : List ℕ) (i : ℕ) where
 
 -- ---- three pieces
 
+-- a text of three pieces, and room for all of it
 pub record Three (s : List ℕ) (at : ℕ) (whole a b c : List ℕ) : Type 0 where
   pub parts : whole ≡ a ++ (b ++ c)
   pub room : at + length whole ≤ length s
 
 module _ (s : List ℕ) (at : ℕ) (whole a b c : List ℕ) (t : Three s at whole a b c) where
   pub first-of-three-fits : at + length a ≤ length s
-  first-of-three-fits = let e = ap length (t .parts) in let r = t .room in let l = length-append a (b ++ c) in omega arith
+  first-of-three-fits = first-fits (length s) at a (b ++ c) (rw (t .parts) at (t .room))
 
   module _ (s₁ : List ℕ) (i : ℕ) (x : Wrote s at a s₁ i) where
     first-there : Begun s at a (b ++ c) s₁ i

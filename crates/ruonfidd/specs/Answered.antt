@@ -3,14 +3,15 @@
 -- Assumes nothing.
 use Prim.Native.Nat.{ℕ}
 use mathlib.Core.Path.{_≡_}
-use mathlib.Core.Bool.{cond}
+use mathlib.Core.Bool.{not}
 use mathlib.Core.List.{List, [], _∷_}
 use lib.ListN.{getD}
 use lib.Dec.{eqb}
-use Rattle.semantics.specs.Definitions.Moves.{Entry, act, inside, Reply, movedBy, refusedBy}
+use Rattle.semantics.specs.Definitions.Moves.{Entry, act, inside, Reply}
 use Rattle.semantics.specs.Definitions.Run.{Counters}
 use Rattle.semantics.specs.Definitions.Calls.{Verdict, verdictNumber, verdictPlace, Opening, openVerdict, Buffers, RunCall, StepCall, SuggestAnswer, suggested, still, notSuggested, SuggestAllowed}
 use Rattle.semantics.specs.Definitions.Sentence.{SentenceAnswer, told, notTold, SentenceCall}
+use Rattle.sentences.specs.Answers.{replyIn}
 
 -- these two numbers as they are
 pub record VerdictSet (n at : ℕ) (returned p : ℕ) : Type 0 where
@@ -99,9 +100,9 @@ pub record SuggestionAnswered (table hall : List ℕ) (returned p : ℕ) (w : Li
 
 -- ---- a sentence
 
--- a byte that tells whether the choice moved, and the number of the rule or of the refusal
-abbrev pub replyIn : (moved number : ℕ) → Reply
-replyIn m n = cond (eqb m 0) (refusedBy n) (movedBy n)
+-- a byte that tells whether the choice moved, 0 that it did not, and the number of the rule or of the refusal
+abbrev pub replyFrom : (moved number : ℕ) → Reply
+replyFrom m n = replyIn (not (eqb m 0)) n
 
 -- what is returned, and the lent length afterwards: as it was where nothing is told
 abbrev pub sentenceNumber : SentenceAnswer → ℕ

@@ -28,7 +28,7 @@ ghost use Rattle.decimals.specs.Wrote.{Wrote};
 ghost use Rattle.counters.specs.Counted.{countersOf};
 ghost use Rattle.schedule.specs.Entries.{entryOf};
 ghost use Rattle.sections.specs.Limits.{linesMost};
-ghost use Rattle.ruonfidd.specs.Answered.{VerdictAnswered, OpeningAnswered, tallyWords, countersIn, buffersIn, RunAnswered, StepAnswered, choiceWords, SuggestionAnswered, replyIn, SentenceAnswered};
+ghost use Rattle.ruonfidd.specs.Answered.{VerdictAnswered, OpeningAnswered, tallyWords, countersIn, buffersIn, RunAnswered, StepAnswered, choiceWords, SuggestionAnswered, replyFrom, SentenceAnswered};
 
 // Whether a table is accepted: 0, and place 0; or the number of the first refusal, and its place.
 #[no_mangle]
@@ -228,7 +228,7 @@ pub extern "C" fn ruonfidd_sentence(
     buffer: &mut [u8],
     length: &mut usize,
 ) -> u8
-    ensures { λ r. ⌜ SentenceAnswered (sentenceCall kind position node (replyIn moved number) (now (buffer .entry)))
+    ensures { λ r. ⌜ SentenceAnswered (sentenceCall kind position node (replyFrom moved number) (now (buffer .entry)))
         r (now (length .entry)) (now (length .exit)) (now (buffer .exit)) ⌝ }
 {
     match sentences::sentence(kind, position, node, moved != 0, number, buffer) {

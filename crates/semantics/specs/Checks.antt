@@ -1,5 +1,5 @@
--- The definitions compared with document 01, piece by piece: its tables, moves, refusals, answers, stored form, printed
--- run and worked examples. Assumes nothing.
+-- The definitions compared with documents 01 and 02, piece by piece: tables, moves, refusals, answers, stored form,
+-- printed run, sentences and worked examples. Assumes nothing.
 pub mod StatedMoves
 pub mod AcceptedTables
 pub mod StoredForm

@@ -1,27 +1,20 @@
 -- A text written, with a number behind it; and a sentence written part by part.
 -- Assumes nothing.
-use Prim.Native.Nat.{ℕ, _+_, _≤_, _<_}
+use Prim.Native.Nat.{ℕ, _+_, _≤_}
 use Prim.Native.String.{String}
 use native.Mathlib.Omega.{arith}
-use mathlib.Core.Path.{_≡_, refl, sym, ap, _∙_}
+use mathlib.Core.Path.{_≡_, refl}
 use mathlib.Core.Bool.{Bool, true, false}
-use mathlib.Core.List.{List, [], _∷_, _++_}
-use lib.ListN.{length, length-append}
+use mathlib.Core.List.{List, [], _++_}
+use lib.ListN.{length}
 use borrow.Author.Tests.{eq-eqb, ne-eqb}
 use Rattle.semantics.specs.Definitions.Moves.{Reply, movedBy, refusedBy}
 use Rattle.semantics.specs.Definitions.Report.{decimal}
-use Rattle.semantics.specs.Definitions.Basics.{ascii}
-use Rattle.semantics.specs.Definitions.Sentence.{ruleWords, refusalWords, wordsFor, named, nodeNamed, choiceNamed, replyNamed, sentence}
+use Rattle.semantics.specs.Definitions.Sentence.{ascii, ruleWords, refusalWords, wordsFor, named, nodeNamed, choiceNamed, replyNamed, sentence}
 use Rattle.decimals.specs.Wrote.{Wrote}
-use Rattle.decimals.proofs.Pieces.{second-fits, both-written, Three, first-of-three-fits, second-of-three-fits, third-fits, three-written, third-empty}
+use Rattle.decimals.proofs.Pieces.{first-fits, second-fits, both-written, Three, first-of-three-fits, second-of-three-fits, third-fits, three-written, third-empty}
 use Rattle.sentences.specs.Answers.{replyIn}
 use Rattle.sentences.specs.Words.{phrase}
-
--- ---- two parts, of which the first is there
-
--- whoever writes both has room for the first
-pub first-fits : (room at : ℕ) (v w : List ℕ) → at + length (v ++ w) ≤ room → at + length v ≤ room
-first-fits room at v w fits = let a = length-append v w in omega arith
 
 -- ---- a text and a number behind it
 

@@ -5,11 +5,9 @@ use Prim.Native.String.{String}
 use native.Mathlib.Omega.{arith}
 use native.Mathlib.Numerals.{add-one}
 use mathlib.Core.Path.{_≡_, refl, sym, ap, _∙_}
-use mathlib.Core.Bool.{Bool, true, false, cond}
-use mathlib.Core.List.{List, [], _∷_, _++_, append-assoc, append-nil, flatten, map}
+use mathlib.Core.List.{List, [], _∷_, _++_, append-assoc, flatten}
 use lib.ListN.{length, getD, take, drop, length-append, List·getD-append}
-use lib.Seq.{drop-append-seam, getD-append-add}
-use Rattle.semantics.specs.Definitions.Basics.{ascii}
+use lib.Seq.{take-append-seam, drop-append-seam, getD-append-add}
 use Rattle.semantics.specs.Definitions.Sentence.{ruleWords, refusalWords, wordsFor}
 use Rattle.decimals.specs.Wrote.{Wrote}
 use Rattle.theorems.proofs.Sentences.{words-past}
@@ -62,11 +60,7 @@ module _ (i : ℕ) (l : i < entries) where
   stands = from-start [] phrases i inside
 
   pub phrase-cut : take (length (phrase i)) (drop (startOf i) (flatten phrases)) ≡ phrase i
-  phrase-cut = rw stands (take-front (phrase i) (flatten (drop (suc i) phrases)))
-    where
-      take-front : (xs ys : List ℕ) → take (length xs) (xs ++ ys) ≡ xs
-      take-front [] ys = refl
-      take-front (x ∷ xs) ys = ap (_∷_ x) (take-front xs ys)
+  phrase-cut = rw stands (take-append-seam (phrase i) (flatten (drop (suc i) phrases)))
 
 -- how long they are, and so where the last one ends
 all-long : length (flatten phrases) ≡ 603

@@ -4,8 +4,7 @@ use Prim.Native.Nat.{ℕ, _+_}
 use Prim.Native.String.{String}
 use mathlib.Core.List.{List, [], _∷_, _++_, map}
 use lib.ListN.{length, getD}
-use Rattle.semantics.specs.Definitions.Basics.{ascii}
-use Rattle.semantics.specs.Definitions.Sentence.{ruleWords, refusalWords}
+use Rattle.semantics.specs.Definitions.Sentence.{ascii, ruleWords, refusalWords}
 
 -- the words for each number of a list, behind a comma
 abbrev pub phrasesOf : List String → List (List ℕ)

@@ -2,6 +2,7 @@
 mod texts;
 mod words;
 
+use schedule::KIND_ACT;
 use texts::write_named;
 use texts::write_text;
 use words::refusal_entry;
@@ -20,16 +21,13 @@ pub const SENTENCE_BYTES: usize = 96;
 // The refusal of a shorter one.
 const SHORT_BUFFER: u8 = 21;
 
-// The kind of choice that names no node.
-const KIND_ACT: u8 = 1;
-
 // What a sentence's call answers: how many bytes it wrote, or the refusal.
 pub enum SentenceAnswer {
     Told { length: usize },
     Refused { number: u8, place: usize },
 }
 
-// A choice, from the front of the bytes on.
+// A choice, from the front of the bytes on. Only one of kind 1 names no node.
 fn write_choice(out: &mut [u8], kind: u8, position: u8, node: u8) -> usize
     requires { ⌜ length (choiceNamed kind position node) ≤ length (now out) ⌝ }
     ensures { λ r. ⌜ Wrote (now (out .entry)) 0 (choiceNamed kind position node) (now (out .exit)) r ⌝ }

@@ -44,7 +44,8 @@ const WORDS: [u8; 603] = *b"\
 , too many stations\
 , tray full";
 
-// Where those of each entry begin, and last where all end. Entry 0 has no words; rules begin at entry 1.
+// Where those of each entry begin, and at the end where the last ones end. Entry 0 has no words; rules begin at entry
+// 1.
 const STARTS: [usize; 35] = [
     0,
     0,
@@ -88,7 +89,7 @@ const RULES: u8 = 13;
 
 const REFUSALS: u8 = 20;
 
-// The entry of a rule.
+// The entry of a rule; 0, which has no words, where it has none.
 pub fn rule_entry(rule: u8) -> usize
     ensures { λ r. ⌜ (r < entries) × (phrase r ≡ wordsFor ruleWords rule) ⌝ }
 {
@@ -98,7 +99,7 @@ pub fn rule_entry(rule: u8) -> usize
     wide(rule)
 }
 
-// The entry of a refusal.
+// The entry of a refusal; 0 where it has no words.
 pub fn refusal_entry(number: u8) -> usize
     ensures { λ r. ⌜ (r < entries) × (phrase r ≡ wordsFor refusalWords number) ⌝ }
 {

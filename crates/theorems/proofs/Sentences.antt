@@ -10,10 +10,10 @@ use lib.ListN.{length, getD, drop, length-append, length-drop}
 use lib.Seq.{take-append-seam, drop-append-seam}
 use lib.Dec.{leb, eqb}
 use borrow.Author.Tests.{leb-true, lt-ltb, le-ltb, eqb-true, eqb-false}
-use Rattle.semantics.specs.Definitions.Basics.{All, allOf, ascii}
+use Rattle.semantics.specs.Definitions.Basics.{All, allOf}
 use Rattle.semantics.specs.Definitions.Moves.{Reply, movedBy, refusedBy}
 use Rattle.semantics.specs.Definitions.Report.{decimal}
-use Rattle.semantics.specs.Definitions.Sentence.{ruleWords, refusalWords, wordsFor, nodeNamed, replyNamed, sentence, told}
+use Rattle.semantics.specs.Definitions.Sentence.{ascii, ruleWords, refusalWords, wordsFor, named, nodeNamed, replyNamed, sentence, told}
 use Rattle.semantics.specs.Claims.Sentences.{replyNumber, AllBytes, SentencesAreShort, SentencesArePrintable, SameChoiceAndReply, SentencesTellApart}
 use Rattle.semantics.specs.Checks.Sentences.{WordsEnd, ShortBuffersRefused, Stands, SentenceStands, RoomIsLeft}
 use Rattle.theorems.proofs.Lists.{all-append, all-weaken}
@@ -29,31 +29,30 @@ words-past (w ∷ ws) zero l = absurd (omega arith)
 words-past (w ∷ ws) (suc zero) l = absurd (omega arith)
 words-past (w ∷ ws) (suc (suc n)) l = words-past ws (suc n) (omega arith)
 
-pub words-end-behind : WordsEnd
+pub words-end : WordsEnd
 unfolding WordsEnd
-words-end-behind n = (λ l. words-past ruleWords n l, λ l. words-past refusalWords n l)
+words-end n = (λ l. words-past ruleWords n l, λ l. words-past refusalWords n l)
 
 -- ---- the parts of a sentence
 
 -- in one row, with these bytes for the node
 abbrev rowOf : (kind position : ℕ) → List ℕ → Reply → List ℕ
-rowOf k p node a =
-    ascii "Kind " ++ (decimal k ++ (ascii " at station " ++ (decimal p ++ (node ++ (replyNamed a ++ ascii ".")))))
+rowOf k p node a = named "Kind " k ++ (named " at station " p ++ (node ++ (replyNamed a ++ ascii ".")))
 
 in-row : (k p n : ℕ) (a : Reply) → sentence k p n a ≡ rowOf k p (nodeNamed k n) a
 unfolding sentence
-in-row k p n a = regroup (ascii "Kind ") (decimal k) (ascii " at station ") (decimal p) (nodeNamed k n) _
+in-row k p n a = regroup (named "Kind " k) (named " at station " p) (nodeNamed k n) _
   where
-    regroup : (a b c d e f : List ℕ) → (a ++ (b ++ (c ++ (d ++ e)))) ++ f ≡ a ++ (b ++ (c ++ (d ++ (e ++ f))))
-    regroup a b c d e f = simp append-assoc
+    regroup : (a b c d : List ℕ) → (a ++ (b ++ c)) ++ d ≡ a ++ (b ++ (c ++ d))
+    regroup a b c d = simp append-assoc
 
 -- of kind 1 no node is named
 node-by-kind : (P : (ℕ → List ℕ) → Type 0) (k : ℕ) → (k ≡ 1 → P (λ n. [])) →
-    (¬ (k ≡ 1) → P (λ n. ascii ", node " ++ decimal n)) → P (nodeNamed k)
+    (¬ (k ≡ 1) → P (named ", node ")) → P (nodeNamed k)
 unfolding nodeNamed
 node-by-kind P k none some = go (eqb k 1) refl
   where
-    go : (b : Bool) → eqb k 1 ≡ b → P (λ n. cond b [] (ascii ", node " ++ decimal n))
+    go : (b : Bool) → eqb k 1 ≡ b → P (λ n. cond b [] (named ", node " n))
     go true e = none (eqb-true k 1 e)
     go false e = some (eqb-false k 1 e)
 
@@ -87,13 +86,13 @@ unfolding everyBelow replyNamed
 reply-short a l = leb-true (length (replyNamed a)) 39 (every-reply (λ s. leb (length s) 39) refl refl a l)
 
 node-short : (k n : ℕ) → n ≤ 255 → length (nodeNamed k n) ≤ 10
-unfolding ascii
+unfolding named
 node-short k n l =
     let d = decimal-short 2 n (omega arith) in
     node-by-kind (λ f. length (f n) ≤ 10) k (λ one. omega arith) (λ other. simp length-append (omega arith))
 
 sentence-short : (k p n : ℕ) (a : Reply) → AllBytes k p n a → length (sentence k p n a) ≤ 73
-unfolding ascii
+unfolding named
 sentence-short k p n a bytes =
     let x = decimal-short 2 k (omega arith) in
     let y = decimal-short 2 p (omega arith) in
@@ -137,20 +136,20 @@ printable-reply : (a : Reply) → replyNumber a ≤ 255 → Printable (replyName
 unfolding everyBelow replyNamed isPrintable
 printable-reply a l = printable (replyNamed a) (every-reply isPrintable refl refl a l)
 
--- a text in front
-printable-text : (x : String) (s : List ℕ) → isPrintable (ascii x) ≡ true → Printable s → Printable (ascii x ++ s)
-printable-text x s e h = printable-append (ascii x) s (printable (ascii x) e) h
+printable-named : (x : String) (n : ℕ) → isPrintable (ascii x) ≡ true → Printable (named x n)
+unfolding named
+printable-named x n e = printable-append (ascii x) (decimal n) (printable (ascii x) e) (printable-number n)
 
 sentence-printable : (k p n : ℕ) (a : Reply) → AllBytes k p n a → Printable (sentence k p n a)
 unfolding ascii isPrintable
 sentence-printable k p n a bytes =
     let none = printable [] refl in
-    let node = printable-text ", node " (decimal n) refl (printable-number n) in
+    let node = printable-named ", node " n refl in
     rw (in-row k p n a)
-    (printable-text "Kind " _ refl (printable-append _ _ (printable-number k)
-    (printable-text " at station " _ refl (printable-append _ _ (printable-number p)
+    (printable-append _ _ (printable-named "Kind " k refl)
+    (printable-append _ _ (printable-named " at station " p refl)
     (printable-append _ _ (node-by-kind (λ f. Printable (f n)) k (λ one. none) (λ other. node))
-    (printable-append _ _ (printable-reply a (omega arith)) (printable (ascii ".") refl)))))))
+    (printable-append _ _ (printable-reply a (omega arith)) (printable (ascii ".") refl)))))
 
 pub sentences-are-printable : SentencesArePrintable
 unfolding SentencesArePrintable Printable
@@ -158,47 +157,51 @@ sentences-are-printable = sentence-printable
 
 -- ---- no digit follows a number
 
-words-end : (ws : List String) (n : ℕ) → NoDigit (wordsFor ws n ++ ascii ".")
+words-no-digit : (ws : List String) (n : ℕ) → NoDigit (wordsFor ws n ++ ascii ".")
 unfolding wordsFor
-words-end [] n = tt
-words-end (w ∷ ws) zero = tt
-words-end (w ∷ ws) (suc zero) = tt
-words-end (w ∷ ws) (suc (suc n)) = words-end ws (suc n)
+words-no-digit [] n = tt
+words-no-digit (w ∷ ws) zero = tt
+words-no-digit (w ∷ ws) (suc zero) = tt
+words-no-digit (w ∷ ws) (suc (suc n)) = words-no-digit ws (suc n)
 
 reply-ends : (a : Reply) → NoDigit (replyNamed a ++ ascii ".")
 unfolding replyNamed
 reply-ends (movedBy n) = tt
 reply-ends (refusedBy n) = tt
 
+station-ends : (p : ℕ) (s : List ℕ) → NoDigit (named " at station " p ++ s)
+unfolding named
+station-ends p s = tt
+
 node-ends : (k n : ℕ) (s : List ℕ) → NoDigit s → NoDigit (nodeNamed k n ++ s)
-unfolding ascii
+unfolding named
 node-ends k n s h = node-by-kind (λ f. NoDigit (f n ++ s)) k (λ one. h) (λ other. tt)
 
 -- ---- no two alike
 
 -- a text, a number behind it and what follows
 peel : (x : String) (a b : ℕ) (s t : List ℕ) → a ≤ 255 → b ≤ 255 → NoDigit s → NoDigit t →
-    ascii x ++ (decimal a ++ s) ≡ ascii x ++ (decimal b ++ t) → (a ≡ b) × (s ≡ t)
+    named x a ++ s ≡ named x b ++ t → (a ≡ b) × (s ≡ t)
+unfolding named
 peel x a b s t l m p q e =
     decimal-apart a b s t (omega arith) (omega arith) p q
-    (append-cancel-left (ascii x) (decimal a ++ s) (decimal b ++ t) e)
+    (append-cancel-left (ascii x) (decimal a ++ s) (decimal b ++ t) (simp append-assoc at e))
 
 node-same : (k n n′ : ℕ) → (¬ (k ≡ 1) → n ≡ n′) → nodeNamed k n ≡ nodeNamed k n′
 node-same k n n′ h =
-    node-by-kind (λ f. f n ≡ f n′) k (λ one. refl) (λ other. ap (λ i. ascii ", node " ++ decimal i) (h other))
+    node-by-kind (λ f. f n ≡ f n′) k (λ one. refl) (λ other. ap (named ", node ") (h other))
 
 node-apart : (k n n′ : ℕ) (s t : List ℕ) → n ≤ 255 → n′ ≤ 255 → NoDigit s → NoDigit t →
     nodeNamed k n ++ s ≡ nodeNamed k n′ ++ t → (¬ (k ≡ 1) → n ≡ n′) × (s ≡ t)
 node-apart k n n′ s t l m p q =
     node-by-kind (λ f. f n ++ s ≡ f n′ ++ t → (¬ (k ≡ 1) → n ≡ n′) × (s ≡ t)) k
     (λ one e. (λ other. absurd (other one), e))
-    (λ other e. let same = peel ", node " n n′ s t l m p q (simp append-assoc at e) in (λ h. same .0, same .1))
+    (λ other e. let same = peel ", node " n n′ s t l m p q e in (λ h. same .0, same .1))
 
 number-apart : (x : String) (ws : List String) (a b : ℕ) → a ≤ 255 → b ≤ 255 →
-    (ascii x ++ (decimal a ++ wordsFor ws a)) ++ ascii "." ≡ (ascii x ++ (decimal b ++ wordsFor ws b)) ++ ascii "." →
-    a ≡ b
+    (named x a ++ wordsFor ws a) ++ ascii "." ≡ (named x b ++ wordsFor ws b) ++ ascii "." → a ≡ b
 number-apart x ws a b l m e =
-    peel x a b (wordsFor ws a ++ ascii ".") (wordsFor ws b ++ ascii ".") l m (words-end ws a) (words-end ws b)
+    peel x a b (wordsFor ws a ++ ascii ".") (wordsFor ws b ++ ascii ".") l m (words-no-digit ws a) (words-no-digit ws b)
     (simp append-assoc at e) .0
 
 -- moved and refused differ at the third byte of their texts
@@ -222,7 +225,7 @@ module _ (k p n : ℕ) (a : Reply) (k′ p′ n′ : ℕ) (a′ : Reply) where
       let end = reply-ends a in
       let end′ = reply-ends a′ in
       let whole = sym (in-row k p n a) ∙ e ∙ in-row k′ p′ n′ a′ in
-      let kind = peel "Kind " k k′ _ _ (omega arith) (omega arith) tt tt whole in
+      let kind = peel "Kind " k k′ _ _ (omega arith) (omega arith) (station-ends p _) (station-ends p′ _) whole in
       let position =
       peel " at station " p p′ _ _ (omega arith) (omega arith) (node-ends k n r end) (node-ends k′ n′ r′ end′)
       (kind .1) in

@@ -304,7 +304,7 @@ pub sentences-tell-apart : SentencesTellApart
 sentences-tell-apart = Saying.sentences-tell-apart
 
 pub words-end : WordsEnd
-words-end = Saying.words-end-behind
+words-end = Saying.words-end
 
 pub short-buffers-refused : ShortBuffersRefused
 short-buffers-refused = Saying.short-buffers-refused

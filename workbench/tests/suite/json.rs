@@ -221,8 +221,7 @@ fn runs_for_programs() {
     }
 }
 
-/// The choice of an object, and what the second implementation says of it and its
-/// answer.
+/// What the second implementation says of an object's choice and its answer.
 fn said_by_the_second(choice: &Value) -> String {
     let bytes: Vec<u8> = choice.field("choice").list().iter().map(byte).collect();
     let (kind, position, node) = match bytes[..] {

@@ -10,7 +10,7 @@ use mathlib.Core.List.{List, [], _∷_, _++_, map}
 use lib.ListN.{replicate}
 use Rattle.calculus.specs.Syntax.{rd, wt, nil}
 use Rattle.calculus.specs.Reduction.{OUT, IN, REP, ATST, ATRE, ATFAIL, ATOK, ARDOK, ARDF, AWR, AOI, AOF, AOE, COM}
-use Rattle.semantics.specs.Definitions.Basics.{All, ascii}
+use Rattle.semantics.specs.Definitions.Basics.{All}
 use Rattle.semantics.specs.Definitions.Table.{TableAnswer, accepted, refusedAt, readTable}
 use Rattle.semantics.specs.Definitions.Configuration.{opening}
 use Rattle.semantics.specs.Definitions.Stored.{configurationOf}
@@ -20,6 +20,7 @@ use Rattle.semantics.specs.Definitions.Calls.{Verdict, checkTable, check
 use Rattle.semantics.specs.Definitions.Calls.{formTested, opened, notOpened, openHall, openVerdict}
 use Rattle.semantics.specs.Definitions.Calls.{Buffers, runCall, Call, runChoices, afterCalls, entriesDone}
 use Rattle.semantics.specs.Definitions.Report.{printedRun}
+use Rattle.semantics.specs.Definitions.Sentence.{ascii}
 use Rattle.semantics.specs.Claims.Denotation.{WithinLimits}
 use Rattle.semantics.specs.Claims.Atomicity.{answers}
 use Rattle.semantics.specs.Checks.Examples.{noise, acceptedOn, OneStep, oneStepRun, numbers, times, trays, hallOf}

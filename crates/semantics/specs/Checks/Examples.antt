@@ -19,7 +19,7 @@ use lib.ListN.{length, take, replicate}
 use lib.Dec.{eqb}
 use Rattle.calculus.specs.Syntax.{rd, wt, State}
 use Rattle.calculus.specs.Reduction.{Rule, OUT, IN, REP, ATST, ATRE, ATFAIL, ATOK, ARDOK, ARDF, AWR, AOI, AOF, AOE}
-use Rattle.semantics.specs.Definitions.Basics.{All, ascii}
+use Rattle.semantics.specs.Definitions.Basics.{All}
 use mathlib.Core.List.{flatten}
 use Rattle.semantics.specs.Definitions.Table.{TableAnswer, accepted, refusedAt, readTable}
 use Rattle.semantics.specs.Definitions.Configuration.{Idle, taking, repeating, block, output, Configuration}
@@ -29,6 +29,7 @@ use Rattle.semantics.specs.Definitions.AtomicRun.{atomicStart, atomicRun
 use Rattle.semantics.specs.Definitions.Calls.{Verdict, ok, rejected, checkTable, Admission, admitted, notAdmitted, admission, admissionVerdict}
 use Rattle.semantics.specs.Definitions.Calls.{OpenAnswer, opened, notOpened, openHall, Buffers, runCall}
 use Rattle.semantics.specs.Definitions.Report.{printedRun}
+use Rattle.semantics.specs.Definitions.Sentence.{ascii}
 
 -- ---- what is looked at
 

@@ -7,9 +7,8 @@ use Prim.Native.String.{String}
 use mathlib.Core.Path.{_≡_}
 use mathlib.Core.List.{List, [], _∷_, _++_, map}
 use lib.ListN.{length, take, drop, replicate}
-use Rattle.semantics.specs.Definitions.Basics.{ascii}
 use Rattle.semantics.specs.Definitions.Moves.{Reply, movedBy, refusedBy}
-use Rattle.semantics.specs.Definitions.Sentence.{ruleWords, refusalWords, wordsFor, sentence, SentenceAnswer}
+use Rattle.semantics.specs.Definitions.Sentence.{ascii, ruleWords, refusalWords, wordsFor, sentence, SentenceAnswer}
 use Rattle.semantics.specs.Definitions.Sentence.{told, notTold, SentenceCall, sentenceCall}
 use Rattle.semantics.specs.Claims.Sentences.{AllBytes}
 
@@ -110,14 +109,15 @@ sentenceRows =
     said 10 99 100 (movedBy 100) "Kind 10 at station 99, node 100 moved by rule 100." ∷
     said 11 1 1 (movedBy 1) "Kind 11 at station 1, node 1 moved by rule 1, token put." ∷
     said 255 255 255 (movedBy 255) "Kind 255 at station 255, node 255 moved by rule 255." ∷
+    said 255 255 255 (refusedBy 255) "Kind 255 at station 255, node 255 met refusal 255." ∷
     -- the longest
-    said 255 255 255 (refusedBy 15) "Kind 255 at station 255, node 255 met refusal 15, station cannot do this." ∷
-    said 255 255 255 (refusedBy 255) "Kind 255 at station 255, node 255 met refusal 255." ∷ []
+    said 255 255 255 (refusedBy 15) "Kind 255 at station 255, node 255 met refusal 15, station cannot do this." ∷ []
 
 unfoldable pub SentencesWorked : Type 0
 unfolding sentenceRows ascii sentence
 SentencesWorked =
-    map (λ r. sentence (r .kind) (r .position) (r .node) (r .reply)) sentenceRows ≡ map (λ r. ascii (r .text)) sentenceRows
+    map (λ r. sentence (r .kind) (r .position) (r .node) (r .reply)) sentenceRows ≡
+    map (λ r. ascii (r .text)) sentenceRows
 
 -- one of them byte by byte
 unfoldable pub SentenceInBytes : Type 0

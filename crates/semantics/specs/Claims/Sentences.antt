@@ -4,7 +4,7 @@
 use Prim.Native.Nat.{ℕ, _≤_}
 use mathlib.Core.Path.{_≡_}
 use mathlib.Core.Logic.{_↔_}
-use mathlib.Core.List.{List, [], _∷_}
+use mathlib.Core.List.{[], _∷_}
 use lib.ListN.{length}
 use Rattle.semantics.specs.Definitions.Basics.{All, Bytes}
 use Rattle.semantics.specs.Definitions.Moves.{Reply, movedBy, refusedBy}

@@ -1,9 +1,6 @@
--- Small functions on lists, options, bytes and texts that the definitions share.
+-- Small functions on lists, options and bytes that the definitions share.
 -- Assumes nothing.
 use Prim.Native.Nat.{ℕ, zero, suc, _-_, _≤_}
-use Prim.Native.Char.{code}
-use Prim.Native.String as Text
-use Prim.Native.String.{String}
 use mathlib.Core.Bool.{Bool, true, false, cond, _&&_}
 use mathlib.Core.Option.{Option, none, some}
 use mathlib.Core.List.{List, [], _∷_, _++_}
@@ -39,11 +36,6 @@ padded n xs = xs ++ replicate (n - length xs) 0
 unfoldable pub zeros : List ℕ → Bool
 unfolding allOf
 zeros xs = allOf (eqb 0) xs
-
--- the bytes of a text in ASCII
-unfoldable pub ascii : String → List ℕ
-ascii Text.[] = []
-ascii (Text._∷_ c s) = code c ∷ ascii s
 
 -- every element has the property
 abbrev pub All {ℓ} : {A : Type ℓ} → (A → Type 0) → List A → Type 0

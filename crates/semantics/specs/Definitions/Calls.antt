@@ -1,4 +1,4 @@
--- What every public call gives, on bytes (document 01, "Reasons to turn a request down" and "What the contracts
+-- What the public calls on tables and halls give, on bytes (document 01, "Reasons to turn a request down" and "What the contracts
 -- settle").
 -- Assumes nothing.
 use Prim.Native.Nat.{ℕ, zero, suc}

@@ -1,4 +1,4 @@
--- The limits and the numbers of the stored form (document 01; of sentences document 02), each with a name for the definitions to use. Kinds of
+-- The limits and the numbers of the stored form (document 01), each with a name for the definitions to use. Kinds of
 -- records and choices and the numbers of refusals stand where they are read. The one-step run, the converse's steps and
 -- the conditions, moves and rows of the checks write their numbers out, so that a wrong number here does not go into
 -- them too.
@@ -42,10 +42,6 @@ counterTop = 4294967295
 -- the longest input whose run is printed
 abbrev pub maxInput : ℕ
 maxInput = 16384
-
--- how many bytes a buffer must have for a sentence: room for every one
-abbrev pub sentenceRoom : ℕ
-sentenceRoom = 96
 
 -- ---- the stored configuration (hall)
 

@@ -1,15 +1,20 @@
 -- A choice and its answer as one English sentence, and the call that writes it (document 02, Q-1).
 -- Assumes nothing.
 use Prim.Native.Nat.{ℕ, zero, suc}
+use Prim.Native.Char.{code}
+use Prim.Native.String as Text
 use Prim.Native.String.{String}
-use mathlib.Core.Bool.{Bool, true, false, cond}
+use mathlib.Core.Bool.{cond}
 use mathlib.Core.List.{List, [], _∷_, _++_}
 use lib.ListN.{length, drop}
 use lib.Dec.{ltb, eqb}
-use Rattle.semantics.specs.Definitions.Layout.{sentenceRoom}
-use Rattle.semantics.specs.Definitions.Basics.{ascii}
 use Rattle.semantics.specs.Definitions.Moves.{Reply, movedBy, refusedBy}
 use Rattle.semantics.specs.Definitions.Report.{decimal}
+
+-- the bytes of a text in ASCII
+unfoldable pub ascii : String → List ℕ
+ascii Text.[] = []
+ascii (Text._∷_ c s) = code c ∷ ascii s
 
 -- ---- the words
 
@@ -44,7 +49,7 @@ unfoldable pub named : String → ℕ → List ℕ
 unfolding ascii decimal
 named text n = ascii text ++ decimal n
 
--- kind 1 has no node: one that is handed in counts for nothing
+-- kind 1 has no node: a node that comes with it is passed over
 unfoldable pub nodeNamed : (kind node : ℕ) → List ℕ
 unfolding named
 nodeNamed k n = cond (eqb k 1) [] (named ", node " n)
@@ -63,6 +68,10 @@ unfolding ascii choiceNamed replyNamed
 sentence k p n a = choiceNamed k p n ++ (replyNamed a ++ ascii ".")
 
 -- ---- the call
+
+-- how many bytes a buffer must have: room for every sentence
+abbrev pub sentenceRoom : ℕ
+sentenceRoom = 96
 
 -- the sentence's length, or a refusal
 pub data SentenceAnswer : Type 0 where

@@ -1,8 +1,7 @@
 -- Writing a choice meets its contract.
 -- Assumes nothing.
 use borrow.Author.Needs.{needs}
-use Rattle.semantics.specs.Definitions.Basics.{ascii}
-use Rattle.semantics.specs.Definitions.Sentence.{named}
+use Rattle.semantics.specs.Definitions.Sentence.{ascii, named}
 use Rattle.sentences.proofs.Parts.{kind-fits, station-fits, without-node, node-fits, with-node}
 use Rattle.sentences.proofs.write_choice.Statement.{statement}
 use Rattle.sentences.proofs.write_choice.Tie as tie

@@ -1,8 +1,7 @@
 -- Writing what a choice was answered meets its contract.
 -- Assumes nothing.
 use borrow.Author.Needs.{needs}
-use Rattle.semantics.specs.Definitions.Basics.{ascii}
-use Rattle.semantics.specs.Definitions.Sentence.{named}
+use Rattle.semantics.specs.Definitions.Sentence.{ascii, named}
 use Rattle.sentences.proofs.Parts.{moved, refused, number-fits, words-fit, reply-written}
 use Rattle.sentences.proofs.write_reply.Statement.{statement}
 use Rattle.sentences.proofs.write_reply.Tie as tie

@@ -1,7 +1,7 @@
 -- Writing a sentence meets its contract.
 -- Assumes nothing.
 use borrow.Author.Needs.{needs}
-use Rattle.semantics.specs.Definitions.Basics.{ascii}
+use Rattle.semantics.specs.Definitions.Sentence.{ascii}
 use Rattle.sentences.proofs.Parts.{choice-fits, reply-fits, end-fits, sentence-written}
 use Rattle.sentences.proofs.write_sentence.Statement.{statement}
 use Rattle.sentences.proofs.write_sentence.Tie as tie

@@ -21,7 +21,7 @@ static const uint8_t input[] = {7, 10, 1, 0, 9, 0, 1, 6, 2, 12, 0, 1, 13, 3, 1, 
 static const char printed[] = "R 0 12 5\nC 1 0 0\nT 0 1 -1 0\nT 1 0 1 1\n";
 static uint8_t report[RUONFIDD_REPORT_BYTES];
 /* One byte more than must be lent. */
-static uint8_t board[RUONFIDD_SENTENCE_BYTES + 1];
+static uint8_t board[RUONFIDD_SENTENCE_BYTES + 1], untouched[RUONFIDD_SENTENCE_BYTES + 1];
 static const char begun[] = "Kind 1 at station 0 moved by rule 4, attempt begun.";
 static const char unknown[] = "Kind 255 at station 0, node 9 met refusal 12, no such kind.";
 
@@ -74,11 +74,12 @@ int main(void) {
     /* Any byte but 0 says that it moved. */
     MUST(ruonfidd_sentence(1, 0, 0, 255, 4, board, sizeof board, &length) == 0);
     MUST(length == sizeof begun - 1 && memcmp(board, begun, length) == 0);
-    /* A byte too short, and no memory at all: neither is written, and the length neither. */
+    /* A byte too short, and no memory at all: nothing is written, the length neither. */
     memset(board, 99, sizeof board);
+    memset(untouched, 99, sizeof untouched);
     length = unset;
     MUST(ruonfidd_sentence(1, 0, 0, 1, 4, board, RUONFIDD_SENTENCE_BYTES - 1, &length) == 21);
-    MUST(length == unset && board[0] == 99);
+    MUST(length == unset && memcmp(board, untouched, sizeof board) == 0);
     MUST(ruonfidd_sentence(1, 0, 0, 1, 4, NULL, 0, &length) == 21 && length == unset);
     place = done = unset;
     MUST(ruonfidd_run(table, sizeof table, hall, sizeof hall, choices + 5, sizeof choices - 5, tally, &place,

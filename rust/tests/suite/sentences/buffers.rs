@@ -109,7 +109,7 @@ fn one_byte_more() {
 }
 
 #[test]
-fn twice_as_long() {
+fn over_twice_as_long() {
     assert_eq!(lent(200), 0);
 }
 

@@ -1,7 +1,7 @@
 //! Every byte in each of its places, beside the second implementation; and the
 //! numbers read back from the sentence.
 
-use ruonfidd::Answer;
+use ruonfidd::{ffi, Answer, SENTENCE_BYTES};
 
 use super::{said, Choice};
 
@@ -101,4 +101,24 @@ fn every_choice_of_a_hall_with_every_number() {
             .map(|choice| names_its_bytes(choice, answer))
         })
     }));
+}
+
+/// Of the byte that tells whether the choice moved, 0 alone says that it did not.
+#[test]
+fn every_byte_for_moved() {
+    let choice = [2, 10, 9];
+    for moved in 0..=255 {
+        for number in [0, 6, 17, 200] {
+            let answer = match moved {
+                0 => Answer::Refused(number),
+                _ => Answer::Moved(number),
+            };
+            let (mut buffer, mut length) = ([0; SENTENCE_BYTES], 0);
+            assert_eq!(
+                ffi::sentence(choice, moved, number, &mut buffer, &mut length),
+                0
+            );
+            assert_eq!(buffer[..length], *said(choice, answer).as_bytes());
+        }
+    }
 }

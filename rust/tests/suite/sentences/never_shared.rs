@@ -1,4 +1,4 @@
-//! Two different pairs of choice and answer never share a sentence.
+//! No sentence belongs to two pairs of choice and answer.
 
 use std::collections::HashMap;
 
@@ -79,7 +79,7 @@ fn over_kinds_and_numbers() {
     assert_eq!(heard.0.len(), 256 * 256 * 2);
 }
 
-/// What the test above rests on: the same sentence of another pair is noticed.
+/// What the tests above rest on: the same sentence of another pair is noticed.
 #[test]
 #[should_panic(expected = "moved by rule 1, token put")]
 fn a_shared_sentence_is_noticed() {
