@@ -9,7 +9,7 @@ use crate::choice::{first_choice, Choice};
 use crate::hall::{decode, encode, opening, Hall, HALL_BYTES};
 use crate::moves::{self, make_move, Outcome};
 use crate::run::{run_choices, Tally};
-use crate::sentence::{sentence, Verdict, SENTENCE_ROOM};
+use crate::sentence::{sentence, Reply, SENTENCE_ROOM};
 use crate::table::{read_table, Refusal, Table};
 
 /// A number (0 for none) and a place.
@@ -155,7 +155,7 @@ pub fn say(
     kind: u8,
     position: u8,
     node: u8,
-    verdict: Verdict,
+    reply: Reply,
     buffer: &mut [u8],
 ) -> Result<usize, Refusal> {
     if buffer.len() < SENTENCE_ROOM {
@@ -164,7 +164,7 @@ pub fn say(
             place: 0,
         });
     }
-    let said = sentence(kind, position, node, verdict);
+    let said = sentence(kind, position, node, reply);
     buffer[..said.len()].copy_from_slice(said.as_bytes());
     Ok(said.len())
 }

@@ -8,7 +8,7 @@ pub const SENTENCE_ROOM: usize = 96;
 /// What a sentence tells of an answer: its number. The place of a refusal is
 /// not told. Any number will do, also one that no hall answers.
 #[derive(Clone, Copy, Debug, PartialEq, Eq, Hash)]
-pub enum Verdict {
+pub enum Reply {
     /// The number of the rule.
     Moved(u8),
     /// The number of the refusal.
@@ -58,16 +58,16 @@ const REFUSALS: &[&str] = &[
 
 /// The sentence for any four bytes. Kind 1 has no node: one that comes with it
 /// is passed over.
-pub fn sentence(kind: u8, position: u8, node: u8, verdict: Verdict) -> String {
+pub fn sentence(kind: u8, position: u8, node: u8, reply: Reply) -> String {
     let node = match kind {
         1 => String::new(),
         _ => format!(", node {node}"),
     };
-    let verdict = match verdict {
-        Verdict::Moved(rule) => format!("moved by rule {}", with_words(rule, RULES)),
-        Verdict::Refused(number) => format!("met refusal {}", with_words(number, REFUSALS)),
+    let reply = match reply {
+        Reply::Moved(rule) => format!("moved by rule {}", with_words(rule, RULES)),
+        Reply::Refused(number) => format!("met refusal {}", with_words(number, REFUSALS)),
     };
-    format!("Kind {kind} at station {position}{node} {verdict}.")
+    format!("Kind {kind} at station {position}{node} {reply}.")
 }
 
 /// The number and, where it has some, its words; the first are those of 1.

@@ -5,7 +5,7 @@
 use std::path::Path;
 
 use reference::edges::{lines, printed};
-use reference::sentence::{sentence, Verdict};
+use reference::sentence::{sentence, Reply};
 
 /// The text of a document.
 fn text(document: &str) -> String {
@@ -53,9 +53,9 @@ fn asked(line: &str) -> Option<String> {
         return None;
     };
     let number = number.parse().ok()?;
-    let verdict = match answer {
-        "moved" => Verdict::Moved(number),
-        "refused" => Verdict::Refused(number),
+    let reply = match answer {
+        "moved" => Reply::Moved(number),
+        "refused" => Reply::Refused(number),
         _ => return None,
     };
     let (kind, position, node) = (
@@ -63,7 +63,7 @@ fn asked(line: &str) -> Option<String> {
         position.parse().ok()?,
         node.parse().ok()?,
     );
-    Some(sentence(kind, position, node, verdict))
+    Some(sentence(kind, position, node, reply))
 }
 
 /// Whether the sentence is what the block says, and it says no more.
@@ -113,11 +113,11 @@ fn words_of_the_byte_forms() {
     assert!(refusals.iter().map(|(number, _)| *number).eq(1..=20));
     for (rule, words) in rules {
         let expected = format!("Kind 1 at station 0 moved by rule {rule}, {words}.");
-        assert_eq!(sentence(1, 0, 0, Verdict::Moved(rule)), expected);
+        assert_eq!(sentence(1, 0, 0, Reply::Moved(rule)), expected);
     }
     for (number, words) in refusals {
         let expected = format!("Kind 1 at station 0 met refusal {number}, {words}.");
-        assert_eq!(sentence(1, 0, 0, Verdict::Refused(number)), expected);
+        assert_eq!(sentence(1, 0, 0, Reply::Refused(number)), expected);
     }
 }
 

@@ -6,11 +6,11 @@ use std::collections::HashSet;
 use reference::calls::{self, say, StepAnswer};
 use reference::generator::Random;
 use reference::run::Tally;
-use reference::sentence::{sentence, Verdict, SENTENCE_ROOM};
+use reference::sentence::{sentence, Reply, SENTENCE_ROOM};
 use reference::table::Refusal;
 
 use crate::common::{all_choices, opened, EXAMPLE_CHOICES, EXAMPLE_TABLE};
-use Verdict::{Moved, Refused};
+use Reply::{Moved, Refused};
 
 /// The sentence of each rule, 1 to 13, for one choice.
 const RULES: [&str; 13] = [
@@ -53,8 +53,8 @@ const REFUSALS: [&str; 20] = [
     "Kind 2 at station 6, node 7 met refusal 20, tray full.",
 ];
 
-/// Every verdict that there is.
-fn verdicts() -> impl Iterator<Item = Verdict> {
+/// Every reply that there is.
+fn replies() -> impl Iterator<Item = Reply> {
     (0..=255).flat_map(|number| [Moved(number), Refused(number)])
 }
 
@@ -80,12 +80,12 @@ fn any_other_number_stands_alone() {
     }
 }
 
-/// Kind, position, node and verdict, and the sentence for them.
-type Edge = ((u8, u8, u8), Verdict, &'static str);
+/// Kind, position, node and reply, and the sentence for them.
+type Edge = ((u8, u8, u8), Reply, &'static str);
 
 fn each_is(edges: &[Edge]) {
-    for &((kind, position, node), verdict, expected) in edges {
-        assert_eq!(sentence(kind, position, node, verdict), expected);
+    for &((kind, position, node), reply, expected) in edges {
+        assert_eq!(sentence(kind, position, node, reply), expected);
     }
 }
 
@@ -245,12 +245,12 @@ fn a_run_told_in_sentences() {
     let mut told = Vec::new();
     for choice in all_choices(&[&EXAMPLE_CHOICES[..], &[2, 0, 0]].concat()) {
         let bytes = choice.bytes();
-        let verdict = match calls::step(&EXAMPLE_TABLE, &mut hall, &mut tally, &bytes) {
+        let reply = match calls::step(&EXAMPLE_TABLE, &mut hall, &mut tally, &bytes) {
             StepAnswer::Moved(rule) => Moved(rule),
             StepAnswer::Refused(refusal) => Refused(refusal.number),
         };
         let node = bytes.get(2).copied().unwrap_or(99);
-        told.push(sentence(bytes[0], bytes[1], node, verdict));
+        told.push(sentence(bytes[0], bytes[1], node, reply));
     }
     assert_eq!(
         told,
@@ -273,7 +273,7 @@ fn pattern(length: usize) -> Vec<u8> {
 #[test]
 fn a_buffer_that_is_too_short_is_refused_and_left() {
     // Among these are a short sentence, the longest, and bytes of no hall.
-    for (kind, verdict) in [
+    for (kind, reply) in [
         (1, Refused(0)),
         (1, Moved(1)),
         (255, Refused(15)),
@@ -282,7 +282,7 @@ fn a_buffer_that_is_too_short_is_refused_and_left() {
         for length in 0..96 {
             let mut buffer = pattern(length);
             assert_eq!(
-                say(kind, 255, 255, verdict, &mut buffer),
+                say(kind, 255, 255, reply, &mut buffer),
                 Err(Refusal {
                     number: 21,
                     place: 0
@@ -326,22 +326,22 @@ fn a_shorter_sentence_after_a_longer_one() {
     assert_eq!(buffer[..], expected);
 }
 
-/// All kinds and all verdicts: what is written fits, and is one line of plain
+/// All kinds and all replies: what is written fits, and is one line of plain
 /// text.
 #[test]
 fn every_sentence_fits_and_is_plain_text() {
     let mut longest = 0;
     for (position, node) in [(0, 0), (1, 255), (99, 100), (255, 255)] {
         for kind in 0..=255 {
-            for verdict in verdicts() {
-                let said = sentence(kind, position, node, verdict);
+            for reply in replies() {
+                let said = sentence(kind, position, node, reply);
                 assert!(
                     said.bytes().all(|byte| (b' '..=b'~').contains(&byte)),
                     "{said:?}"
                 );
                 longest = longest.max(said.len());
                 let mut buffer = [0xFF; 96];
-                let answer = say(kind, position, node, verdict, &mut buffer);
+                let answer = say(kind, position, node, reply, &mut buffer);
                 assert_eq!(answer, Ok(said.len()));
                 assert_eq!(buffer[..said.len()], *said.as_bytes());
                 assert!(buffer[said.len()..].iter().all(|byte| *byte == 0xFF));
@@ -355,11 +355,11 @@ fn every_sentence_fits_and_is_plain_text() {
 
 #[test]
 fn with_kind_1_the_node_counts_for_nothing() {
-    for verdict in verdicts() {
+    for reply in replies() {
         for position in [0, 1, 63, 255] {
-            let without = sentence(1, position, 0, verdict);
+            let without = sentence(1, position, 0, reply);
             for node in 1..=255 {
-                assert_eq!(sentence(1, position, node, verdict), without);
+                assert_eq!(sentence(1, position, node, reply), without);
             }
         }
     }
@@ -373,41 +373,41 @@ fn no_two_pairs_share_a_sentence() {
     let mut pairs = HashSet::new();
     for kind in 0..=255 {
         for position in DIGITS {
-            for verdict in verdicts() {
+            for reply in replies() {
                 // Of the nodes of kind 1 one will do.
-                pairs.insert((kind, position, 1, verdict));
+                pairs.insert((kind, position, 1, reply));
                 if kind != 1 {
-                    pairs.insert((kind, position, 11, verdict));
+                    pairs.insert((kind, position, 11, reply));
                 }
             }
         }
     }
     for position in 0..=255 {
-        for verdict in verdicts() {
-            pairs.insert((1, position, 1, verdict));
+        for reply in replies() {
+            pairs.insert((1, position, 1, reply));
         }
         for node in 0..=255 {
-            for verdict in DIGITS.into_iter().flat_map(|it| [Moved(it), Refused(it)]) {
-                pairs.insert((2, position, node, verdict));
+            for reply in DIGITS.into_iter().flat_map(|it| [Moved(it), Refused(it)]) {
+                pairs.insert((2, position, node, reply));
             }
         }
     }
     assert!(pairs.len() > 1_000_000, "{}", pairs.len());
     let sentences: HashSet<String> = pairs
         .iter()
-        .map(|&(kind, position, node, verdict)| sentence(kind, position, node, verdict))
+        .map(|&(kind, position, node, reply)| sentence(kind, position, node, reply))
         .collect();
     assert_eq!(sentences.len(), pairs.len());
 }
 
 /// What a reader of the board learns: kind, position, node where there is one,
-/// and the verdict.
-type Read = (u8, u8, Option<u8>, Verdict);
+/// and the reply.
+type Read = (u8, u8, Option<u8>, Reply);
 
 /// Reads a sentence back. It knows the words by the lists above alone.
 fn read(text: &str) -> Option<Read> {
     let text = text.strip_prefix("Kind ")?.strip_suffix('.')?;
-    let (choice, verdict) = if let Some((choice, rest)) = text.split_once(" moved by rule ") {
+    let (choice, reply) = if let Some((choice, rest)) = text.split_once(" moved by rule ") {
         (choice, Moved(number_with_words(rest, &RULES)?))
     } else {
         let (choice, rest) = text.split_once(" met refusal ")?;
@@ -418,7 +418,7 @@ fn read(text: &str) -> Option<Read> {
         Some((position, node)) => (position, Some(decimal(node)?)),
         None => (place, None),
     };
-    Some((decimal(kind)?, decimal(position)?, node, verdict))
+    Some((decimal(kind)?, decimal(position)?, node, reply))
 }
 
 /// A byte in decimal, without zeros or a sign before it.
@@ -463,13 +463,13 @@ fn sentences_by_chance_are_read_back() {
             byte(&mut random)
         };
         let (position, node, number) = (byte(&mut random), byte(&mut random), byte(&mut random));
-        let verdict = if random.percent(50) {
+        let reply = if random.percent(50) {
             Moved(number)
         } else {
             Refused(number)
         };
-        let said = sentence(kind, position, node, verdict);
-        let expected = Some((kind, position, (kind != 1).then_some(node), verdict));
+        let said = sentence(kind, position, node, reply);
+        let expected = Some((kind, position, (kind != 1).then_some(node), reply));
         assert_eq!(read(&said), expected, "{said}");
         of_kind_1 += usize::from(kind == 1);
         with_words += usize::from(said.matches(", ").count() > usize::from(kind != 1));

@@ -5,7 +5,7 @@ use std::hint::black_box;
 use reference::build::Builder;
 use reference::calls;
 use reference::print::printed_run;
-use reference::sentence::Verdict;
+use reference::sentence::Reply;
 use ruonfidd::{print_run_into, say_into, Answer, REPORT_BYTES, SENTENCE_BYTES};
 
 use crate::measure::{print_part, print_row};
@@ -58,8 +58,8 @@ fn print_sentence() {
         },
         &mut || {
             let buffer = black_box(&mut by_second);
-            let verdict = Verdict::Refused(15);
-            calls::say(black_box(kind), position, node, verdict, buffer) == Ok(73)
+            let reply = Reply::Refused(15);
+            calls::say(black_box(kind), position, node, reply, buffer) == Ok(73)
         },
     );
     assert_eq!(by_engine, by_second);

@@ -1,6 +1,6 @@
 //! What is written for programs, read back.
 
-use reference::sentence::{sentence, Verdict};
+use reference::sentence::{sentence, Reply};
 
 use crate::common::{files, hall_in, name_of, package};
 
@@ -230,12 +230,12 @@ fn said_by_the_second(choice: &Value) -> String {
         _ => panic!("{choice:?}"),
     };
     let has = |name: &str| choice.fields().iter().any(|(field, _)| field == name);
-    let verdict = match (has("moved"), has("refused")) {
-        (true, false) => Verdict::Moved(byte(choice.field("moved"))),
-        (false, true) => Verdict::Refused(byte(choice.field("refused"))),
+    let reply = match (has("moved"), has("refused")) {
+        (true, false) => Reply::Moved(byte(choice.field("moved"))),
+        (false, true) => Reply::Refused(byte(choice.field("refused"))),
         _ => panic!("{choice:?}"),
     };
-    sentence(kind, position, node, verdict)
+    sentence(kind, position, node, reply)
 }
 
 fn byte(value: &Value) -> u8 {

@@ -3,7 +3,7 @@
 use reference::calls;
 use ruonfidd::{ffi, say_into, Answer, Refusal, SENTENCE_BYTES};
 
-use super::{bare_forms, verdict, Choice};
+use super::{bare_forms, reply, Choice};
 
 /// Bytes on each side of the lent ones.
 const AROUND: usize = 64;
@@ -45,7 +45,7 @@ fn among_others(
 
 fn by_second(choice: Choice, answer: Answer, buffer: &mut [u8]) -> Answered {
     let [kind, position, node] = choice;
-    let said = calls::say(kind, position, node, verdict(answer), buffer);
+    let said = calls::say(kind, position, node, reply(answer), buffer);
     answered(said.map_err(|refusal| (refusal.number, refusal.place)))
 }
 

@@ -8,17 +8,17 @@ mod never_shared;
 mod steps;
 mod threads;
 
-use reference::sentence::{sentence, Verdict};
+use reference::sentence::{sentence, Reply};
 use ruonfidd::{ffi, say, say_into, Answer, SENTENCE_BYTES};
 
 /// Kind, position and node, any bytes.
 type Choice = [u8; 3];
 
 /// The answer as the second implementation takes it.
-fn verdict(answer: Answer) -> Verdict {
+fn reply(answer: Answer) -> Reply {
     match answer {
-        Answer::Moved(rule) => Verdict::Moved(rule),
-        Answer::Refused(number) => Verdict::Refused(number),
+        Answer::Moved(rule) => Reply::Moved(rule),
+        Answer::Refused(number) => Reply::Refused(number),
     }
 }
 
@@ -36,7 +36,7 @@ fn bare_forms(answer: Answer) -> Vec<(u8, u8)> {
 #[track_caller]
 fn said(choice: Choice, answer: Answer) -> String {
     let [kind, position, node] = choice;
-    let expected = sentence(kind, position, node, verdict(answer));
+    let expected = sentence(kind, position, node, reply(answer));
     assert!(expected.len() <= SENTENCE_BYTES, "{expected}");
     // What is written behind the sentence differs from one of the two.
     for before in [0, 170] {

@@ -10,7 +10,7 @@ use reference::generator::{self, Random};
 use reference::hall::opening;
 use reference::print::table_end;
 use reference::run::Tally as SecondTally;
-use reference::sentence::{sentence, Verdict};
+use reference::sentence::{sentence, Reply};
 use ruonfidd::{step, Choice, Hall, Moved, Refusal, Refused, Tally, HALL_BYTES};
 
 use crate::common::by_chance::{accepted, any_table};
@@ -28,10 +28,10 @@ struct Met {
 }
 
 impl Met {
-    fn note(&mut self, verdict: Verdict) {
-        match verdict {
-            Verdict::Moved(rule) => self.rules[usize::from(rule)] += 1,
-            Verdict::Refused(number) => self.refusals[usize::from(number)] += 1,
+    fn note(&mut self, reply: Reply) {
+        match reply {
+            Reply::Moved(rule) => self.rules[usize::from(rule)] += 1,
+            Reply::Refused(number) => self.refusals[usize::from(number)] += 1,
         }
     }
 }
@@ -64,7 +64,7 @@ impl Stepped {
     }
 
     /// The second implementation's answer.
-    fn second_step(&mut self, choice: Second) -> Verdict {
+    fn second_step(&mut self, choice: Second) -> Reply {
         let answer = calls::step(
             &self.table,
             &mut self.by_second,
@@ -72,8 +72,8 @@ impl Stepped {
             &choice.bytes(),
         );
         match answer {
-            StepAnswer::Moved(rule) => Verdict::Moved(rule),
-            StepAnswer::Refused(refusal) => Verdict::Refused(refusal.number),
+            StepAnswer::Moved(rule) => Reply::Moved(rule),
+            StepAnswer::Refused(refusal) => Reply::Refused(refusal.number),
         }
     }
 
@@ -87,16 +87,16 @@ impl Stepped {
                 (Choice::Inside { position, node }, [2, position, node])
             }
         };
-        let verdict = self.second_step(second);
-        met.note(verdict);
+        let reply = self.second_step(second);
+        met.note(reply);
         let answer = step(&self.table, &mut self.hall, choice, &mut self.tally);
-        let expected = sentence(kind, position, node, verdict);
+        let expected = sentence(kind, position, node, reply);
         assert_eq!(displayed(answer), expected, "on {:?}", self.table);
         let answered = match answer {
-            Ok(moved) => (moved.choice, Verdict::Moved(moved.rule)),
-            Err(refused) => (refused.choice, Verdict::Refused(refused.refusal.number)),
+            Ok(moved) => (moved.choice, Reply::Moved(moved.rule)),
+            Err(refused) => (refused.choice, Reply::Refused(refused.refusal.number)),
         };
-        assert_eq!(answered, (choice, verdict), "on {:?}", self.table);
+        assert_eq!(answered, (choice, reply), "on {:?}", self.table);
         assert!(self.hall == self.by_second, "{expected}");
     }
 }
