@@ -1,14 +1,19 @@
--- The cases of what a sentence's call answers, as numbers.
+-- The cases of what a sentence's call answers, as numbers; and what that says.
 -- Assumes nothing.
-use Prim.Native.Nat.{ℕ}
+use Prim.Native.Nat.{ℕ, _≤_, _<_}
 use mathlib.Core.Path.{_≡_, refl}
 use mathlib.Core.List.{List}
-use Rattle.semantics.specs.Definitions.Moves.{Reply}
-use Rattle.semantics.specs.Definitions.Sentence.{sentenceCall}
+use lib.ListN.{length}
+use borrow.Author.Tests.{ne-eqb}
+use Rattle.semantics.specs.Definitions.Moves.{Reply, movedBy, refusedBy}
+use Rattle.semantics.specs.Definitions.Sentence.{sentence, sentenceCall}
+use Rattle.semantics.specs.Claims.Sentences.{AllBytes}
+use Rattle.semantics.specs.Checks.Sentences.{ShortBuffersRefused, SentenceStands}
+use Rattle.theorems.proofs.Theorems.{short-buffers-refused, sentence-stands}
 use Rattle.sentences.specs.Answers.{sentenceCallOf}
 use Rattle.sentences.specs.declared.SentenceAnswer.{SentenceAnswer}
 use Rattle.sentences.specs.declared.SentenceAnswer.the-variants as answer
-use Rattle.ruonfidd.specs.Answered.{SentenceAnswered}
+use Rattle.ruonfidd.specs.Answered.{replyFrom, SentenceAnswered}
 
 module _ (k p n : ℕ) (r : Reply) (buffer buffer′ : List ℕ) (a : SentenceAnswer)
     (e : sentenceCallOf a buffer′ ≡ sentenceCall k p n r buffer) where
@@ -19,3 +24,26 @@ module _ (k p n : ℕ) (r : Reply) (buffer buffer′ : List ℕ) (a : SentenceAn
   pub sentence-refused : (number place before : ℕ) → a ≡ answer.Refused number place →
       SentenceAnswered (sentenceCall k p n r buffer) number before before buffer′
   sentence-refused number place before h = rw (← e, h) (record { number = refl; length = refl; bytes = refl })
+
+-- ---- what a caller in C may rely on
+
+pub byte-0-refused : (number : ℕ) → replyFrom 0 number ≡ refusedBy number
+byte-0-refused number = refl
+
+pub other-byte-moved : (m number : ℕ) → ¬ (m ≡ 0) → replyFrom m number ≡ movedBy number
+other-byte-moved m number other = rw (ne-eqb m 0 other) refl
+
+module _ (k p n : ℕ) (r : Reply) (buffer : List ℕ) (returned before after : ℕ) (buffer′ : List ℕ)
+    (t : SentenceAnswered (sentenceCall k p n r buffer) returned before after buffer′) where
+  -- under 21 nothing that was lent is written
+  pub short-writes-nothing : length buffer < 96 → (returned ≡ 21) × (after ≡ before) × (buffer′ ≡ buffer)
+  unfolding ShortBuffersRefused
+  short-writes-nothing l =
+      let short = short-buffers-refused k p n r buffer l in
+      (rw short at (t .number), rw short at (t .length), rw short at (t .bytes))
+
+  pub long-tells-length : AllBytes k p n r → 96 ≤ length buffer → (returned ≡ 0) × (after ≡ length (sentence k p n r))
+  unfolding SentenceStands
+  long-tells-length bytes l =
+      let stands = sentence-stands k p n r buffer bytes l in
+      (rw (stands .answer) at (t .number), rw (stands .answer) at (t .length))

@@ -3,7 +3,7 @@
 use Prim.Native.Nat.{ℕ, _+_, _≤_}
 use Prim.Native.String.{String}
 use native.Mathlib.Omega.{arith}
-use mathlib.Core.Path.{_≡_, refl}
+use mathlib.Core.Path.{_≡_, refl, sym, ap, _∙_}
 use mathlib.Core.Bool.{Bool, true, false}
 use mathlib.Core.List.{List, [], _++_}
 use lib.ListN.{length}
@@ -85,21 +85,17 @@ moved b n e = rw e (moved-parts n)
 pub refused : (b : Bool) (n : ℕ) → b ≡ false → Answered (replyIn b n) " met refusal " refusalWords n
 refused b n e = rw e (refused-parts n)
 
-module _ (at : ℕ) (a : Reply) (text : String) (ws : List String) (n : ℕ) (t : Answered a text ws n) where
-  pub number-fits : (room : ℕ) → at + length (replyNamed a) ≤ room → at + length (named text n) ≤ room
-  number-fits room fits = first-fits room at (named text n) (wordsFor ws n) (rw (t .parts) at fits)
+module _ (a : Reply) (text : String) (ws : List String) (n : ℕ) (t : Answered a text ws n) (entry : ℕ)
+    (is : phrase entry ≡ wordsFor ws n) (at : ℕ) where
+  described : replyNamed a ≡ named text n ++ phrase entry
+  described = t .parts ∙ ap (λ w. named text n ++ w) (sym is)
 
-  module _ (s : List ℕ) (room : at + length (replyNamed a) ≤ length s) (s₁ : List ℕ) (i : ℕ)
-      (w : Wrote s at (named text n) s₁ i) (entry : ℕ) (is : phrase entry ≡ wordsFor ws n) where
-    whole : at + length (named text n ++ wordsFor ws n) ≤ length s
-    whole = rw (t .parts) at room
+  pub described-fits : (room : ℕ) → at + length (replyNamed a) ≤ room → at + length (named text n ++ phrase entry) ≤ room
+  described-fits room fits = rw described at fits
 
-    pub words-fit : i + length (phrase entry) ≤ length s₁
-    words-fit = rw is (second-fits s at (named text n) (wordsFor ws n) s₁ i whole w)
-
-    pub reply-written : (s₂ : List ℕ) (r : ℕ) → Wrote s₁ i (phrase entry) s₂ r → Wrote s at (replyNamed a) s₂ r
-    reply-written s₂ r x =
-        rw (t .parts) (both-written s at (named text n) (wordsFor ws n) s₁ i whole w s₂ r (rw is at x))
+  pub described-written : (s s₁ : List ℕ) (r : ℕ) → Wrote s at (named text n ++ phrase entry) s₁ r →
+      Wrote s at (replyNamed a) s₁ r
+  described-written s s₁ r w = rw described w
 
 -- ---- the sentence
 

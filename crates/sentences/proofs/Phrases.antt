@@ -102,43 +102,36 @@ words-at [] n = refl
 words-at (w ∷ ws) zero = refl
 words-at (w ∷ ws) (suc n) = words-at ws n
 
+-- entry 0 is that of a number without words: 0, and any behind the list's end
+none-at-0 : (ws : List String) → phrase 0 ≡ wordsFor ws 0
+unfolding phrase phrases wordsFor
+none-at-0 [] = refl
+none-at-0 (w ∷ ws) = refl
+
+pub alone-at-0 : (ws : List String) (n : ℕ) → n ≡ 0 → phrase 0 ≡ wordsFor ws n
+alone-at-0 ws n e = rw e (none-at-0 ws)
+
+pub alone-behind : (ws : List String) (n : ℕ) → length ws < n → phrase 0 ≡ wordsFor ws n
+unfolding phrase phrases
+alone-behind ws n l = sym (words-past ws n l)
+
 -- a rule's entry is its number
-module _ (n : ℕ) where
-  own-phrase : (m : ℕ) → m ≤ 13 → phrase m ≡ wordsFor ruleWords m
-  unfolding phrase phrases wordsFor ruleWords
-  own-phrase zero l = refl
-  own-phrase (suc m) l =
-      List·getD-append (phrasesOf ruleWords) (phrasesOf refusalWords) [] m (omega arith) ∙ sym (words-at ruleWords m)
+own-phrase : (n : ℕ) → n ≤ 13 → phrase n ≡ wordsFor ruleWords n
+unfolding phrase phrases wordsFor ruleWords
+own-phrase zero l = refl
+own-phrase (suc n) l =
+    List·getD-append (phrasesOf ruleWords) (phrasesOf refusalWords) [] n (omega arith) ∙ sym (words-at ruleWords n)
 
-  pub rule-phrase : n ≤ 13 → (w : ℕ) → w ≡ n → phrase w ≡ wordsFor ruleWords n
-  rule-phrase l w e = rw e (own-phrase n l)
-
-  pub rule-alone : 13 < n → phrase 0 ≡ wordsFor ruleWords n
-  unfolding phrase phrases ruleWords
-  rule-alone l = sym (words-past ruleWords n l)
+pub rule-phrase : (n : ℕ) → n ≤ 13 → (w : ℕ) → w ≡ n → phrase w ≡ wordsFor ruleWords n
+rule-phrase n l w e = rw e (own-phrase n l)
 
 -- that of a refusal stands behind those of the rules
-module _ (n : ℕ) where
-  behind-rules : (m : ℕ) → phrase (13 + suc m) ≡ wordsFor refusalWords (suc m)
-  unfolding phrase phrases ruleWords refusalWords
-  behind-rules m =
-      let e : 13 + suc m ≡ suc (13 + m) = omega arith in
-      rw e (getD-append-add (phrasesOf ruleWords) (phrasesOf refusalWords) m [] ∙ sym (words-at refusalWords m))
+behind-rules : (n : ℕ) → ¬ (n ≡ 0) → phrase (13 + n) ≡ wordsFor refusalWords n
+unfolding phrase phrases ruleWords refusalWords
+behind-rules zero some = absurd (some refl)
+behind-rules (suc n) some =
+    let e : 13 + suc n ≡ suc (13 + n) = omega arith in
+    rw e (getD-append-add (phrasesOf ruleWords) (phrasesOf refusalWords) n [] ∙ sym (words-at refusalWords n))
 
-  pub refusal-phrase : ¬ (n ≡ 0) → (w : ℕ) → w ≡ 13 + n → phrase w ≡ wordsFor refusalWords n
-  refusal-phrase some w e = rw e (go n some)
-    where
-      go : (m : ℕ) → ¬ (m ≡ 0) → phrase (13 + m) ≡ wordsFor refusalWords m
-      go zero some = absurd (some refl)
-      go (suc m) some = behind-rules m
-
-  pub refusal-alone : 20 < n → phrase 0 ≡ wordsFor refusalWords n
-  unfolding phrase phrases refusalWords
-  refusal-alone l = sym (words-past refusalWords n l)
-
-  none-at-0 : phrase 0 ≡ wordsFor refusalWords 0
-  unfolding phrase phrases refusalWords wordsFor
-  none-at-0 = refl
-
-  pub no-refusal : n ≡ 0 → phrase 0 ≡ wordsFor refusalWords n
-  no-refusal e = rw e none-at-0
+pub refusal-phrase : (n : ℕ) → ¬ (n ≡ 0) → (w : ℕ) → w ≡ 13 + n → phrase w ≡ wordsFor refusalWords n
+refusal-phrase n some w e = rw e (behind-rules n some)

@@ -7,7 +7,7 @@ use texts::write_named;
 use texts::write_text;
 use words::refusal_entry;
 use words::rule_entry;
-use words::write_words;
+use words::write_described;
 ghost use mathlib.Core.Path.{_≡_};
 ghost use Prim.Native.Nat.{_+_, _≤_};
 ghost use lib.ListN.{length};
@@ -46,11 +46,9 @@ fn write_reply(out: &mut [u8], at: usize, moved: bool, number: u8) -> usize
     ensures { λ r. ⌜ Wrote (now (out .entry)) at (replyNamed (replyIn moved number)) (now (out .exit)) r ⌝ }
 {
     if moved {
-        let end = write_named(out, at, b" moved by rule ", number);
-        return write_words(out, end, rule_entry(number));
+        return write_described(out, at, b" moved by rule ", number, rule_entry(number));
     }
-    let end = write_named(out, at, b" met refusal ", number);
-    write_words(out, end, refusal_entry(number))
+    write_described(out, at, b" met refusal ", number, refusal_entry(number))
 }
 
 // The sentence, from the front of the bytes on: the answer is its length.

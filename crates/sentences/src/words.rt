@@ -1,9 +1,12 @@
 // The words that a number has in a sentence, each behind a comma: those of the rules, then those of the refusals.
+use crate::texts::write_named;
 use crate::texts::write_text;
 use buffer::wide;
 ghost use mathlib.Core.Path.{_≡_};
+ghost use mathlib.Core.List.{_++_};
 ghost use Prim.Native.Nat.{_+_, _≤_, _<_};
 ghost use lib.ListN.{length};
+ghost use Rattle.semantics.specs.Definitions.Report.{decimal};
 ghost use Rattle.semantics.specs.Definitions.Sentence.{wordsFor, ruleWords, refusalWords};
 ghost use Rattle.decimals.specs.Wrote.{Wrote};
 ghost use Rattle.sentences.specs.Words.{entries, phrase, startOf};
@@ -121,7 +124,7 @@ fn start_of(entry: usize) -> usize
 }
 
 // The words of an entry: the answer is the offset behind them.
-pub fn write_words(out: &mut [u8], at: usize, entry: usize) -> usize
+fn write_words(out: &mut [u8], at: usize, entry: usize) -> usize
     requires { ⌜ (entry < entries) × (at + length (phrase entry) ≤ length (now out)) ⌝ }
     ensures { λ r. ⌜ Wrote (now (out .entry)) at (phrase entry) (now (out .exit)) r ⌝ }
 {
@@ -129,4 +132,14 @@ pub fn write_words(out: &mut [u8], at: usize, entry: usize) -> usize
     let from = start_of(entry);
     let end = start_of(entry + 1);
     write_text(out, at, &words[from..end])
+}
+
+// A number behind its text, and the words of its entry.
+pub fn write_described(out: &mut [u8], at: usize, text: &[u8], number: u8, entry: usize) -> usize
+    requires { ⌜ (entry < entries) × (at + length ((now text ++ decimal number) ++ phrase entry) ≤ length (now out)) ⌝ }
+    ensures { λ r. ⌜ Wrote (now (out .entry)) at ((now (text .entry) ++ decimal number) ++ phrase entry)
+        (now (out .exit)) r ⌝ }
+{
+    let end = write_named(out, at, text, number);
+    write_words(out, end, entry)
 }

@@ -1,15 +1,17 @@
 -- The entry of a refusal meets its contract.
 -- Assumes nothing.
 use borrow.Author.Needs.{needs}
-use Rattle.sentences.proofs.Phrases.{no-refusal, refusal-phrase, refusal-alone}
+use Rattle.semantics.specs.Definitions.Sentence.{refusalWords}
+use Rattle.sentences.proofs.Phrases.{alone-at-0, alone-behind, refusal-phrase}
 use Rattle.sentences.proofs.words.refusal_entry.Statement.{statement}
 use Rattle.sentences.proofs.words.refusal_entry.Tie as tie
 
 returns : tie.Need-returns
-returns c = (search needs, search (no-refusal, needs))
+returns c = (search needs, search (alone-at-0, needs))
 
 returns-2 : tie.Need-returns-2
-returns-2 c = (search needs, search (refusal-alone, needs))
+unfolding refusalWords
+returns-2 c = (search needs, alone-behind refusalWords _ (search needs))
 
 add-wide : tie.Need-add-wide
 add-wide c = search needs

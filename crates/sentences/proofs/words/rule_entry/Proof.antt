@@ -1,12 +1,14 @@
 -- The entry of a rule meets its contract.
 -- Assumes nothing.
 use borrow.Author.Needs.{needs}
-use Rattle.sentences.proofs.Phrases.{rule-phrase, rule-alone}
+use Rattle.semantics.specs.Definitions.Sentence.{ruleWords}
+use Rattle.sentences.proofs.Phrases.{rule-phrase, alone-behind}
 use Rattle.sentences.proofs.words.rule_entry.Statement.{statement}
 use Rattle.sentences.proofs.words.rule_entry.Tie as tie
 
 returns : tie.Need-returns
-returns c = (search needs, search (rule-alone, needs))
+unfolding ruleWords
+returns c = (search needs, alone-behind ruleWords _ (search needs))
 
 wide-requires : tie.Need-wide-requires
 wide-requires c κs = search needs
