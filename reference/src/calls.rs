@@ -10,6 +10,7 @@ use crate::hall::{decode, encode, opening, Hall, HALL_BYTES};
 use crate::moves::{self, make_move, Outcome};
 use crate::run::{run_choices, Tally};
 use crate::sentence::{sentence, Reply, SENTENCE_ROOM};
+use crate::suggestion::suggestion;
 use crate::table::{read_table, Refusal, Table};
 
 /// A number (0 for none) and a place.
@@ -125,7 +126,7 @@ fn make_step(table: &[u8], hall: &[u8], choice: &[u8]) -> Result<(u8, Hall), Ref
     }
 }
 
-/// All accepted choices of a stored hall. A suggestion may be any of them.
+/// All accepted choices of a stored hall.
 ///
 /// # Errors
 ///
@@ -142,6 +143,17 @@ pub fn accepted_choices(table: &[u8], hall: &[u8]) -> Result<Vec<Choice>, Refusa
 /// Refusals 1 to 11.
 pub fn is_still(table: &[u8], hall: &[u8]) -> Result<bool, Refusal> {
     Ok(accepted_choices(table, hall)?.is_empty())
+}
+
+/// The suggestion for a stored hall: its first accepted choice, or nothing where
+/// the hall is still (document 02, Q-2).
+///
+/// # Errors
+///
+/// Refusals 1 to 11.
+pub fn suggest(table: &[u8], hall: &[u8]) -> Result<Option<Choice>, Refusal> {
+    let (table, hall) = read_both(table, hall)?;
+    Ok(suggestion(&table, &hall))
 }
 
 /// Writes the sentence for a choice and its answer to the front of the buffer

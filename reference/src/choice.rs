@@ -1,7 +1,8 @@
 //! One choice and its bytes (document 01, "Choices and moves", refusals 12
 //! and 13).
 
-/// One choice. Positions and preorder nodes count from 0.
+/// One choice. Positions and preorder nodes count from 0. The derived order goes
+/// by kind first; the order of suggestions is in [`crate::suggestion`].
 #[derive(Clone, Copy, Debug, PartialEq, Eq, PartialOrd, Ord)]
 pub enum Choice {
     /// Kind 1: the station acts.

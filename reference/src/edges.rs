@@ -6,6 +6,7 @@
 //! bytes a counter, the highest first. A line without a colon is a heading.
 
 use crate::calls::{self, Answer, StepAnswer};
+use crate::choice::Choice;
 use crate::print::printed_run;
 use crate::run::Tally;
 use crate::table::Refusal;
@@ -126,7 +127,8 @@ pub fn printed(line: &Line) -> String {
     }
 }
 
-/// The answers of the calls on a stored hall, each on the hall as it was stored.
+/// The answers of the calls on a stored hall, each on the hall as it was stored;
+/// only what is suggested last is suggested for the hall that the run left.
 fn printed_calls(table: &[u8], hall: &[u8], choices: &[u8], first: Tally) -> String {
     let check = calls::check_hall(table, hall);
     let opening = match calls::open(table, &mut hall.to_vec()) {
@@ -150,11 +152,25 @@ fn printed_calls(table: &[u8], hall: &[u8], choices: &[u8], first: Tally) -> Str
         .map(|byte| format!(" {byte}"))
         .collect();
     lines.push(format!("B{}", used.concat()));
-    lines.push(match calls::is_still(table, &after) {
-        Ok(still) => format!("S {}", u8::from(!still)),
-        Err(Refusal { number, place }) => format!("S 0 {number} {place}"),
-    });
+    lines.push(suggestion_line(table, &after));
     lines.join("\n") + "\n"
+}
+
+/// The line on a suggestion: `S number place kind position node`. Number and
+/// place are 0 where the call is not refused. The other three are 0 where it
+/// is, or where the hall is still; kind 1 has no node, so that is 0 as well.
+fn suggestion_line(table: &[u8], hall: &[u8]) -> String {
+    let suggested = calls::suggest(table, hall);
+    let Answer { number, place } = match suggested {
+        Ok(_) => Answer::ACCEPTED,
+        Err(Refusal { number, place }) => Answer { number, place },
+    };
+    let [kind, position, node] = match suggested {
+        Ok(Some(Choice::Act { position })) => [1, position, 0],
+        Ok(Some(Choice::Inside { position, node })) => [2, position, node],
+        Ok(None) | Err(_) => [0, 0, 0],
+    };
+    format!("S {number} {place} {kind} {position} {node}")
 }
 
 /// The answer to the first choice alone, and its rule, 0 for none. A missing

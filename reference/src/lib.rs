@@ -2,8 +2,8 @@
 //!
 //! It was written from the papers and shares no code with the engine. It is
 //! there to be compared with it: for the same bytes both must give the same
-//! answers, the same hall, the same tally, the same printed lines and the
-//! same sentences.
+//! answers, the same hall, the same tally, the same suggestion, the same
+//! printed lines and the same sentences.
 //!
 //! It aims to be easy to read against document 01, the scope, and not to be
 //! fast. Comments name the section of that document which a piece of code
@@ -16,6 +16,7 @@
 //! | [`choice`] | one choice and its bytes |
 //! | [`moves`] | what one choice does to a hall |
 //! | [`run`] | a list of choices, the tally |
+//! | [`suggestion`] | the choice that is suggested for a hall |
 //! | [`calls`] | the public calls on bytes |
 //! | [`print`](mod@print) | the printed run |
 //! | [`sentence`] | the sentence for a choice and its answer |
@@ -43,4 +44,5 @@ pub mod print;
 pub mod run;
 pub mod sentence;
 pub mod stands_for;
+pub mod suggestion;
 pub mod table;

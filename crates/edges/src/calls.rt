@@ -6,7 +6,8 @@
 //     R number place done       running the choices
 //     C commits failed retries  the tally then
 //     B byte ..                 the hall then, up to its last byte that is not 0
-//     S 1 or S 0                whether a choice is suggested then; S 0 number place where table or hall is refused
+//     S number place kind position node
+//                               suggesting then; kind 0 where nothing is suggested
 //
 // A missing byte of the first choice counts as 0, and so does one of the tally that step and run begin with.
 use crate::BYTES;
@@ -20,6 +21,9 @@ use engine::RunAnswer;
 use engine::StepAnswer;
 use engine::SuggestAnswer;
 use libc::STDOUT_FILENO;
+use schedule::Entry;
+use schedule::KIND_ACT;
+use schedule::KIND_INSIDE;
 ghost use Prim.Native.Nat.{_≤_, _<_};
 
 fn print_field(n: usize) {
@@ -31,14 +35,7 @@ fn end_line() {
     io::write_all(STDOUT_FILENO, b"\n");
 }
 
-// A letter and one, two or three numbers.
-fn print_one(letter: u8, a: usize) {
-    let one = [letter];
-    io::write_all(STDOUT_FILENO, &one);
-    print_field(a);
-    end_line();
-}
-
+// A letter and two or three numbers.
 fn print_two(letter: u8, a: usize, b: usize) {
     let one = [letter];
     io::write_all(STDOUT_FILENO, &one);
@@ -116,11 +113,29 @@ fn print_bytes(hall: &[u8]) {
     end_line();
 }
 
+// A number, a place and the bytes of a choice, what is not said being 0.
+fn print_suggest_line(number: u8, place: usize, kind: u8, position: u8, node: u8) {
+    io::write_all(STDOUT_FILENO, b"S");
+    print_field(wide(number));
+    print_field(place);
+    print_field(wide(kind));
+    print_field(wide(position));
+    print_field(wide(node));
+    end_line();
+}
+
+fn print_entry(entry: Entry) {
+    match entry {
+        Entry::Act { position } => print_suggest_line(0, 0, KIND_ACT, position, 0),
+        Entry::Inside { position, node } => print_suggest_line(0, 0, KIND_INSIDE, position, node),
+    }
+}
+
 fn print_suggestion(table: &[u8], hall: &[u8]) {
     match engine::suggest(table, hall) {
-        SuggestAnswer::Suggested(_) => print_one(b'S', 1),
-        SuggestAnswer::Still => print_one(b'S', 0),
-        SuggestAnswer::Refused { number, place } => print_three(b'S', 0, wide(number), place),
+        SuggestAnswer::Suggested(entry) => print_entry(entry),
+        SuggestAnswer::Still => print_suggest_line(0, 0, 0, 0, 0),
+        SuggestAnswer::Refused { number, place } => print_suggest_line(number, place, 0, 0, 0),
     }
 }
 

@@ -11,10 +11,12 @@ use Rattle.semantics.specs.Definitions.Configuration.{Configuration}
 use Rattle.semantics.specs.Definitions.Stored.{bytesOf}
 use Rattle.semantics.specs.Definitions.Moves.{Entry, Answer, moved, refused, answerTo, ruleNumber, replyOf}
 use Rattle.semantics.specs.Definitions.Run.{Counters, counted, schedule, continueRun, runFrom, run}
-use Rattle.semantics.specs.Definitions.Calls.{admission, Buffers, runResult, runAdmitted, runCall, stepCall, SuggestAdmitted, SuggestAllowed}
+use Rattle.semantics.specs.Definitions.Calls.{admission, Buffers, runResult, runAdmitted, runCall, stepCall}
+use Rattle.semantics.specs.Definitions.Suggestion.{suggestFound, suggestCall}
 use Rattle.semantics.specs.Checks.Conditions.{RefusalNumbers}
 use Rattle.semantics.specs.Checks.Steps.{Names, names-act, names-inside}
 use Rattle.theorems.proofs.Theorems.{refusal-numbers}
+use Rattle.theorems.proofs.Suggestions.{admitted-suggests, refused-suggests}
 use Rattle.theorems.proofs.Steps.{answered, step-turned-down, step-unknown, step-answered}
 use Rattle.rules.specs.declared.Reply.{Reply}
 use Rattle.rules.specs.declared.Reply.the-variants as reply
@@ -30,7 +32,7 @@ use Rattle.suggestions.specs.declared.Suggestion.{Suggestion}
 use Rattle.suggestions.specs.declared.Suggestion.the-variants as suggestion
 use Rattle.schedule.specs.declared.Entry as entries
 use Rattle.schedule.specs.declared.Entry.the-variants as entry
-use Rattle.suggestions.specs.Suggestions.{Suggests}
+use Rattle.suggestions.specs.Suggestions.{foundOf, Suggests}
 use Rattle.schedule.specs.Entries.{entryOf}
 use Rattle.runs.specs.declared.RunAnswer.{RunAnswer}
 use Rattle.runs.specs.declared.RunAnswer.the-variants as ran
@@ -159,9 +161,9 @@ module _ (d table hall starts : List ℕ) (a : Admission) (w : AdmissionIs a d h
     stepped-turned-down kind position node c =
         sym (step-turned-down table (buffersOf hall c) n p kind position node (refused-hall d table hall starts a w n p e))
 
-    pub suggestion-turned-down : SuggestAllowed table hall (suggestAnswerOf (Refused n p))
-    unfolding SuggestAllowed SuggestAdmitted suggestAnswerOf
-    suggestion-turned-down = rw (refused-hall d table hall starts a w n p e) (refl, refl)
+    pub suggestion-turned-down : suggestAnswerOf (Refused n p) ≡ suggestCall table hall
+    unfolding suggestAnswerOf
+    suggestion-turned-down = sym (refused-suggests table hall n p (refused-hall d table hall starts a w n p e))
 
   module _ (n : ℕ) (e : a ≡ admit.Admitted n) where
     pub held-running : Running d hall starts n
@@ -200,13 +202,15 @@ module _ (d table hall starts : List ℕ) (a : Admission) (w : AdmissionIs a d h
     stepped-inside f k = rw k (by-name names-inside f)
 
     module _ {r : Suggestion} (f : Suggests d hall starts n r) where
-      pub choice-suggested : {o : entries.Entry} → r ≡ suggestion.Accepted o →
-          SuggestAllowed table hall (suggestAnswerOf (Suggested o))
-      unfolding SuggestAllowed SuggestAdmitted suggestAnswerOf
-      choice-suggested z = admitted-hall d table hall starts a w n e
-          (λ t h q x. rw q ((rw z at f) .found (t .terms) h (x .decoded) (x .holds)))
+      found-told : suggestCall table hall ≡ suggestFound (foundOf r)
+      found-told = admitted-hall d table hall starts a w n e
+          (λ t h q x. admitted-suggests table hall t h q ∙ ap suggestFound (f .found (t .terms) h (x .decoded) (x .holds)))
 
-      pub still-suggested : r ≡ suggestion.Still → SuggestAllowed table hall (suggestAnswerOf Still)
-      unfolding SuggestAllowed SuggestAdmitted suggestAnswerOf
-      still-suggested z = admitted-hall d table hall starts a w n e
-          (λ t h q x. rw q ((rw z at f) .found (t .terms) h (x .decoded) (x .holds)))
+      pub choice-suggested : {o : entries.Entry} → r ≡ suggestion.Accepted o →
+          suggestAnswerOf (Suggested o) ≡ suggestCall table hall
+      unfolding suggestAnswerOf suggestFound
+      choice-suggested z = sym (found-told ∙ ap (λ x. suggestFound (foundOf x)) z)
+
+      pub still-suggested : r ≡ suggestion.Still → suggestAnswerOf Still ≡ suggestCall table hall
+      unfolding suggestAnswerOf suggestFound
+      still-suggested z = sym (found-told ∙ ap (λ x. suggestFound (foundOf x)) z)

@@ -8,7 +8,9 @@ use Rattle.semantics.specs.Definitions.Terms.{Term}
 use Rattle.semantics.specs.Definitions.Configuration.{Configuration}
 use Rattle.semantics.specs.Definitions.Moves.{Entry, answerTo}
 use Rattle.semantics.specs.Definitions.Run.{Counters, entry, schedule}
-use Rattle.semantics.specs.Definitions.Calls.{Verdict, ok, rejected, Opening, opened, notOpened, Buffers, StepCall, suggested, still, notSuggested}
+use Rattle.semantics.specs.Definitions.Calls.{Verdict, ok, rejected, Opening, opened, notOpened, Buffers, StepCall}
+use Rattle.semantics.specs.Definitions.Suggestion.{suggested, still, notSuggested}
+use Rattle.semantics.specs.Definitions.Suggestion as suggestion
 use Rattle.semantics.specs.Definitions.Calls as calls
 use Rattle.theorems.proofs.Steps.{answered}
 use Rattle.terms.specs.Decoded.{Decoded}
@@ -78,7 +80,7 @@ pub record Stepped (d s starts : List ℕ) (n : ℕ) (e : Entry) (size : ℕ) (t
 
 -- ---- a suggestion
 
-unfoldable pub suggestAnswerOf : SuggestAnswer → calls.SuggestAnswer
+unfoldable pub suggestAnswerOf : SuggestAnswer → suggestion.SuggestAnswer
 suggestAnswerOf (suggest.Suggested e) = suggested (entryOf e)
 suggestAnswerOf suggest.Still = still
 suggestAnswerOf (suggest.Refused n p) = notSuggested n p

@@ -4,20 +4,20 @@ use schedule::Entry;
 use stored::INDEX_SIZE;
 use suggestions::Suggestion;
 use terms::DECODED;
-ghost use Rattle.semantics.specs.Definitions.Calls.{SuggestAllowed};
+ghost use mathlib.Core.Path.{_≡_};
+ghost use Rattle.semantics.specs.Definitions.Suggestion.{suggestCall};
 ghost use Rattle.engine.specs.Answers.{suggestAnswerOf};
 
-// A choice that is accepted; that none is (document 01's still); or the refusal's number and place.
+// The choice that is suggested; that none is accepted (document 01's still); or the refusal's number and place.
 pub enum SuggestAnswer {
     Suggested(Entry),
     Still,
     Refused { number: u8, place: usize },
 }
 
-// Suggests a choice that is accepted. The contract leaves free which one it is: here the first, at the lowest position,
-// there kind 1 before kind 2, and of kind 2 at the lowest node.
+// Suggests the first choice that is accepted: at the lowest position, there at the lowest node.
 pub fn suggest(table: &[u8], hall: &[u8]) -> SuggestAnswer
-    ensures { λ r. ⌜ SuggestAllowed (now (table .entry)) (now (hall .entry)) (suggestAnswerOf r) ⌝ }
+    ensures { λ r. ⌜ suggestAnswerOf r ≡ suggestCall (now (table .entry)) (now (hall .entry)) ⌝ }
 {
     let mut decoded = [0u8; DECODED];
     let mut starts = [0usize; INDEX_SIZE];

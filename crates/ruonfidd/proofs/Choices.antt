@@ -3,7 +3,8 @@
 use Prim.Native.Nat.{ℕ}
 use mathlib.Core.Path.{_≡_, refl, _∙_}
 use mathlib.Core.List.{List, [], _∷_}
-use Rattle.semantics.specs.Definitions.Calls.{runCall, stepCall, SuggestAllowed}
+use Rattle.semantics.specs.Definitions.Calls.{runCall, stepCall}
+use Rattle.semantics.specs.Definitions.Suggestion.{suggestCall}
 use Rattle.counters.specs.declared.Counters.{Counters}
 use Rattle.counters.specs.Counted.{countersOf}
 use Rattle.schedule.specs.declared.Entry.{Entry}
@@ -64,28 +65,17 @@ module _ (table hall tally : List ℕ) (kind position node : ℕ) (c : Counters)
 
 -- ---- a suggestion
 
-module _ (table hall : List ℕ) (a : SuggestAnswer) (e : SuggestAllowed table hall (suggestAnswerOf a)) where
+module _ (table hall : List ℕ) (a : SuggestAnswer) (e : suggestAnswerOf a ≡ suggestCall table hall) where
   pub suggestion-made : (x : Entry) → a ≡ suggest.Suggested x → (w : List ℕ) → w ≡ choiceWords (entryOf x) →
-      SuggestionAnswered table hall 0 0 w
+      SuggestionAnswered (suggestCall table hall) 0 0 w
   unfolding suggestAnswerOf
-  suggestion-made x h w q = record {
-    answer = suggestAnswerOf (suggest.Suggested x);
-    allowed = rw h at e;
-    values = record { number = refl; place = refl; choice = q };
-  }
+  suggestion-made x h w q = rw (← e, h) (record { number = refl; place = refl; choice = q })
 
-  pub suggestion-still : a ≡ suggest.Still → SuggestionAnswered table hall 0 0 (0 ∷ 0 ∷ 0 ∷ [])
+  pub suggestion-still : a ≡ suggest.Still → SuggestionAnswered (suggestCall table hall) 0 0 (0 ∷ 0 ∷ 0 ∷ [])
   unfolding suggestAnswerOf
-  suggestion-still h = record {
-    answer = suggestAnswerOf suggest.Still;
-    allowed = rw h at e;
-    values = record { number = refl; place = refl; choice = refl };
-  }
+  suggestion-still h = rw (← e, h) (record { number = refl; place = refl; choice = refl })
 
-  pub suggestion-refused : (m at : ℕ) → a ≡ suggest.Refused m at → SuggestionAnswered table hall m at (0 ∷ 0 ∷ 0 ∷ [])
+  pub suggestion-refused : (m at : ℕ) → a ≡ suggest.Refused m at →
+      SuggestionAnswered (suggestCall table hall) m at (0 ∷ 0 ∷ 0 ∷ [])
   unfolding suggestAnswerOf
-  suggestion-refused m at h = record {
-    answer = suggestAnswerOf (suggest.Refused m at);
-    allowed = rw h at e;
-    values = record { number = refl; place = refl; choice = refl };
-  }
+  suggestion-refused m at h = rw (← e, h) (record { number = refl; place = refl; choice = refl })

@@ -10,11 +10,13 @@ use lib.ListN.{length}
 use lib.Dec.{ltb}
 use borrow.Author.Tests.{ltb-true, ltb-false}
 use Rattle.semantics.specs.Definitions.Moves.{Entry, Reply}
-use Rattle.semantics.specs.Definitions.Calls.{Verdict, ok, rejected, checkTable, checkHall, OpenAnswer, opened, notOpened, openHall, openVerdict, Admission, admitted, notAdmitted, admission, SuggestAnswer, suggested, still, notSuggested, SuggestAdmitted, SuggestAllowed}
+use Rattle.semantics.specs.Definitions.Calls.{Verdict, ok, rejected, checkTable, checkHall, OpenAnswer, opened, notOpened, openHall, openVerdict}
+use Rattle.semantics.specs.Definitions.Suggestion.{SuggestAnswer, suggested, still, notSuggested, suggestCall}
 use Rattle.semantics.specs.Definitions.Sentence.{sentenceCall}
+use Rattle.semantics.specs.Claims.Suggestions.{SuggestionRefused}
 use Rattle.semantics.specs.Checks.Conditions.{RefusalNumbers}
 use Rattle.semantics.specs.Checks.Sentences.{ShortBuffersRefused}
-use Rattle.theorems.proofs.Theorems.{refusal-numbers, short-buffers-refused}
+use Rattle.theorems.proofs.Theorems.{refusal-numbers, suggestion-refused, short-buffers-refused}
 use Rattle.ruonfidd.specs.Answered.{VerdictAnswered, OpeningAnswered, choiceWords, SuggestionAnswered, SentenceAnswered}
 
 zero-ok : (v : Verdict) → ((n p : ℕ) → v ≡ rejected n p → 1 ≤ n) → (set : ℕ) → VerdictAnswered v 0 set → v ≡ ok
@@ -41,25 +43,22 @@ zero-opened table hall set bytes t =
     above (notOpened m q) e n p f = refusal-numbers table hall n p .1 (cc) .0
 
 -- a suggestion with number 0 is a choice, or that the hall is still: its three bytes tell which
-pub zero-suggested : (table hall : List ℕ) (place : ℕ) (w : List ℕ) → SuggestionAnswered table hall 0 place w →
-    ((e : Entry) × (w ≡ choiceWords e) × SuggestAllowed table hall (suggested e)) ⊎
-    ((w ≡ 0 ∷ 0 ∷ 0 ∷ []) × SuggestAllowed table hall still)
-unfolding SuggestAllowed SuggestAdmitted RefusalNumbers
-zero-suggested table hall place w x = go (x .answer) refl
+pub zero-suggested : (table hall : List ℕ) (place : ℕ) (w : List ℕ) →
+    SuggestionAnswered (suggestCall table hall) 0 place w →
+    ((e : Entry) × (w ≡ choiceWords e) × (suggestCall table hall ≡ suggested e)) ⊎
+    ((w ≡ 0 ∷ 0 ∷ 0 ∷ []) × (suggestCall table hall ≡ still))
+unfolding RefusalNumbers SuggestionRefused
+zero-suggested table hall place w x = go (suggestCall table hall) refl x
   where
-    refused : (m q : ℕ) (a : Admission) → admission table hall ≡ a → SuggestAdmitted a (notSuggested m q) → 1 ≤ m
-    refused m q (admitted t h) e f = absurd f
-    refused m q (notAdmitted n p) e f = rw (f .0) (refusal-numbers table hall n p .3 e .0)
-
-    go : (a : SuggestAnswer) → x .answer ≡ a →
-        ((e : Entry) × (w ≡ choiceWords e) × SuggestAllowed table hall (suggested e)) ⊎
-        ((w ≡ 0 ∷ 0 ∷ 0 ∷ []) × SuggestAllowed table hall still)
-    go (suggested e) h = inl (e, rw h at (x .values .choice), rw h at (x .allowed))
-    go still h = inr (rw h at (x .values .choice), rw h at (x .allowed))
-    go (notSuggested m q) h =
-        absurd (
-        let n : 0 ≡ m = rw h at (x .values .number) in
-        let l = refused m q (admission table hall) refl (rw h at (x .allowed)) in omega arith)
+    go : (a : SuggestAnswer) → suggestCall table hall ≡ a → SuggestionAnswered a 0 place w →
+        ((e : Entry) × (w ≡ choiceWords e) × (suggestCall table hall ≡ suggested e)) ⊎
+        ((w ≡ 0 ∷ 0 ∷ 0 ∷ []) × (suggestCall table hall ≡ still))
+    go (suggested e) h x = inl (e, x .choice, h)
+    go still h x = inr (x .choice, h)
+    go (notSuggested m q) h x =
+        absurd
+        (let n = x .number in
+        let l = refusal-numbers table hall m q .2 (suggestion-refused table hall m q .0 h) .0 in omega arith)
 
 -- a sentence with number 0 had room
 pub zero-sentence : (k p n : ℕ) (a : Reply) (buffer : List ℕ) (before after : ℕ) (buffer′ : List ℕ) →

@@ -9,7 +9,8 @@ use lib.ListN.{getD}
 use lib.Dec.{eqb}
 use Rattle.semantics.specs.Definitions.Moves.{Entry, act, inside, Reply}
 use Rattle.semantics.specs.Definitions.Run.{Counters}
-use Rattle.semantics.specs.Definitions.Calls.{Verdict, verdictNumber, verdictPlace, Opening, openVerdict, Buffers, RunCall, StepCall, SuggestAnswer, suggested, still, notSuggested, SuggestAllowed}
+use Rattle.semantics.specs.Definitions.Calls.{Verdict, verdictNumber, verdictPlace, Opening, openVerdict, Buffers, RunCall, StepCall}
+use Rattle.semantics.specs.Definitions.Suggestion.{SuggestAnswer, suggested, still, notSuggested}
 use Rattle.semantics.specs.Definitions.Sentence.{SentenceAnswer, told, notTold, SentenceCall}
 use Rattle.sentences.specs.Answers.{replyIn}
 
@@ -87,16 +88,10 @@ suggestionPlace (suggested e) = 0
 suggestionPlace still = 0
 suggestionPlace (notSuggested n p) = p
 
-pub record SuggestionSet (n at : ℕ) (words : List ℕ) (returned p : ℕ) (w : List ℕ) : Type 0 where
-  pub number : returned ≡ n
-  pub place : p ≡ at
-  pub choice : w ≡ words
-
--- an answer that is allowed, as it is told
-pub record SuggestionAnswered (table hall : List ℕ) (returned p : ℕ) (w : List ℕ) : Type 0 where
-  pub answer : SuggestAnswer
-  pub allowed : SuggestAllowed table hall answer
-  pub values : SuggestionSet (suggestionNumber answer) (suggestionPlace answer) (suggestionWords answer) returned p w
+pub record SuggestionAnswered (a : SuggestAnswer) (returned p : ℕ) (w : List ℕ) : Type 0 where
+  pub number : returned ≡ suggestionNumber a
+  pub place : p ≡ suggestionPlace a
+  pub choice : w ≡ suggestionWords a
 
 -- ---- a sentence
 

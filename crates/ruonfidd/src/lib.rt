@@ -22,6 +22,7 @@ ghost use mathlib.Core.List.{[], _∷_};
 ghost use Prim.Native.Nat.{_≤_};
 ghost use Rattle.semantics.specs.Definitions.Run.{freshCounters};
 ghost use Rattle.semantics.specs.Definitions.Calls.{checkTable, checkHall, openHall, runCall, stepCall};
+ghost use Rattle.semantics.specs.Definitions.Suggestion.{suggestCall};
 ghost use Rattle.semantics.specs.Definitions.Report.{printedRun};
 ghost use Rattle.semantics.specs.Definitions.Sentence.{sentenceCall};
 ghost use Rattle.decimals.specs.Wrote.{Wrote};
@@ -176,8 +177,9 @@ fn choice_of(entry: Entry) -> [u8; 3]
     }
 }
 
-// Suggests a choice that is accepted, any one of them: 0, place 0, and the choice; kind 0 where no choice is accepted.
-// Or the number of the refusal and its place, and kind 0. What is not said is 0.
+// Suggests the first choice that is accepted, at the lowest position, there at the lowest node: 0, place 0, and the
+// choice; kind 0 where no choice is accepted. Or the number of the refusal and its place, and kind 0. What is not said
+// is 0.
 #[no_mangle]
 pub extern "C" fn ruonfidd_suggest(
     table: &[u8],
@@ -185,7 +187,7 @@ pub extern "C" fn ruonfidd_suggest(
     choice: &mut [u8; 3],
     place: &mut usize,
 ) -> u8
-    ensures { λ r. ⌜ SuggestionAnswered (now (table .entry)) (now (hall .entry)) r (now (place .exit))
+    ensures { λ r. ⌜ SuggestionAnswered (suggestCall (now (table .entry)) (now (hall .entry))) r (now (place .exit))
         (now (choice .exit)) ⌝ }
 {
     *place = 0;

@@ -4,7 +4,7 @@ use mathlib.Core.Path.{_≡_, refl, sym, ap, _∙_}
 use mathlib.Core.List.{List, [], _∷_}
 use Rattle.semantics.specs.Definitions.Moves.{Entry, act, inside}
 use Rattle.semantics.specs.Definitions.Run.{schedule, entries, entryBytes}
-use Rattle.semantics.specs.Definitions.Calls.{SuggestAnswer, suggested, still, notSuggested}
+use Rattle.semantics.specs.Definitions.Suggestion.{SuggestAnswer, suggested, still, notSuggested}
 use Rattle.semantics.specs.Checks.Answers.{VerdictReported, OpeningReported, SuggestionReported, ChoiceReported, AnswersReported, SuggestValues, choiceValue, stillValue, refusalValue, suggestValues, AnswersDiffer}
 
 verdict-reported : VerdictReported

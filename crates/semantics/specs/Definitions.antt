@@ -11,5 +11,6 @@ pub mod Moves
 pub mod Run
 pub mod AtomicRun
 pub mod Calls
+pub mod Suggestion
 pub mod Report
 pub mod Sentence

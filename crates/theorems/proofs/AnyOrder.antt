@@ -6,6 +6,7 @@ use Prim.Native.Nat.{_≤_}
 use native.Mathlib.Omega.{arith}
 use native.Mathlib.Decide.{ℕ-discrete}
 use mathlib.Core.Path.{_≡_, refl, sym, ap}
+use mathlib.Core.Bool.{false≢true}
 use mathlib.Core.List.{List, [], _∷_, _++_}
 use lib.ListN.{length, length-append}
 use Rattle.calculus.specs.Syntax.{Name, State, Process, par}
@@ -15,7 +16,7 @@ use Rattle.calculus.specs.Reduction.{Label, by, COM, Reduces, OUTr, INr, REPr, 
 use Rattle.calculus.proofs.Reductions.{as-stated}
 use Rattle.calculus.proofs.States.{same-self, same-other, occurrences-append}
 use Rattle.semantics.specs.Definitions.Configuration.{Configuration}
-use Rattle.semantics.specs.Definitions.Calls.{Quiescent}
+use Rattle.semantics.specs.Definitions.Suggestion.{isMoved, isAccepted, Quiescent}
 use Rattle.semantics.specs.Claims.Correspondence.{LogOrderAsStated, HasChoices, Completeness, Reordered, unchanged, shuffled, within, CompletenessAnyOrder, StillIsStill}
 use Rattle.semantics.specs.Claims.Denotation.{parallel, WithinLimits}
 use Rattle.theorems.proofs.Communication.{none-occurs}
@@ -102,9 +103,9 @@ completeness-any-order bs t acc h ok P s l P′ σ′ d b =
 
 -- where a reduction is answered some choice is accepted
 answered-moves : (l : Label) (h : Configuration) (P : Process) (σ : State) → HasChoices l h P σ → Quiescent h → ⊥
-unfolding HasChoices Quiescent
-answered-moves (by r) h P σ x still = rw (x .3) at (still (x .0) (x .2))
-answered-moves (COM a) h P σ x still = rw (x .7) at (still (x .0) (x .5))
+unfolding HasChoices Quiescent isAccepted isMoved
+answered-moves (by r) h P σ x still = false≢true (sym (rw (x .3) at (still (x .0) (x .2))))
+answered-moves (COM a) h P σ x still = false≢true (sym (rw (x .7) at (still (x .0) (x .5))))
 
 -- where no choice is accepted no reduction within the limits exists
 pub still-is-still : StillIsStill

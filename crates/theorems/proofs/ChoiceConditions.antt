@@ -5,6 +5,7 @@ use Prim.Native.Nat.{ℕ, zero, suc, _+_, _≤_, _<_}
 use native.Mathlib.Omega.{arith}
 use native.Mathlib.Decide.{decLt}
 use mathlib.Core.Path.{_≡_, refl, sym, ap, _∙_, subst}
+use mathlib.Core.Bool.{true, false≢true}
 use mathlib.Core.Logic.{_⊎_, inl, inr, _↔_}
 use mathlib.Core.Option.{Option, none, some}
 use mathlib.Core.List.{List, [], _∷_, _++_, map}
@@ -20,7 +21,7 @@ use Rattle.semantics.specs.Definitions.Terms.{Expression, endT, retryT, rdT, wt
 use Rattle.semantics.specs.Definitions.Logs.{emptyLog, readable, takeToken, addToken}
 use Rattle.semantics.specs.Definitions.Configuration.{Idle, taking, repeating, block, output, Tree, leaf, fork, Component, idle, transaction, Configuration, opens, nodes}
 use Rattle.semantics.specs.Definitions.Moves.{Entry, act, inside, moves, blocked, takes, puts, commits, ends, acts, Inner, evolves, noRule, outOfRange, reads, atLeaf, atFork, inLeft, inRight, inner, innerLocal, actsInside, Answer, moved, refused, applyAt, atPosition, answerTo}
-use Rattle.semantics.specs.Definitions.Calls.{IsMoved}
+use Rattle.semantics.specs.Definitions.Suggestion.{isMoved, isAccepted}
 use Rattle.semantics.specs.Claims.ConverseRuns.{EmptyChannel, TooManyComponents, FullChannel}
 use Rattle.semantics.specs.Claims.InnerMoves.{Settled}
 use Rattle.semantics.specs.Checks.Conditions.{FirstCondition, preorder, NoRuleAtNode, ChoiceCondition, no-station, no-station-inside, unsettled, no-attempt, no-node, no-rule-there, in-empty, rep-empty, in-many, rep-many, commit-many, out-full, ChoiceNumbers}
@@ -41,9 +42,10 @@ module _ (C : ℕ → Type 0) where
   Reason (refused n) = FirstCondition C n
 
   -- an answer with its reason is decided by the conditions
-  decided : (a : Answer) → Reason a → ((n : ℕ) → (a ≡ refused n) ↔ FirstCondition C n) × (IsMoved a ↔ ((n : ℕ) → C n → ⊥))
-  decided (moved r h) f = (λ n. (λ e. absurd (let z : _≡_ {A = ℕ} 0 1 = cc in omega arith), λ g. absurd (f n (g .0))), (λ _. f, λ _. tt))
-  decided (refused m) f = (λ n. (λ e. subst (FirstCondition C) (same n e) f, λ g. ap refused (first-unique m n f g)), (λ z. absurd z, λ g. g m (f .0)))
+  decided : (a : Answer) → Reason a → ((n : ℕ) → (a ≡ refused n) ↔ FirstCondition C n) × ((isMoved a ≡ true) ↔ ((n : ℕ) → C n → ⊥))
+  unfolding isMoved
+  decided (moved r h) f = (λ n. (λ e. absurd (let z : _≡_ {A = ℕ} 0 1 = cc in omega arith), λ g. absurd (f n (g .0))), (λ _. f, λ _. refl))
+  decided (refused m) f = (λ n. (λ e. subst (FirstCondition C) (same n e) f, λ g. ap refused (first-unique m n f g)), (λ z. absurd (false≢true z), λ g. absurd (g m (f .0))))
     where
       same : (n : ℕ) → refused m ≡ refused n → m ≡ n
       same n e = cc
@@ -334,5 +336,5 @@ choice-reason h few (inside p k) = go (getElem? (h .components) p) refl
     go (some c) e = acts-inside-reason h p k few c e
 
 pub choice-numbers : ChoiceNumbers
-unfolding ChoiceNumbers
+unfolding ChoiceNumbers isAccepted
 choice-numbers ts h w e = decided (λ m. ChoiceCondition h m e) (answerTo h e) (choice-reason h (w .few) e)

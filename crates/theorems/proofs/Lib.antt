@@ -36,6 +36,7 @@ pub mod RunConditions
 pub mod CallConditions
 pub mod CallLists
 pub mod Steps
+pub mod First
 pub mod Suggestions
 pub mod Decimals
 pub mod Sentences

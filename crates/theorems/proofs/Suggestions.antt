@@ -1,253 +1,281 @@
--- A suggestion: what is allowed, what runs, and that something is always allowed, by a search in order of positions and
--- nodes. The claims of specs/Claims/Suggestions.
+-- A suggestion is the first accepted entry and no other, whichever kind is looked at first; where there is none, nothing
+-- runs. The claims of specs/Claims/Suggestions.
 -- Assumes nothing.
-use Prim.Native.Nat.{ℕ, zero, suc, _+_, _≤_, _<_}
+use Prim.Native.Nat.{ℕ, zero, suc, _≤_, _<_}
 use native.Mathlib.Omega.{arith}
-use native.Mathlib.Decide.{ℕ-discrete}
-use mathlib.Core.Path.{_≡_, refl, sym, ap, _∙_}
+use mathlib.Core.Path.{_≡_, refl, sym, ap, ap₂, subst, _∙_}
 use mathlib.Core.Logic.{_↔_}
+use mathlib.Core.Bool.{Bool, true, false, cond, false≢true}
 use mathlib.Core.Option.{Option, none, some}
-use mathlib.Core.List.{List, [], _∷_}
+use mathlib.Core.List.{List, [], _∷_, _++_, map, flatten}
+use lib.ListN.{getElem?}
+use Rattle.calculus.specs.Syntax.{Log, State}
 use Rattle.calculus.specs.Reduction.{Rule}
-use Rattle.semantics.specs.Definitions.Basics.{Bytes}
+use Rattle.semantics.specs.Definitions.Layout.{maxByte}
+use Rattle.semantics.specs.Definitions.Basics.{Bytes, countUp, firstOf}
+use Rattle.semantics.specs.Definitions.Terms.{Expression, endT, retryT, rdT, wtT, orElseT}
 use Rattle.semantics.specs.Definitions.Table.{Table}
-use Rattle.semantics.specs.Definitions.Configuration.{Configuration}
-use Rattle.semantics.specs.Definitions.Moves.{Entry, act, inside, Answer, moved, refused, answerTo}
-use Rattle.semantics.specs.Definitions.Run.{Counters, schedule, entries, entryBytes, InBytes, RunAnswer, continueRun, runFrom, run}
-use Rattle.semantics.specs.Definitions.Calls.{Admission, admitted, notAdmitted, admission, runResult, runAdmitted, runCall, SuggestAnswer, suggested, still, notSuggested, IsMoved, IsRefused, Quiescent, Suggestable, SuggestAdmitted, SuggestAllowed}
-use Rattle.semantics.specs.Checks.StatedSuggestions.{AnswerAsStated, act-accepted, inside-accepted, none-accepted, not-admitted, AllowedAsStated}
-use Rattle.semantics.specs.Claims.Suggestions.{SuggestionExists, SuggestedRuns, StillRunsNone}
+use Rattle.semantics.specs.Definitions.Configuration.{Component, idle, transaction, leaf, fork, Configuration}
+use Rattle.semantics.specs.Definitions.Moves.{Entry, act, inside, Answer, moved, refused, answerTo, atPosition, applyAt, acts, actsInside, ends, noRule, inner, innerLocal, atLeaf}
+use Rattle.semantics.specs.Definitions.Run.{Counters, schedule, entryBytes, InBytes, RunAnswer, continueRun, runFrom, run}
+use Rattle.semantics.specs.Definitions.Calls.{rejected, checkHall, admissionVerdict, Admission, admitted, notAdmitted, admission, Buffers, runResult, runAdmitted, runCall}
+use Rattle.semantics.specs.Definitions.Suggestion.{isMoved, isAccepted, Quiescent, entriesAt, entriesBelow, firstAccepted, SuggestAnswer, suggested, still, notSuggested, suggestFound, suggestAdmitted, suggestCall}
+use Rattle.semantics.specs.Checks.StatedSuggestions.{NoneAt, AnswerAsStated, act-first, inside-first, none-accepted, not-admitted, SuggestionAsStated}
+use Rattle.semantics.specs.Claims.Suggestions.{positionOf, Before, lower-position, lower-node, FirstDone, SuggestedIsFirst, KindsApart, KindsInEitherOrder, StillIsQuiescent, StillRunsNone, SuggestionRefused}
+use Rattle.theorems.proofs.First.{Growing, mapped-grows, blocks-grow, firstSome, first-alone, first-of-both, passes-alone, fails-alone, alone-passes, alone-fails, none-below, none-in, first-block, found-in}
 
--- ---- what is allowed
+-- ---- the kinds
 
--- the answer to a choice that is accepted, taken apart
-is-moved : {C : Type 0} (a : Answer) → IsMoved a → ((r : Rule) (g : Configuration) → a ≡ moved r g → C) → C
-is-moved (moved r g) m next = next r g refl
-is-moved (refused n) m next = absurd m
+not-both : {b : Bool} → b ≡ true → b ≡ false → ⊥
+not-both e f = false≢true (sym f ∙ e)
 
--- a refused choice is never accepted, and one that never is is refused
-not-moved : (a : Answer) (r : Rule) (g : Configuration) → IsRefused a → a ≡ moved r g → ⊥
-not-moved (moved r′ g′) r g m e = m
-not-moved (refused n) r g m e = let z : _≡_ {A = ℕ} 0 1 = cc in omega arith
+module _ (h : Configuration) (p : ℕ) where
+  -- at an attempt of one leaf without a rule no entry of kind 2 is accepted
+  leaf-settled : (n : ℕ) (M N : Expression) (s : State) (δ : Log) →
+      getElem? (h .components) p ≡ some (transaction n M s (leaf N δ)) → atLeaf s N δ ≡ noRule →
+      (k : ℕ) → isAccepted h (inside p k) ≡ false
+  unfolding isAccepted isMoved answerTo atPosition applyAt actsInside inner innerLocal
+  leaf-settled n M N s δ e q zero = rw (e, q) refl
+  leaf-settled n M N s δ e q (suc k) = rw e refl
 
-never-moved : (a : Answer) → ((r : Rule) (g : Configuration) → a ≡ moved r g → ⊥) → IsRefused a
-never-moved (moved r g) m = m r g refl
-never-moved (refused n) m = tt
+-- kind 1 is accepted of what waits, and of an attempt that is one end or retry leaf; kind 2 of neither
+act-excludes : (h : Configuration) (p k : ℕ) → isAccepted h (act p) ≡ true → isAccepted h (inside p k) ≡ false
+unfolding isAccepted isMoved answerTo atPosition applyAt acts ends actsInside inner innerLocal atLeaf
+act-excludes h p k a = go (getElem? (h .components) p) refl a
+  where
+    go : (o : Option Component) → getElem? (h .components) p ≡ o → isAccepted h (act p) ≡ true → isAccepted h (inside p k) ≡ false
+    go none e a = rw e refl
+    go (some (idle c)) e a = rw e refl
+    go (some (transaction n M s (leaf (endT m) δ))) e a = leaf-settled h p n M (endT m) s δ e refl k
+    go (some (transaction n M s (leaf (retryT m) δ))) e a = leaf-settled h p n M (retryT m) s δ e refl k
+    go (some (transaction n M s (leaf (rdT m b N) δ))) e a = absurd (not-both a (rw e refl))
+    go (some (transaction n M s (leaf (wtT m b N) δ))) e a = absurd (not-both a (rw e refl))
+    go (some (transaction n M s (leaf (orElseT m N N′) δ))) e a = absurd (not-both a (rw e refl))
+    go (some (transaction n M s (fork l r))) e a = absurd (not-both a (rw e refl))
 
-module _ (table hall : List ℕ) where
-  -- on an admitted hall: an accepted choice, and still where none is
-  choice-printed : {t : Table} {h : Configuration} → admission table hall ≡ admitted t h → (d : Entry) →
-      InBytes d × IsMoved (answerTo h d) → AnswerAsStated table hall (suggested d)
-  unfolding InBytes
-  choice-printed {h = h} e (act p) s = is-moved (answerTo h (act p)) (s .1) (λ r g q. act-accepted e (s .0) q)
-  choice-printed {h = h} e (inside p k) s =
-      is-moved (answerTo h (inside p k)) (s .1) (λ r g q. inside-accepted e (s .0 .0) (s .0 .1) q)
+pub kinds-apart : KindsApart
+unfolding KindsApart isAccepted isMoved
+kinds-apart h f g p k r s q w = not-both (ap isMoved w) (act-excludes h p k (ap isMoved q))
 
-  still-printed : {t : Table} {h : Configuration} → admission table hall ≡ admitted t h →
-      ((d : Entry) → InBytes d → IsRefused (answerTo h d)) → AnswerAsStated table hall still
-  unfolding InBytes
-  still-printed {h = h} e s =
-      none-accepted e (λ p r g b q. not-moved (answerTo h (act p)) r g (s (act p) b) q)
-      (λ p k r g b c q. not-moved (answerTo h (inside p k)) r g (s (inside p k) (b, c)) q)
+-- ---- the first accepted entry
 
-  -- what the definition allows is as printed
-  allowed-printed : (a : SuggestAnswer) → SuggestAllowed table hall a → AnswerAsStated table hall a
-  unfolding SuggestAllowed SuggestAdmitted Suggestable Quiescent
-  allowed-printed a s = go (admission table hall) refl a s
-    where
-      go : (d : Admission) → admission table hall ≡ d → (a : SuggestAnswer) → SuggestAdmitted d a →
-          AnswerAsStated table hall a
-      go (admitted t h) e (suggested d) s = choice-printed e d s
-      go (admitted t h) e still s = still-printed e s
-      go (admitted t h) e (notSuggested n p) s = absurd s
-      go (notAdmitted n p) e (suggested d) s = absurd s
-      go (notAdmitted n p) e still s = absurd s
-      go (notAdmitted n p) e (notSuggested m q) s = rw (s .0, s .1) (not-admitted e)
+-- the nodes of a position, and the positions
+pub nodes-grow : (p : ℕ) → Growing (λ n. map (inside p) (countUp 0 n)) (λ k. inside p k ∷ [])
+nodes-grow p = mapped-grows (inside p)
 
-  -- and back
-  printed-allowed : {a : SuggestAnswer} → AnswerAsStated table hall a → SuggestAllowed table hall a
-  unfolding SuggestAllowed SuggestAdmitted Suggestable Quiescent InBytes
-  printed-allowed (act-accepted e b q) = rw (e, q) (b, tt)
-  printed-allowed (inside-accepted e b c q) = rw (e, q) ((b, c), tt)
-  printed-allowed (none-accepted {h = h} e f g) = rw e (λ d b. at d b)
-    where
-      at : (d : Entry) → InBytes d → IsRefused (answerTo h d)
-      at (act p) b = never-moved (answerTo h (act p)) (λ r k q. f p r k b q)
-      at (inside p k) b = never-moved (answerTo h (inside p k)) (λ r c q. g p k r c (b .0) (b .1) q)
-  printed-allowed (not-admitted e) = rw e (refl, refl)
-
-pub allowed-as-stated : AllowedAsStated
-unfolding AllowedAsStated
-allowed-as-stated table hall a = (allowed-printed table hall a, printed-allowed table hall)
-
--- ---- a search over numbers
-
-module _ {ℓ} {A : Type ℓ} where
-  -- the first of two that has a value
-  firstSome : Option A → Option A → Option A
-  firstSome none y = y
-  firstSome (some x) y = some x
-
-  -- the value at the first of n numbers, from a number on, that has one
-  firstFound : (ℕ → Option A) → (from n : ℕ) → Option A
-  unfolding firstSome
-  firstFound f from zero = none
-  firstFound f from (suc n) = firstSome (f from) (firstFound f (suc from) n)
-
-  -- a value that is found stands at one of them
-  found-somewhere : (f : ℕ → Option A) (from n : ℕ) (x : A) → firstFound f from n ≡ some x →
-      (k : ℕ) × (k < from + n) × (f k ≡ some x)
-  unfolding firstFound firstSome
-  found-somewhere f from zero x e = absurd (let z : _≡_ {A = ℕ} 0 1 = cc in omega arith)
-  found-somewhere f from (suc n) x e = go (f from) refl e (λ d. found-somewhere f (suc from) n x d)
-    where
-      go : (o : Option A) → f from ≡ o → firstSome o (firstFound f (suc from) n) ≡ some x →
-          (firstFound f (suc from) n ≡ some x → (k : ℕ) × (k < suc from + n) × (f k ≡ some x)) →
-          (k : ℕ) × (k < from + suc n) × (f k ≡ some x)
-      go none d e rest = let (k, b, h) = rest e in (k, omega arith, h)
-      go (some y) d e rest = (from, omega arith, d ∙ e)
-
-  -- where none is found, none stands at any of them
-  found-nowhere : (f : ℕ → Option A) (from n : ℕ) → firstFound f from n ≡ none →
-      (k : ℕ) → from ≤ k → k < from + n → f k ≡ none
-  unfolding firstFound firstSome
-  found-nowhere f from zero e k l b = absurd (omega arith)
-  found-nowhere f from (suc n) e k l b = go (f from) refl e (λ d. found-nowhere f (suc from) n d k)
-    where
-      go : (o : Option A) → f from ≡ o → firstSome o (firstFound f (suc from) n) ≡ none →
-          (firstFound f (suc from) n ≡ none → suc from ≤ k → k < suc from + n → f k ≡ none) → f k ≡ none
-      go none d e rest =
-          elim (ℕ-discrete from k) [ yes q ↦ rw (← q) d | no q ↦ rest e (omega arith) (omega arith) ]
-      go (some y) d e rest = absurd (let z : _≡_ {A = ℕ} 0 1 = cc in omega arith)
-
--- ---- the first accepted choice: at the lowest position, there kind 1 before kind 2, and of kind 2 at the lowest node
-
--- a choice with its answer, where it is accepted
-whereMoved : Entry → Answer → Option Entry
-whereMoved e (moved r g) = some e
-whereMoved e (refused n) = none
+pub positions-grow : (n : ℕ) → Growing (λ m. entriesBelow m n) (entriesAt n)
+unfolding entriesBelow
+positions-grow n = blocks-grow (entriesAt n)
 
 module _ (h : Configuration) where
-  ifAccepted : Entry → Option Entry
-  unfolding whereMoved
-  ifAccepted e = whereMoved e (answerTo h e)
+  -- at a position: kind 1, or else the first node
+  pub act-found : (n p : ℕ) → isAccepted h (act p) ≡ true → firstOf (isAccepted h) (entriesAt n p) ≡ some (act p)
+  unfolding entriesAt firstOf
+  act-found n p e = rw e refl
 
-  -- at a position
-  acceptedAt : ℕ → Option Entry
-  unfolding ifAccepted firstSome
-  acceptedAt p = firstSome (ifAccepted (act p)) (firstFound (λ k. ifAccepted (inside p k)) 0 256)
+  pub act-passed : (n p : ℕ) → isAccepted h (act p) ≡ false →
+      firstOf (isAccepted h) (entriesAt n p) ≡ firstOf (isAccepted h) (map (inside p) (countUp 0 n))
+  unfolding entriesAt firstOf
+  act-passed n p e = rw e refl
 
-  pub firstAccepted : Option Entry
-  unfolding acceptedAt
-  firstAccepted = firstFound acceptedAt 0 256
+  -- nothing in bytes is accepted at a position
+  record QuietAt (p : ℕ) : Type 0 where
+    outside : isAccepted h (act p) ≡ false
+    within : (k : ℕ) → k ≤ maxByte → isAccepted h (inside p k) ≡ false
 
-  -- what is found is accepted
-  found-moved : (e d : Entry) → ifAccepted e ≡ some d → (e ≡ d) × IsMoved (answerTo h e)
-  unfolding ifAccepted whereMoved
-  found-moved e d q = go (answerTo h e) q
+  none-at : (p : ℕ) → QuietAt p → firstOf (isAccepted h) (entriesAt (suc maxByte) p) ≡ none
+  none-at p q =
+      act-passed (suc maxByte) p (q .outside)
+      ∙ none-below (isAccepted h) (nodes-grow p) (suc maxByte)
+      (λ k l. fails-alone (isAccepted h) (inside p k) (q .within k (omega arith)))
+
+  quiet-at : (p : ℕ) → firstOf (isAccepted h) (entriesAt (suc maxByte) p) ≡ none → QuietAt p
+  quiet-at p e = go (isAccepted h (act p)) refl
     where
-      go : (a : Answer) → whereMoved e a ≡ some d → (e ≡ d) × IsMoved a
-      go (moved r g) q = (cc, tt)
-      go (refused n) q = absurd (let z : _≡_ {A = ℕ} 0 1 = cc in omega arith)
+      go : (b : Bool) → isAccepted h (act p) ≡ b → QuietAt p
+      go true z = absurd (let y = act-found (suc maxByte) p z in let z : _≡_ {A = ℕ} 0 1 = cc in omega arith)
+      go false z = record {
+        outside = z;
+        within =
+            λ k l. alone-fails (isAccepted h) (inside p k)
+            (none-in (isAccepted h) (nodes-grow p) (suc maxByte) (sym (act-passed (suc maxByte) p z) ∙ e) k (omega arith));
+      }
 
-  -- what is not is refused
-  missed-refused : (e : Entry) → ifAccepted e ≡ none → IsRefused (answerTo h e)
-  unfolding ifAccepted whereMoved
-  missed-refused e q = go (answerTo h e) q
+-- ---- it is the first
+
+-- an entry in bytes that is accepted, and none before it is
+record IsFirst (h : Configuration) (e : Entry) : Type 0 where
+  in-bytes : InBytes e
+  accepted : isAccepted h e ≡ true
+  none-before : (d : Entry) → InBytes d → Before d e → isAccepted h d ≡ false
+
+position-in-bytes : (d : Entry) → InBytes d → positionOf d ≤ maxByte
+unfolding InBytes
+position-in-bytes (act p) b = b
+position-in-bytes (inside p k) b = b .0
+
+module _ (h : Configuration) where
+  -- an entry at a quiet position
+  quiet-entry : (d : Entry) → InBytes d → QuietAt h (positionOf d) → isAccepted h d ≡ false
+  unfolding InBytes
+  quiet-entry (act p) b q = q .outside
+  quiet-entry (inside p k) b q = q .within k (b .1)
+
+  -- where every lower position is quiet, and every lower node, no entry before is accepted
+  refused-before : {d e : Entry} → Before d e → InBytes d → ((q : ℕ) → q < positionOf e → QuietAt h q) →
+      ((p j k : ℕ) → e ≡ inside p k → j < k → isAccepted h (inside p j) ≡ false) → isAccepted h d ≡ false
+  refused-before (lower-position {d} l) b quiet lower = quiet-entry d b (quiet (positionOf d) l)
+  refused-before (lower-node {p} {j} {k} l) b quiet lower = lower p j k refl l
+
+  -- what is found is the first
+  first-act : (p : ℕ) → p ≤ maxByte → ((q : ℕ) → q < p → QuietAt h q) → isAccepted h (act p) ≡ true →
+      IsFirst h (act p)
+  unfolding InBytes
+  first-act p l quiet z = record {
+    in-bytes = l;
+    accepted = z;
+    none-before = λ d b o. refused-before o b quiet (λ p j k e. absurd (let z : _≡_ {A = ℕ} 0 1 = cc in omega arith));
+  }
+
+  first-inside : (p k : ℕ) → p ≤ maxByte → k ≤ maxByte → ((q : ℕ) → q < p → QuietAt h q) →
+      isAccepted h (inside p k) ≡ true → ((j : ℕ) → j < k → isAccepted h (inside p j) ≡ false) → IsFirst h (inside p k)
+  unfolding InBytes
+  first-inside p k l m quiet z lower = record {
+    in-bytes = (l, m);
+    accepted = z;
+    none-before = λ d b o. refused-before o b quiet at-lower;
+  }
     where
-      go : (a : Answer) → whereMoved e a ≡ none → IsRefused a
-      go (moved r g) q = absurd (let z : _≡_ {A = ℕ} 0 1 = cc in omega arith)
-      go (refused n) q = tt
+      at-lower : (q j i : ℕ) → inside p k ≡ inside q i → j < i → isAccepted h (inside q j) ≡ false
+      at-lower q j i e b =
+          let y : p ≡ q = cc in let z : k ≡ i = cc in rw (← y) (lower j (omega arith))
 
-  -- a choice found at a position is accepted
-  accepted-at : (p : ℕ) (e : Entry) → p ≤ 255 → acceptedAt p ≡ some e → InBytes e × IsMoved (answerTo h e)
-  unfolding acceptedAt firstSome InBytes
-  accepted-at p e b q = go (ifAccepted (act p)) refl q
+  found-first : (e : Entry) → firstAccepted h ≡ some e → IsFirst h e
+  unfolding firstAccepted
+  found-first e q =
+      let (p, l, here, below) = found-in (isAccepted h) (positions-grow (suc maxByte)) (suc maxByte) e q in
+      go p l (λ i b. quiet-at h i (below i b)) (isAccepted h (act p)) refl here
     where
-      at-node : (k : ℕ) → k < 0 + 256 → ifAccepted (inside p k) ≡ some e → InBytes e × IsMoved (answerTo h e)
-      at-node k l f = let (d, m) = found-moved (inside p k) e f in rw (← d) ((b, omega arith), m)
+      go : (p : ℕ) → p < suc maxByte → ((q : ℕ) → q < p → QuietAt h q) → (b : Bool) → isAccepted h (act p) ≡ b →
+          firstOf (isAccepted h) (entriesAt (suc maxByte) p) ≡ some e → IsFirst h e
+      go p l quiet true z here =
+          let y = act-found h (suc maxByte) p z in let same : act p ≡ e = cc in rw (← same) (first-act p (omega arith) quiet z)
+      go p l quiet false z here =
+          let (k, m, there, lower) =
+          found-in (isAccepted h) (nodes-grow p) (suc maxByte) e (sym (act-passed h (suc maxByte) p z) ∙ here) in
+          let (a, same) = alone-passes (isAccepted h) (inside p k) there in
+          rw (← same) (first-inside p k (omega arith) (omega arith) quiet a (λ j b. alone-fails (isAccepted h) (inside p j) (lower j b)))
 
-      go : (o : Option Entry) → ifAccepted (act p) ≡ o →
-          firstSome o (firstFound (λ k. ifAccepted (inside p k)) 0 256) ≡ some e → InBytes e × IsMoved (answerTo h e)
-      go none w q = let (k, l, f) = found-somewhere (λ k. ifAccepted (inside p k)) 0 256 e q in at-node k l f
-      go (some d) w q = let (same, m) = found-moved (act p) e (w ∙ q) in rw (← same) (b, m)
+  -- and the first is found
+  quiet-below : (e : Entry) → IsFirst h e → (q : ℕ) → q < positionOf e → q ≤ maxByte → QuietAt h q
+  unfolding InBytes
+  quiet-below e f q l b = record {
+    outside = f .none-before (act q) b (lower-position l);
+    within = λ k m. f .none-before (inside q k) (b, m) (lower-position l);
+  }
 
-  -- where none is found there, none there is accepted
-  none-at : (p : ℕ) → acceptedAt p ≡ none →
-      (ifAccepted (act p) ≡ none) × ((k : ℕ) → k ≤ 255 → ifAccepted (inside p k) ≡ none)
-  unfolding acceptedAt firstSome
-  none-at p q = go (ifAccepted (act p)) refl q
-    where
-      go : (o : Option Entry) → ifAccepted (act p) ≡ o →
-          firstSome o (firstFound (λ k. ifAccepted (inside p k)) 0 256) ≡ none →
-          (ifAccepted (act p) ≡ none) × ((k : ℕ) → k ≤ 255 → ifAccepted (inside p k) ≡ none)
-      go none w q = (w, λ k b. found-nowhere (λ k. ifAccepted (inside p k)) 0 256 q k (omega arith) (omega arith))
-      go (some d) w q = absurd (let z : _≡_ {A = ℕ} 0 1 = cc in omega arith)
-
-  -- where none is found at all, every choice is refused
-  none-anywhere : firstAccepted ≡ none → (e : Entry) → InBytes e → IsRefused (answerTo h e)
+  first-found : (e : Entry) → IsFirst h e → firstAccepted h ≡ some e
   unfolding firstAccepted InBytes
-  none-anywhere q e b = at e b
+  first-found (act p) f =
+      first-block (isAccepted h) (positions-grow (suc maxByte)) (suc maxByte) p (act p) (let b = f .in-bytes in omega arith)
+      (λ q l. none-at h q (quiet-below (act p) f q l (let b = f .in-bytes in omega arith)))
+      (act-found h (suc maxByte) p (f .accepted))
+  first-found (inside p k) f =
+      first-block (isAccepted h) (positions-grow (suc maxByte)) (suc maxByte) p (inside p k)
+      (let b = f .in-bytes .0 in omega arith)
+      (λ q l. none-at h q (quiet-below (inside p k) f q l (let b = f .in-bytes .0 in omega arith)))
+      (act-passed h (suc maxByte) p (go (isAccepted h (act p)) refl)
+      ∙ first-block (isAccepted h) (nodes-grow p) (suc maxByte) k (inside p k) (let b = f .in-bytes .1 in omega arith)
+      (λ j l. fails-alone (isAccepted h) (inside p j)
+      (f .none-before (inside p j) (f .in-bytes .0, let b = f .in-bytes .1 in omega arith) (lower-node l)))
+      (passes-alone (isAccepted h) (inside p k) (f .accepted)))
     where
-      position : (p : ℕ) → p ≤ 255 → acceptedAt p ≡ none
-      position p b = found-nowhere acceptedAt 0 256 q p (omega arith) (omega arith)
+      go : (b : Bool) → isAccepted h (act p) ≡ b → isAccepted h (act p) ≡ false
+      go true z = absurd (not-both (f .accepted) (act-excludes h p k z))
+      go false z = z
 
-      at : (e : Entry) → InBytes e → IsRefused (answerTo h e)
-      at (act p) b = missed-refused (act p) (none-at p (position p b) .0)
-      at (inside p k) b = missed-refused (inside p k) (none-at p (position p (b .0)) .1 k (b .1))
+  -- none is found exactly where none is accepted
+  none-quiescent : firstAccepted h ≡ none → Quiescent h
+  unfolding firstAccepted Quiescent
+  none-quiescent q d b =
+      let c = position-in-bytes d b in
+      let none-there = none-in (isAccepted h) (positions-grow (suc maxByte)) (suc maxByte) q (positionOf d) (omega arith) in
+      quiet-entry d b (quiet-at h (positionOf d) none-there)
 
--- the answer that names it, as printed on a hall that is admitted
-unfoldable pub firstAnswer : Option Entry → SuggestAnswer
-firstAnswer none = still
-firstAnswer (some e) = suggested e
+  quiescent-none : Quiescent h → firstAccepted h ≡ none
+  unfolding firstAccepted Quiescent InBytes
+  quiescent-none q =
+      none-below (isAccepted h) (positions-grow (suc maxByte)) (suc maxByte)
+      (λ p l. none-at h p (record {
+        outside = q (act p) (omega arith);
+        within = λ k m. q (inside p k) (omega arith, m);
+      }))
 
-pub first-printed : (table hall : List ℕ) (t : Table) (h : Configuration) → admission table hall ≡ admitted t h →
-    AnswerAsStated table hall (firstAnswer (firstAccepted h))
-unfolding firstAnswer firstAccepted
-first-printed table hall t h e = go (firstAccepted h) refl
-  where
-    go : (o : Option Entry) → firstAccepted h ≡ o → AnswerAsStated table hall (firstAnswer o)
-    go none q = still-printed table hall e (none-anywhere h q)
-    go (some d) q =
-        let (p, l, f) = found-somewhere (acceptedAt h) 0 256 d q in
-        choice-printed table hall e d (accepted-at h p d (omega arith) f)
+-- ---- in either order
 
--- so there always is an answer
-pub suggestion-exists : SuggestionExists
-unfolding SuggestionExists
-suggestion-exists table hall = go (admission table hall) refl
-  where
-    go : (a : Admission) → admission table hall ≡ a → (x : SuggestAnswer) × SuggestAllowed table hall x
-    go (admitted t h) e = (firstAnswer (firstAccepted h), printed-allowed table hall (first-printed table hall t h e))
-    go (notAdmitted n p) e = (notSuggested n p, printed-allowed table hall (not-admitted e))
+module _ (h : Configuration) where
+  -- at a position, kind 1 before kind 2 and behind it
+  position-either : (n p : ℕ) → firstOf (isAccepted h) (entriesAt n p)
+      ≡ firstOf (isAccepted h) (map (inside p) (countUp 0 n) ++ (act p ∷ []))
+  unfolding firstSome
+  position-either n p = go (isAccepted h (act p)) refl
+    where
+      whole : firstOf (isAccepted h) (map (inside p) (countUp 0 n) ++ (act p ∷ []))
+          ≡ firstSome (firstOf (isAccepted h) (map (inside p) (countUp 0 n))) (firstOf (isAccepted h) (act p ∷ []))
+      whole = first-of-both (isAccepted h) (map (inside p) (countUp 0 n)) (act p ∷ [])
+
+      go : (b : Bool) → isAccepted h (act p) ≡ b →
+          firstOf (isAccepted h) (entriesAt n p) ≡ firstOf (isAccepted h) (map (inside p) (countUp 0 n) ++ (act p ∷ []))
+      go true z =
+          let none-inside = none-below (isAccepted h) (nodes-grow p) n (λ k l. fails-alone (isAccepted h) (inside p k) (act-excludes h p k z)) in
+          act-found h n p z ∙ sym (whole ∙ rw (none-inside, passes-alone (isAccepted h) (act p) z) refl)
+      go false z =
+          act-passed h n p z
+          ∙ sym (whole ∙ rw (fails-alone (isAccepted h) (act p) z) (first-alone (firstOf (isAccepted h) (map (inside p) (countUp 0 n)))))
+
+-- blocks with the same first have the same first together
+same-first : {A : Type 0} (passes : A → Bool) (f g : ℕ → List A) → ((n : ℕ) → firstOf passes (f n) ≡ firstOf passes (g n)) →
+    (ns : List ℕ) → firstOf passes (flatten (map f ns)) ≡ firstOf passes (flatten (map g ns))
+unfolding flatten
+same-first passes f g e [] = refl
+same-first passes f g e (n ∷ ns) =
+    first-of-both passes (f n) (flatten (map f ns))
+    ∙ ap₂ firstSome (e n) (same-first passes f g e ns)
+    ∙ sym (first-of-both passes (g n) (flatten (map g ns)))
+
+pub kinds-in-either-order : KindsInEitherOrder
+unfolding KindsInEitherOrder firstAccepted entriesBelow
+kinds-in-either-order h =
+    same-first (isAccepted h) (entriesAt (suc maxByte)) (λ p. map (inside p) (countUp 0 (suc maxByte)) ++ (act p ∷ []))
+    (position-either h (suc maxByte)) (countUp 0 (suc maxByte))
 
 -- ---- what runs
 
--- a run whose first choice is refused does nothing
-stops-at-once : (a : Answer) (stopped : ℕ → RunAnswer) (next : Rule → Configuration → RunAnswer) →
-    ((n : ℕ) → (stopped n) .done ≡ 0) → IsRefused a → (continueRun a stopped next) .done ≡ 0
-unfolding continueRun
-stops-at-once (moved r g) stopped next z m = absurd m
-stops-at-once (refused n) stopped next z m = z n
-
--- a run of one choice does one exactly where it is accepted
-does-one : (a : Answer) (stopped : ℕ → RunAnswer) (next : Rule → Configuration → RunAnswer) →
-    ((n : ℕ) → (stopped n) .done ≡ 0) → ((r : Rule) (g : Configuration) → (next r g) .done ≡ 1) →
-    IsMoved a ↔ ((continueRun a stopped next) .done ≡ 1)
-unfolding continueRun
-does-one (moved r g) stopped next z o = (λ m. o r g, λ e. tt)
-does-one (refused n) stopped next z o = (λ m. absurd m, λ e. absurd (let y = z n in omega arith))
-
 module _ (h : Configuration) (c : Counters) where
+  -- a run of one choice does one exactly where it is accepted
+  answer-done : (a : Answer) (stopped : ℕ → RunAnswer) (next : Rule → Configuration → RunAnswer) →
+      ((n : ℕ) → (stopped n) .done ≡ 0) → ((r : Rule) (g : Configuration) → (next r g) .done ≡ 1) →
+      (continueRun a stopped next) .done ≡ cond (isMoved a) 1 0
+  unfolding continueRun isMoved
+  answer-done (moved r g) stopped next z o = o r g
+  answer-done (refused n) stopped next z o = z n
+
   -- so for the bytes of a choice
-  single-done : (e : Entry) → IsMoved (answerTo h e) ↔ ((run h c (entryBytes e)) .done ≡ 1)
-  unfolding run runFrom schedule entryBytes
-  single-done (act p) = does-one (answerTo h (act p)) _ _ (λ n. refl) (λ r g. refl)
-  single-done (inside p k) = does-one (answerTo h (inside p k)) _ _ (λ n. refl) (λ r g. refl)
+  entry-done : (e : Entry) → (run h c (entryBytes e)) .done ≡ cond (isAccepted h e) 1 0
+  unfolding run runFrom schedule entryBytes isAccepted
+  entry-done (act p) = answer-done (answerTo h (act p)) _ _ (λ n. refl) (λ r g. refl)
+  entry-done (inside p k) = answer-done (answerTo h (inside p k)) _ _ (λ n. refl) (λ r g. refl)
+
+  -- a run whose first choice is refused does nothing
+  stops-at-once : (a : Answer) (stopped : ℕ → RunAnswer) (next : Rule → Configuration → RunAnswer) →
+      ((n : ℕ) → (stopped n) .done ≡ 0) → isMoved a ≡ false → (continueRun a stopped next) .done ≡ 0
+  unfolding continueRun isMoved
+  stops-at-once (moved r g) stopped next z m = absurd (false≢true (sym m))
+  stops-at-once (refused n) stopped next z m = z n
 
   -- where no choice in bytes is accepted, bytes do nothing
-  nothing-done : ((e : Entry) → InBytes e → IsRefused (answerTo h e)) → (bs : List ℕ) → Bytes bs → (run h c bs) .done ≡ 0
-  unfolding run runFrom schedule InBytes
+  nothing-done : Quiescent h → (bs : List ℕ) → Bytes bs → (run h c bs) .done ≡ 0
+  unfolding run runFrom schedule Quiescent InBytes isAccepted
   nothing-done q [] b = refl
   nothing-done q (zero ∷ bs) b = refl
   nothing-done q (suc zero ∷ []) b = refl
@@ -258,21 +286,206 @@ module _ (h : Configuration) (c : Counters) where
       stops-at-once (answerTo h (inside p k)) _ _ (λ n. refl) (q (inside p k) (b .1 .0, b .1 .1 .0))
   nothing-done q (suc (suc (suc n)) ∷ bs) b = refl
 
--- a choice that may be suggested is one that runs
-pub suggested-runs : SuggestedRuns
-unfolding SuggestedRuns SuggestAllowed SuggestAdmitted Suggestable runCall runAdmitted runResult
-suggested-runs table l e = go (admission table (l .hall))
-  where
-    go : (a : Admission) → SuggestAdmitted a (suggested e) ↔ (InBytes e × ((runAdmitted l (entryBytes e) a) .done ≡ 1))
-    go (admitted t h) =
-        let d = single-done h (l .counters) e in (λ s. (s .0, d .0 (s .1)), λ s. (s .0, d .1 (s .1)))
-    go (notAdmitted n p) = (λ s. absurd s, λ s. let z = s .1 in absurd (omega arith))
+-- ---- the call
 
--- where still may be said nothing runs
-pub still-runs-none : StillRunsNone
-unfolding StillRunsNone SuggestAllowed SuggestAdmitted Suggestable Quiescent runCall runAdmitted runResult
-still-runs-none table l s choices b = go (admission table (l .hall)) s
+-- what is found, told by the answer
+suggest-some : (o : Option Entry) (e : Entry) → suggestFound o ≡ suggested e → o ≡ some e
+unfolding suggestFound
+suggest-some none e q = absurd (let z : _≡_ {A = ℕ} 0 1 = cc in omega arith)
+suggest-some (some d) e q = cc
+
+suggest-none : (o : Option Entry) → suggestFound o ≡ still → o ≡ none
+unfolding suggestFound
+suggest-none none q = refl
+suggest-none (some d) q = absurd (let z : _≡_ {A = ℕ} 0 1 = cc in omega arith)
+
+found-admitted : (o : Option Entry) {n p : ℕ} → suggestFound o ≡ notSuggested n p → ⊥
+unfolding suggestFound
+found-admitted none e = let x : _≡_ {A = ℕ} 0 1 = cc in omega arith
+found-admitted (some d) e = let x : _≡_ {A = ℕ} 0 1 = cc in omega arith
+
+module _ (table hall : List ℕ) where
+  pub admitted-suggests : (t : Table) (h : Configuration) → admission table hall ≡ admitted t h →
+      suggestCall table hall ≡ suggestFound (firstAccepted h)
+  unfolding suggestCall suggestAdmitted
+  admitted-suggests t h z = ap suggestAdmitted z
+
+  pub refused-suggests : (n p : ℕ) → admission table hall ≡ notAdmitted n p → suggestCall table hall ≡ notSuggested n p
+  unfolding suggestCall suggestAdmitted
+  refused-suggests n p z = ap suggestAdmitted z
+
+-- what a run of one choice does
+accepted-done : (b : Bool) (n : ℕ) → n ≡ cond b 1 0 → (b ≡ true) ↔ (n ≡ 1)
+accepted-done true n e = (λ _. e, λ _. refl)
+accepted-done false n e = (λ z. absurd (false≢true z), λ z. absurd (omega arith))
+
+refused-done : (b : Bool) (n : ℕ) → n ≡ cond b 1 0 → (b ≡ false) ↔ (n ≡ 0)
+refused-done true n e = (λ z. absurd (false≢true (sym z)), λ z. absurd (omega arith))
+refused-done false n e = (λ _. e, λ _. refl)
+
+module _ (table : List ℕ) (l : Buffers) where
+  call-done : (t : Table) (h : Configuration) → admission table (l .hall) ≡ admitted t h → (e : Entry) →
+      (runCall table l (entryBytes e)) .done ≡ cond (isAccepted h e) 1 0
+  unfolding runCall runAdmitted runResult
+  call-done t h z e = rw z (entry-done h (l .counters) e)
+
+  call-refused : (n p : ℕ) → admission table (l .hall) ≡ notAdmitted n p → (choices : List ℕ) →
+      (runCall table l choices) .done ≡ 0
+  unfolding runCall runAdmitted
+  call-refused n p z choices = rw z refl
+
+  first-done : (t : Table) (h : Configuration) → admission table (l .hall) ≡ admitted t h → (e : Entry) →
+      IsFirst h e ↔ FirstDone table l e
+  first-done t h z e = (
+    λ f. record {
+      in-bytes = f .in-bytes;
+      done = accepted-done _ _ (call-done t h z e) .0 (f .accepted);
+      none-before = λ d b o. refused-done _ _ (call-done t h z d) .0 (f .none-before d b o);
+    },
+    λ f. record {
+      in-bytes = f .in-bytes;
+      accepted = accepted-done _ _ (call-done t h z e) .1 (f .done);
+      none-before = λ d b o. refused-done _ _ (call-done t h z d) .1 (f .none-before d b o);
+    },
+  )
+
+pub suggested-is-first : SuggestedIsFirst
+unfolding SuggestedIsFirst suggestFound
+suggested-is-first table l e = go (admission table (l .hall)) refl
   where
-    go : (a : Admission) → SuggestAdmitted a still → (runAdmitted l choices a) .done ≡ 0
-    go (admitted t h) s = nothing-done h (l .counters) s choices b
-    go (notAdmitted n p) s = absurd s
+    go : (a : Admission) → admission table (l .hall) ≡ a → (suggestCall table (l .hall) ≡ suggested e) ↔ FirstDone table l e
+    go (admitted t h) z =
+        let call = admitted-suggests table (l .hall) t h z in
+        let done = first-done table l t h z e in (
+          λ q. done .0 (found-first h e (suggest-some (firstAccepted h) e (sym call ∙ q))),
+          λ f. call ∙ ap suggestFound (first-found h e (done .1 f)),
+        )
+    go (notAdmitted n p) z = (
+      λ q. absurd (let y = refused-suggests table (l .hall) n p z in let x : _≡_ {A = ℕ} 0 1 = cc in omega arith),
+      λ f. absurd (let y = call-refused table l n p z (entryBytes e) in let x = f .done in omega arith),
+    )
+
+pub still-is-quiescent : StillIsQuiescent
+unfolding StillIsQuiescent suggestFound
+still-is-quiescent table hall = go (admission table hall) refl
+  where
+    go : (a : Admission) → admission table hall ≡ a → (suggestCall table hall ≡ still) ↔
+        ((t : Table) × (h : Configuration) × (admission table hall ≡ admitted t h) × Quiescent h)
+    go (admitted t h) z =
+        let call = admitted-suggests table hall t h z in (
+          λ q. (t, h, z, none-quiescent h (suggest-none (firstAccepted h) (sym call ∙ q))),
+          λ (t′, h′, z′, q). admitted-suggests table hall t′ h′ z′ ∙ ap suggestFound (quiescent-none h′ q),
+        )
+    go (notAdmitted n p) z = (
+      λ q. absurd (let y = refused-suggests table hall n p z in let x : _≡_ {A = ℕ} 0 1 = cc in omega arith),
+      λ (t, h, z′, q). admitted-suggests table hall t h z′ ∙ ap suggestFound (quiescent-none h q),
+    )
+
+pub still-runs-none : StillRunsNone
+unfolding StillRunsNone StillIsQuiescent runCall runAdmitted runResult
+still-runs-none table l s choices b =
+    let (t, h, z, q) = still-is-quiescent table (l .hall) .0 s in
+    rw z (nothing-done h (l .counters) q choices b)
+
+pub suggestion-refused : SuggestionRefused
+unfolding SuggestionRefused suggestFound checkHall admissionVerdict
+suggestion-refused table hall n p = go (admission table hall) refl
+  where
+    go : (a : Admission) → admission table hall ≡ a →
+        (suggestCall table hall ≡ notSuggested n p) ↔ (admissionVerdict a ≡ rejected n p)
+    go (admitted t h) z = (
+      λ e. absurd (found-admitted (firstAccepted h) (sym (admitted-suggests table hall t h z) ∙ e)),
+      λ e. absurd (let x : _≡_ {A = ℕ} 0 1 = cc in omega arith),
+    )
+    go (notAdmitted m q) z = let call = refused-suggests table hall m q z in (λ e. cc, λ e. cc)
+
+-- ---- as stated
+
+-- a choice that is never accepted is refused, and one that is accepted moves
+never-moved : (a : Answer) → ((r : Rule) (g : Configuration) → a ≡ moved r g → ⊥) ↔ (isMoved a ≡ false)
+unfolding isMoved
+never-moved (moved r g) = (λ m. absurd (m r g refl), λ e. absurd (false≢true (sym e)))
+never-moved (refused n) = (λ m. refl, λ e r g q. let z : _≡_ {A = ℕ} 0 1 = cc in omega arith)
+
+module _ (h : Configuration) where
+  moves-accepted : (e : Entry) {r : Rule} {g : Configuration} → answerTo h e ≡ moved r g → isAccepted h e ≡ true
+  unfolding isAccepted isMoved
+  moves-accepted e q = ap isMoved q
+
+  accepted-moves : (e : Entry) → isAccepted h e ≡ true → (r : Rule) × (g : Configuration) × (answerTo h e ≡ moved r g)
+  unfolding isAccepted isMoved
+  accepted-moves e m = go (answerTo h e) refl m
+    where
+      go : (a : Answer) → answerTo h e ≡ a → isMoved a ≡ true → (r : Rule) × (g : Configuration) × (answerTo h e ≡ moved r g)
+      go (moved r g) q m = (r, g, q)
+      go (refused n) q m = absurd (false≢true m)
+
+  quiet-stated : (p : ℕ) → NoneAt h p ↔ QuietAt h p
+  unfolding isAccepted
+  quiet-stated p = (
+    λ n. record {
+      outside = never-moved (answerTo h (act p)) .0 (n .no-act);
+      within = λ k l. never-moved (answerTo h (inside p k)) .0 (n .no-inside k l);
+    },
+    λ q. record {
+      no-act = never-moved (answerTo h (act p)) .1 (q .outside);
+      no-inside = λ k l. never-moved (answerTo h (inside p k)) .1 (q .within k l);
+    },
+  )
+
+module _ (table hall : List ℕ) where
+  -- the first is suggested, as stated
+  first-stated : (t : Table) (h : Configuration) → admission table hall ≡ admitted t h → (e : Entry) → IsFirst h e →
+      AnswerAsStated table hall (suggested e)
+  unfolding InBytes isAccepted
+  first-stated t h z (act p) f =
+      let b = f .in-bytes in
+      let (r, g, q) = accepted-moves h (act p) (f .accepted) in
+      act-first z b q (λ i l. quiet-stated h i .1 (quiet-below h (act p) f i l (omega arith)))
+  first-stated t h z (inside p k) f =
+      let (b, c) = f .in-bytes in
+      let (r, g, q) = accepted-moves h (inside p k) (f .accepted) in
+      inside-first z b c q (λ i l. quiet-stated h i .1 (quiet-below h (inside p k) f i l (omega arith)))
+      (λ j l. never-moved (answerTo h (inside p j)) .1 (f .none-before (inside p j) (b, omega arith) (lower-node l)))
+
+  found-stated : (t : Table) (h : Configuration) → admission table hall ≡ admitted t h → (o : Option Entry) →
+      firstAccepted h ≡ o → AnswerAsStated table hall (suggestFound o)
+  unfolding suggestFound Quiescent InBytes
+  found-stated t h z none q =
+      let s = none-quiescent h q in
+      none-accepted z (λ p b. quiet-stated h p .1 (record {
+        outside = s (act p) b;
+        within = λ k l. s (inside p k) (b, l);
+      }))
+  found-stated t h z (some e) q = first-stated t h z e (found-first h e q)
+
+  call-stated : AnswerAsStated table hall (suggestCall table hall)
+  call-stated = go (admission table hall) refl
+    where
+      go : (a : Admission) → admission table hall ≡ a → AnswerAsStated table hall (suggestCall table hall)
+      go (admitted t h) z =
+          subst (AnswerAsStated table hall) (sym (admitted-suggests table hall t h z)) (found-stated t h z (firstAccepted h) refl)
+      go (notAdmitted n p) z =
+          subst (AnswerAsStated table hall) (sym (refused-suggests table hall n p z)) (not-admitted z)
+
+  -- and nothing else is
+  stated-call : {a : SuggestAnswer} → AnswerAsStated table hall a → suggestCall table hall ≡ a
+  unfolding suggestFound isAccepted Quiescent
+  stated-call (act-first {t} {h} {p = p} z b q below) =
+      admitted-suggests table hall t h z
+      ∙ ap suggestFound (first-found h (act p)
+      (first-act h p b (λ i l. quiet-stated h i .0 (below i l)) (moves-accepted h (act p) q)))
+  stated-call (inside-first {t} {h} {p = p} {k} z b c q below lower) =
+      admitted-suggests table hall t h z
+      ∙ ap suggestFound (first-found h (inside p k)
+      (first-inside h p k b c (λ i l. quiet-stated h i .0 (below i l))
+      (moves-accepted h (inside p k) q) (λ j l. never-moved (answerTo h (inside p j)) .0 (lower j l))))
+  stated-call (none-accepted {t} {h} z below) =
+      admitted-suggests table hall t h z
+      ∙ ap suggestFound (quiescent-none h (λ d b. quiet-entry h d b (quiet-stated h (positionOf d) .0 (below (positionOf d) (position-in-bytes d b)))))
+  stated-call (not-admitted {n} {p} z) = refused-suggests table hall n p z
+
+pub suggestion-as-stated : SuggestionAsStated
+unfolding SuggestionAsStated
+suggestion-as-stated table hall a =
+    (λ q. subst (AnswerAsStated table hall) q (call-stated table hall), stated-call table hall)

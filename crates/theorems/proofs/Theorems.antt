@@ -5,8 +5,8 @@ use Rattle.semantics.specs.Claims.Accounts.{RunAccounts, CallsAccounts}
 use Rattle.semantics.specs.Checks.ConverseSteps.{StartIsOpening, ConverseStepsAreMoves, ReadableBlocksCommit, ConverseStepsGoOn}
 use Rattle.semantics.specs.Claims.InnerMoves.{MovesLowerWeight, MovesGoOn, SettledHasNoRule, MovesSettleFirstPath, OneOutcome}
 use Rattle.semantics.specs.Checks.StatedMoves.{OpensAsStated, MovesAsStated, MovesWorked}
-use Rattle.semantics.specs.Checks.StatedSuggestions.{AllowedAsStated}
-use Rattle.semantics.specs.Claims.Suggestions.{SuggestionExists, SuggestedRuns, StillRunsNone}
+use Rattle.semantics.specs.Checks.StatedSuggestions.{SuggestionAsStated}
+use Rattle.semantics.specs.Claims.Suggestions.{SuggestedIsFirst, KindsApart, KindsInEitherOrder, StillIsQuiescent, StillRunsNone, SuggestionRefused}
 use Rattle.semantics.specs.Claims.Atomicity.{AtomicityOfCalls, initialBuffers, finalBuffers, allDone, doneWithoutAborted, atomic}
 use Rattle.semantics.specs.Checks.Conditions.{ReadAsStated, TableNumbers, MissingAtLength, HallNumbers, CheckNumbers, OpenNumbers, RefusalNumbers, ChoiceNumbers, RunNumbers, OneReason, RunCallNumbers, RunCallZero}
 use Rattle.semantics.specs.Checks.Answers.{AnswersReported, AnswersDiffer, ZeroIsAccepted}
@@ -96,17 +96,26 @@ still-is-still = Any.still-is-still
 
 -- ---- suggestions
 
-pub allowed-as-stated : AllowedAsStated
-allowed-as-stated = Suggesting.allowed-as-stated
+pub suggested-is-first : SuggestedIsFirst
+suggested-is-first = Suggesting.suggested-is-first
 
-pub suggestion-exists : SuggestionExists
-suggestion-exists = Suggesting.suggestion-exists
+pub kinds-apart : KindsApart
+kinds-apart = Suggesting.kinds-apart
 
-pub suggested-runs : SuggestedRuns
-suggested-runs = Suggesting.suggested-runs
+pub kinds-in-either-order : KindsInEitherOrder
+kinds-in-either-order = Suggesting.kinds-in-either-order
+
+pub suggestion-as-stated : SuggestionAsStated
+suggestion-as-stated = Suggesting.suggestion-as-stated
+
+pub still-is-quiescent : StillIsQuiescent
+still-is-quiescent = Suggesting.still-is-quiescent
 
 pub still-runs-none : StillRunsNone
 still-runs-none = Suggesting.still-runs-none
+
+pub suggestion-refused : SuggestionRefused
+suggestion-refused = Suggesting.suggestion-refused
 
 pub answers-differ : AnswersDiffer
 answers-differ = Telling.answers-differ

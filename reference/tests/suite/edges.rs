@@ -19,16 +19,19 @@ fn numbers(text: &str, letter: &str) -> Option<Vec<usize>> {
     Some(line.split_whitespace().map(number).collect())
 }
 
-/// The numbers that follow these words in a name, `at` between them or not.
+/// The numbers that follow these words in a name, `at` and `node` between them
+/// or not.
 fn said(name: &str, words: &str) -> Option<Vec<usize>> {
     let rest = name.rsplit_once(words)?.1;
-    let words = rest.split_whitespace().filter(|word| *word != "at");
+    let between = |word: &&str| *word == "at" || *word == "node";
+    let words = rest.split_whitespace().filter(|word| !between(word));
     let number = |word: &str| word.trim_end_matches(',').parse().ok();
     Some(words.map_while(number).collect())
 }
 
 /// What an edge claims by its name and what it gives: the refusal with its
-/// place, the rule of the first choice, and the tally of the run.
+/// place, the rule of the first choice, the tally of the run, and what is
+/// suggested for the hall that the run left.
 struct Edge {
     name: String,
     stored: bool,
@@ -70,7 +73,47 @@ fn as_said(edge: &Edge) -> bool {
         Some(tally) => numbers(&edge.text, "C ") == Some(tally),
         None => true,
     };
-    refused && by_rule && tally
+    refused && by_rule && tally && suggestion_as_said(edge)
+}
+
+/// Whether the line on a suggestion is what the name says. Every call on a
+/// stored hall has that line, and no printed run has it.
+fn suggestion_as_said(edge: &Edge) -> bool {
+    let expected = suggestion_said(&edge.name);
+    if expected.is_none() && edge.name.contains("suggest") {
+        // Words that nothing could be held to.
+        return false;
+    }
+    let Some(line) = numbers(&edge.text, "S ") else {
+        return !edge.stored && expected.is_none();
+    };
+    if line.len() != 5 {
+        return false;
+    }
+    let refusal = match said(&edge.name, "refused ") {
+        // What is refused for its table or its hall suggests nothing either.
+        Some(refusal) if refusal.first() <= Some(&11) => refusal,
+        _ => vec![0, 0],
+    };
+    let as_expected = match expected {
+        Some(choice) => line[2..] == choice,
+        None => true,
+    };
+    let nothing_if_refused = line[0] == 0 || line[2..] == [0, 0, 0];
+    line[..2] == refusal && nothing_if_refused && as_expected
+}
+
+/// What is suggested by the words of a name: kind, position and node. All are 0
+/// for a hall that is still; kind 1 has no node, and its name says none.
+fn suggestion_said(name: &str) -> Option<Vec<usize>> {
+    if name.contains("is still") || name.contains("nothing is suggested") {
+        return Some(vec![0, 0, 0]);
+    }
+    let mut choice = said(name, "suggested, kind ")?;
+    if choice.first() == Some(&1) {
+        choice.push(0);
+    }
+    Some(choice)
 }
 
 #[test]
@@ -109,23 +152,136 @@ fn every_refusal_and_every_rule_is_there() {
     assert!(rules.iter().all(|times| *times > 0), "{rules:?}");
 }
 
+/// Names say a suggestion of either kind, of nodes above 0, of positions above
+/// 0, and that there is none.
+#[test]
+fn every_sort_of_suggestion_is_named() {
+    let edges = edges();
+    let named: Vec<Vec<usize>> = edges
+        .iter()
+        .filter_map(|edge| suggestion_said(&edge.name))
+        .collect();
+    let times = |sort: fn(&[usize]) -> bool| named.iter().filter(|choice| sort(choice)).count();
+    assert!(times(|choice| choice[0] == 0) >= 3, "{named:?}");
+    assert!(times(|choice| choice[0] == 1) >= 3, "{named:?}");
+    assert!(times(|choice| choice[0] == 2) >= 3, "{named:?}");
+    assert!(times(|choice| choice[1] > 0) >= 2, "{named:?}");
+    assert!(times(|choice| choice[2] > 0) >= 2, "{named:?}");
+}
+
+/// Whether an edge is noticed to give something else than its name says.
+fn wrong(name: &str, text: &str, stored: bool) -> bool {
+    let (name, text) = (name.to_string(), text.to_string());
+    !as_said(&Edge { name, stored, text })
+}
+
 #[test]
 fn a_wrong_name_is_noticed() {
-    let wrong = |name: &str, text: &str, stored| {
-        let (name, text) = (name.to_string(), text.to_string());
-        !as_said(&Edge { name, stored, text })
-    };
     assert!(wrong("refused 4 at 1", "R 4 0 0\n", false));
     assert!(wrong("refused 4 at 1", "R 5 1 0\n", false));
     assert!(!wrong("refused 4 at 1", "R 4 1 0\n", false));
     assert!(wrong("accepted", "R 4 1 0\n", false));
     assert!(wrong("this is long", "R 0 0 0\n", false));
-    assert!(wrong("by rule 3", "M 0 2 2\nR 0 2 1\n", true));
+    let stored = |name: &str, text: &str| wrong(name, &format!("{text}S 0 0 1 0 0\n"), true);
+    assert!(stored("by rule 3", "M 0 2 2\nR 0 2 1\n"));
     assert!(wrong("by rule 3", "R 0 2 1\n", false));
-    assert!(!wrong("by rule 3", "M 0 2 3\nR 0 2 1\n", true));
-    assert!(wrong("tally 1 0 2", "R 0 2 1\nC 1 0 3\n", true));
-    assert!(wrong("tally 1 0 2", "R 0 2 1\n", true));
-    assert!(!wrong("tally 1 0 2", "R 0 2 1\nC 1 0 2\n", true));
+    assert!(!stored("by rule 3", "M 0 2 3\nR 0 2 1\n"));
+    assert!(stored("tally 1 0 2", "R 0 2 1\nC 1 0 3\n"));
+    assert!(stored("tally 1 0 2", "R 0 2 1\n"));
+    assert!(!stored("tally 1 0 2", "R 0 2 1\nC 1 0 2\n"));
+}
+
+#[test]
+fn a_wrong_name_of_a_suggestion_is_noticed() {
+    let stored = |name: &str, suggestion: &str| {
+        let text = match said(name, "refused ") {
+            Some(refusal) => format!("R {} {} 0\n{suggestion}", refusal[0], refusal[1]),
+            None => format!("R 0 0 0\n{suggestion}"),
+        };
+        wrong(name, &text, true)
+    };
+    let first = "the first is suggested, kind 1 at 3";
+    assert!(!stored(first, "S 0 0 1 3 0\n"));
+    for other in [
+        "S 0 0 1 2 0\n",
+        "S 0 0 2 3 0\n",
+        "S 0 0 1 3 1\n",
+        "S 0 0 0 0 0\n",
+        "S 11 0 1 3 0\n",
+        "S 0 1 1 3 0\n",
+        "S 0 0 1 3\n",
+        "S 0 0 1 3 0 0\n",
+        "S 1\n",
+        "",
+    ] {
+        assert!(stored(first, other), "{other}");
+    }
+    let lower = "the lower node is suggested, kind 2 at 3, node 1";
+    assert!(!stored(lower, "S 0 0 2 3 1\n"));
+    assert!(stored(lower, "S 0 0 2 3 2\n"));
+    assert!(stored(lower, "S 0 0 2 1 3\n"));
+    assert!(stored(lower, "S 0 0 1 3 1\n"));
+    // The name lacks the node, or gives one to kind 1, or says nothing clear.
+    assert!(stored("it is suggested, kind 2 at 3", "S 0 0 2 3 0\n"));
+    assert!(stored(
+        "it is suggested, kind 1 at 3, node 0",
+        "S 0 0 1 3 0\n"
+    ));
+    assert!(stored("the first is suggested", "S 0 0 1 0 0\n"));
+    for still in ["the hall is still", "is still, refused 19 at 0"] {
+        assert!(!stored(still, "S 0 0 0 0 0\n"));
+        assert!(stored(still, "S 0 0 1 0 0\n"));
+        assert!(stored(still, "S 19 0 0 0 0\n"));
+        assert!(stored(still, "S 0\n"));
+        assert!(stored(still, ""));
+    }
+    for refused in ["refused 9 at 3", "nothing is suggested, refused 9 at 3"] {
+        assert!(!stored(refused, "S 9 3 0 0 0\n"));
+        assert!(stored(refused, "S 9 0 0 0 0\n"));
+        assert!(stored(refused, "S 0 0 0 0 0\n"));
+        assert!(stored(refused, "S 9 3 1 0 0\n"));
+        assert!(stored(refused, "S 0 9 3\n"));
+        assert!(stored(refused, ""));
+    }
+    // Whatever is suggested, the line is there and has its form.
+    assert!(!stored("refused 14 at 0", "S 0 0 2 0 1\n"));
+    assert!(stored("refused 14 at 0", "S 14 0 0 0 0\n"));
+    assert!(stored("accepted", "S 0\n"));
+    // A printed run has no such line.
+    assert!(wrong("the hall is still", "R 0 0 0\n", false));
+    assert!(wrong(first, "R 0 0 0\n", false));
+}
+
+/// The line on a suggestion: refused tables and halls, a hall that is still,
+/// both kinds. It is about the hall that the run left.
+#[test]
+fn the_line_on_a_suggestion() {
+    let table = "7 10 1 0 10 0 1 11 2 1 6 3 1 3 0 5 13 4";
+    let fork = "21 4 16x0 22 23 2 17x0 23 1 17x0";
+    for (parts, expected) in [
+        ("1 13 0 1 / 11344x0 /".to_string(), "S 9 3 0 0 0"),
+        (format!("{table} / 11343x0 /"), "S 10 0 0 0 0"),
+        (format!("{table} / 16x0 24 0 99 11325x0 /"), "S 11 0 0 0 0"),
+        (format!("{table} / 16x0 20 6 11326x0 /"), "S 0 0 0 0 0"),
+        (format!("{table} / 16x0 20 6 20 4 11324x0 /"), "S 0 0 1 1 0"),
+        (
+            format!("{table} / 16x0 2x20,6 {fork} 11267x0 /"),
+            "S 0 0 2 2 1",
+        ),
+        (format!("{table} / 16x0 20 6 24 0 11324x0 /"), "S 0 0 1 1 0"),
+        (
+            format!("{table} / 16x0 20 6 24 0 11324x0 / 1 1"),
+            "S 0 0 1 0 0",
+        ),
+        (
+            format!("{table} / 16x0 20 6 24 0 11324x0 / 1 1 1 0"),
+            "S 0 0 0 0 0",
+        ),
+    ] {
+        let list = format!("a name: {parts}\n");
+        let text = printed(&lines(&list)[0]);
+        assert_eq!(text.lines().last(), Some(expected), "{parts}");
+    }
 }
 
 /// Both forms of a word.

@@ -6,7 +6,7 @@ use reference::calls::{self, check_hall};
 use reference::generator::{self, Random, Shape};
 use reference::hall::{decode, encode, opening, Hall, Node, Rest, Station, HALL_BYTES};
 use reference::run::{run_choices, Tally};
-use reference::table::{self, Table};
+use reference::table::{self, Refusal, Table};
 
 use crate::common::{accepted, all_choices, answer, opened, run_answer};
 
@@ -125,7 +125,12 @@ fn damaged_halls() {
             let answer = calls::run(&bytes, &mut stored, &mut tally, &[1, 0]);
             assert_eq!(answer, run_answer(11, 0, 0));
             assert_eq!(tally.commits, 5);
-            assert!(calls::accepted_choices(&bytes, &stored).is_err());
+            let refusal = Refusal {
+                number: 11,
+                place: 0,
+            };
+            assert_eq!(calls::accepted_choices(&bytes, &stored), Err(refusal));
+            assert_eq!(calls::suggest(&bytes, &stored), Err(refusal));
         }
         assert_eq!(stored, before);
     }

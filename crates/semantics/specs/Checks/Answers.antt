@@ -9,7 +9,8 @@ use Rattle.calculus.specs.Reduction.{Rule}
 use Rattle.semantics.specs.Definitions.Configuration.{Configuration}
 use Rattle.semantics.specs.Definitions.Moves.{act, inside, moved, refused, ruleNumber, movedBy, refusedBy, replyOf}
 use Rattle.semantics.specs.Definitions.Run.{Counters, entryBytes}
-use Rattle.semantics.specs.Definitions.Calls.{ok, rejected, verdictNumber, verdictPlace, checkTable, checkHall, opened, notOpened, openHall, openVerdict, SuggestAnswer, suggested, still, notSuggested}
+use Rattle.semantics.specs.Definitions.Calls.{ok, rejected, verdictNumber, verdictPlace, checkTable, checkHall, opened, notOpened, openHall, openVerdict}
+use Rattle.semantics.specs.Definitions.Suggestion.{SuggestAnswer, suggested, still, notSuggested}
 
 -- a check: number and place, both 0 where nothing is refused
 unfoldable pub VerdictReported : Type 0

@@ -4,6 +4,7 @@
 -- Assumes nothing.
 use Prim.Native.Nat.{ℕ, suc, _+_, _≤_, _<_}
 use mathlib.Core.Path.{_≡_}
+use mathlib.Core.Bool.{true}
 use mathlib.Core.Logic.{_⊎_, _↔_, _≢_}
 use mathlib.Core.Option.{some}
 use mathlib.Core.List.{List, [], _∷_, _++_, map}
@@ -18,7 +19,8 @@ use Rattle.semantics.specs.Definitions.Configuration.{Idle, taking, repe
 use Rattle.semantics.specs.Definitions.Stored.{WellFormed, bytesOf}
 use Rattle.semantics.specs.Definitions.Moves.{Entry, act, inside, refused, answerTo}
 use Rattle.semantics.specs.Definitions.Run.{Counters, RunAnswer, run, schedule, entries, scheduleBytes}
-use Rattle.semantics.specs.Definitions.Calls.{Verdict, ok, rejected, checkTable, admitted, notAdmitted, admission, checkHall, opened, notOpened, Opening, openHall, IsMoved, Buffers, runCall}
+use Rattle.semantics.specs.Definitions.Calls.{Verdict, ok, rejected, checkTable, admitted, notAdmitted, admission, checkHall, opened, notOpened, Opening, openHall, Buffers, runCall}
+use Rattle.semantics.specs.Definitions.Suggestion.{isAccepted}
 use Rattle.semantics.specs.Claims.ConverseRuns.{EmptyChannel, TooManyComponents, FullChannel}
 use Rattle.semantics.specs.Claims.InnerMoves.{Settled}
 use Rattle.semantics.specs.Claims.Correspondence.{AcceptsTable}
@@ -278,10 +280,11 @@ pub data ChoiceCondition (h : Configuration) : ℕ → Entry → Type 0 where
       ChoiceCondition h 20 (act p)
 
 unfoldable pub ChoiceNumbers : Type 0
+unfolding isAccepted
 ChoiceNumbers =
     (ts : List Term) (h : Configuration) → WellFormed ts h → (e : Entry) →
     ((n : ℕ) → (answerTo h e ≡ refused n) ↔ FirstCondition (λ m. ChoiceCondition h m e) n) ×
-    (IsMoved (answerTo h e) ↔ ((n : ℕ) → ChoiceCondition h n e → ⊥))
+    ((isAccepted h e ≡ true) ↔ ((n : ℕ) → ChoiceCondition h n e → ⊥))
 
 -- why a run stops with this number, before these bytes, at this configuration: 0 at the end, 12 at a byte that is
 -- no choice's kind, 13 where the choice is cut short, else the choice's first condition

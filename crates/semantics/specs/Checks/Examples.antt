@@ -19,7 +19,7 @@ use lib.ListN.{length, take, replicate}
 use lib.Dec.{eqb}
 use Rattle.calculus.specs.Syntax.{rd, wt, State}
 use Rattle.calculus.specs.Reduction.{Rule, OUT, IN, REP, ATST, ATRE, ATFAIL, ATOK, ARDOK, ARDF, AWR, AOI, AOF, AOE}
-use Rattle.semantics.specs.Definitions.Basics.{All}
+use Rattle.semantics.specs.Definitions.Basics.{All, countUp}
 use mathlib.Core.List.{flatten}
 use Rattle.semantics.specs.Definitions.Table.{TableAnswer, accepted, refusedAt, readTable}
 use Rattle.semantics.specs.Definitions.Configuration.{Idle, taking, repeating, block, output, Configuration}
@@ -84,15 +84,10 @@ unfolding steps
 rulesDone (notAdmitted n p) es = []
 rulesDone (admitted t h) es = map (λ s. s .rule) (steps h es)
 
--- the numbers below n
-unfoldable pub upTo : ℕ → List ℕ
-upTo zero = []
-upTo (suc n) = upTo n ++ (n ∷ [])
-
 -- every choice on a hall of n stations, and some past them
 unfoldable pub everyChoice : ℕ → List Entry
-unfolding upTo flatten
-everyChoice n = flatten (map (λ p. act p ∷ map (inside p) (upTo 16)) (upTo (suc n)))
+unfolding countUp flatten
+everyChoice n = flatten (map (λ p. act p ∷ map (inside p) (countUp 0 16)) (countUp 0 (suc n)))
 
 unfoldable pub whereMoved : Answer → Entry → List ℕ
 unfolding entryBytes

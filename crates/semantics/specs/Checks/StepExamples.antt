@@ -12,7 +12,11 @@ use Rattle.semantics.specs.Definitions.Run.{Counters}
 use Rattle.semantics.specs.Definitions.Calls.{openHall, Buffers, StepCall, stepCall, runChoices, stepChoice}
 use Rattle.semantics.specs.Checks.Examples.{noise, numbers, trays, hallOf, attempt, leafOf, tally}
 use Rattle.semantics.specs.Checks.EdgeExamples.{callsSeen}
-use Rattle.semantics.specs.Checks.SuggestionExamples.{blockTable}
+
+-- a block that reads tray 0 and writes tray 1, one token in tray 0
+unfoldable pub blockTable : List ℕ
+unfolding numbers
+blockTable = numbers "7 10 1 0 9 0 1 6 2 12 0 1 13 3"
 
 -- steps in turn, each a kind, a position and a node
 unfoldable pub stepsInTurn : List ℕ → Buffers → List (ℕ × ℕ × ℕ) → List StepCall

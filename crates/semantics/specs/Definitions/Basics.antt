@@ -22,6 +22,11 @@ unfoldable pub firstOf {ℓ} : {A : Type ℓ} → (A → Bool) → List A → Op
 firstOf p [] = none
 firstOf p (x ∷ xs) = cond (p x) (some x) (firstOf p xs)
 
+-- n numbers in a row, from a first one on
+unfoldable pub countUp : (first n : ℕ) → List ℕ
+countUp k zero = []
+countUp k (suc n) = k ∷ countUp (suc k) n
+
 -- element number p gives way to the elements of ys; past the end nothing changes
 unfoldable pub replaceAt {ℓ} : {A : Type ℓ} → ℕ → List A → List A → List A
 replaceAt p ys [] = []

@@ -2,7 +2,6 @@
 -- settle").
 -- Assumes nothing.
 use Prim.Native.Nat.{ℕ, zero, suc}
-use mathlib.Core.Path.{_≡_}
 use mathlib.Core.Bool.{Bool, true, false}
 use mathlib.Core.Option.{Option, none, some}
 use mathlib.Core.List.{List, [], _∷_, _++_, map}
@@ -11,8 +10,8 @@ use lib.Dec.{eqb}
 use Rattle.semantics.specs.Definitions.Table.{Table, TableAnswer, accepted, refusedAt, readTable}
 use Rattle.semantics.specs.Definitions.Configuration.{Configuration, opening}
 use Rattle.semantics.specs.Definitions.Stored.{hallBytes, bytesOf, configurationOf}
-use Rattle.semantics.specs.Definitions.Moves.{Entry, Answer, moved, refused, answerTo, ruleNumber}
-use Rattle.semantics.specs.Definitions.Run.{Counters, freshCounters, RunAnswer, run, schedule, entries, InBytes, steps}
+use Rattle.semantics.specs.Definitions.Moves.{Entry, ruleNumber}
+use Rattle.semantics.specs.Definitions.Run.{Counters, freshCounters, RunAnswer, run, schedule, entries, steps}
 
 -- accepted, or refused with a number and a place
 pub data Verdict : Type 0 where
@@ -202,40 +201,3 @@ unfolding callAnswer callEntries
 entriesDone table l [] = []
 entriesDone table l (c ∷ cs) =
     let a = callAnswer table l c in take (a .done) (callEntries c) ++ entriesDone table (a .buffers) cs
-
--- ---- suggest a choice
-
-pub data SuggestAnswer : Type 0 where
-  suggested : Entry → SuggestAnswer
-  still : SuggestAnswer
-  notSuggested : (number place : ℕ) → SuggestAnswer
-
-abbrev pub IsMoved : Answer → Type 0
-IsMoved (moved r h) = Unit {0}
-IsMoved (refused n) = ⊥
-
-abbrev pub IsRefused : Answer → Type 0
-IsRefused (moved r h) = ⊥
-IsRefused (refused n) = Unit {0}
-
--- quiescent ("still"): no choice is accepted, with any position and node byte
-unfoldable pub Quiescent : Configuration → Type 0
-Quiescent h = (e : Entry) → InBytes e → IsRefused (answerTo h e)
-
--- the answers that are allowed: which accepted choice is suggested is left open
-unfoldable pub Suggestable : Configuration → SuggestAnswer → Type 0
-unfolding Quiescent
-Suggestable h (suggested e) = InBytes e × IsMoved (answerTo h e)
-Suggestable h still = Quiescent h
-Suggestable h (notSuggested n p) = ⊥
-
-unfoldable pub SuggestAdmitted : Admission → SuggestAnswer → Type 0
-unfolding Suggestable
-SuggestAdmitted (admitted t h) answer = Suggestable h answer
-SuggestAdmitted (notAdmitted n p) (suggested e) = ⊥
-SuggestAdmitted (notAdmitted n p) still = ⊥
-SuggestAdmitted (notAdmitted n p) (notSuggested m q) = (m ≡ n) × (q ≡ p)
-
-unfoldable pub SuggestAllowed : (table hall : List ℕ) → SuggestAnswer → Type 0
-unfolding SuggestAdmitted admission
-SuggestAllowed table hall answer = SuggestAdmitted (admission table hall) answer

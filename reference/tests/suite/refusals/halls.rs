@@ -27,6 +27,7 @@ fn refusal_10_length_of_the_hall() {
         );
         assert_eq!(calls::accepted_choices(&EXAMPLE_TABLE, &hall), Err(refusal));
         assert_eq!(calls::is_still(&EXAMPLE_TABLE, &hall), Err(refusal));
+        assert_eq!(calls::suggest(&EXAMPLE_TABLE, &hall), Err(refusal));
         assert_eq!((hall, tally), (before, Tally::FRESH));
     }
     assert_eq!(check_hall(&EXAMPLE_TABLE, &good), answer(0, 0));
@@ -53,6 +54,7 @@ fn a_refused_table_comes_before_the_hall() {
     );
     assert_eq!(calls::accepted_choices(&table, &hall), Err(refusal));
     assert_eq!(calls::is_still(&table, &hall), Err(refusal));
+    assert_eq!(calls::suggest(&table, &hall), Err(refusal));
     assert_eq!(hall, [9; 3]);
     assert_eq!(
         tally,
