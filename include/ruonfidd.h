@@ -12,9 +12,7 @@
  * ruonfidd_sentence, which leaves its length as it was where it refuses.
  * Any bytes may be handed in; there are none on which a call does not end, stops the program, or
  * reads or writes past what it was lent.  A call keeps nothing for the next one, allocates nothing
- * and needs a few KB of stack, ruonfidd_report some 20.  The same bytes always get the same answer;
- * only which choice is suggested is promised by nothing and may differ in another version of the
- * library.
+ * and needs a few KB of stack, ruonfidd_report some 20.  The same bytes always get the same answer.
  *
  * The table is tested first, record by record, each record by the numbers in their order; then the
  * hall; then the choices, one by one.  A place is an offset in bytes.  The bytes of tables, halls
@@ -121,14 +119,16 @@ uint8_t ruonfidd_step(const uint8_t *table, size_t table_length, uint8_t *hall, 
                       uint8_t kind, uint8_t position, uint8_t node, uint32_t tally[3],
                       uint8_t *rule, size_t *place);
 
-/* Suggests a choice.
+/* Suggests the first choice that is accepted.
  *
- * choice: kind, position and node of a choice that is accepted on this hall, any one of them; or kind
- * 0 where the hall is still, which is said only where no choice at all is accepted.  What is not
- * said is 0: the node of kind 1, and all three bytes where the hall is still or the call refused.
+ * choice: kind, position and node of that choice.  Of all choices that are accepted on this hall it
+ * is the one with the lowest position, and of several there the one with the lowest node.  This
+ * leaves one: at no position are kind 1 and kind 2 both accepted.  Kind 0 where the hall is still,
+ * which is said only where no choice at all is accepted.  What is not said is 0: the node of kind 1,
+ * and all three bytes where the hall is still or the call refused.
  * Not refused: 0, place 0.  Refused: 1 to 11, and the place.
- * A block that waits can always begin, so a hall with one is never still: whoever follows
- * suggestions sets a limit. */
+ * A block that waits can always begin, so a hall with one is never still, and a station behind it may
+ * never be suggested: whoever follows suggestions sets a limit. */
 uint8_t ruonfidd_suggest(const uint8_t *table, size_t table_length, const uint8_t *hall,
                          size_t hall_length, uint8_t choice[3], size_t *place);
 

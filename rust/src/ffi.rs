@@ -195,7 +195,8 @@ pub fn step(
 }
 
 /// The number, and in `place` the place: 0 where the number is 0. In `choice`
-/// the kind, position and node suggested; what is not said is 0.
+/// the kind, position and node of the first accepted choice; what is not said
+/// is 0.
 pub fn suggest(table: &[u8], hall: &[u8], choice: &mut [u8; 3], place: &mut usize) -> u8 {
     // SAFETY: each pointer and length are those of one slice, which the call
     // only reads; `choice` and `place` are the caller's alone meanwhile. The

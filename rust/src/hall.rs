@@ -115,11 +115,36 @@ impl Hall {
         step(table, self.bytes.as_mut_slice(), choice, tally)
     }
 
-    /// An accepted choice; none where the hall is still.
+    /// The first accepted choice, by position and then by node; none where the
+    /// hall is still: see [`suggest`].
     ///
     /// # Errors
     ///
     /// 1 to 9 by the table, 11 by the hall where it is not one of this table's.
+    ///
+    /// ```
+    /// use ruonfidd::{Choice, Hall, Refusal};
+    ///
+    /// // Two stations with the same block: end, or else end. Both can begin.
+    /// let table = [7, 11, 0, 0, 6, 1, 5, 2, 2, 13, 3];
+    /// let (mut hall, mut tally) = Hall::open(&table)?;
+    /// let begin = Choice::Act { position: 0 };
+    /// assert_eq!(hall.suggest(&table), Ok(Some(begin)));
+    ///
+    /// // The attempt goes before the block that waits behind it.
+    /// hall.step(&table, begin, &mut tally)?;
+    /// let inside = Choice::Inside { position: 0, node: 0 };
+    /// assert_eq!(hall.suggest(&table), Ok(Some(inside)));
+    ///
+    /// // So it does to its end: the fork opens, it keeps its left side, the block
+    /// // is committed. Then the other block is the first station, and begins.
+    /// let mut choices = Vec::new();
+    /// for step in hall.suggested_steps(&table, &mut tally).take(4) {
+    ///     choices.push(step?.choice);
+    /// }
+    /// assert_eq!(choices, [inside, inside, begin, begin]);
+    /// # Ok::<(), Refusal>(())
+    /// ```
     pub fn suggest(&self, table: &[u8]) -> Result<Option<Choice>, Refusal> {
         suggest(table, self.as_bytes())
     }
@@ -137,8 +162,9 @@ impl Hall {
     /// Follows suggestions for at most so many choices, and says whether the
     /// hall is still then.
     ///
-    /// A waiting block can always begin, so a hall with one is never still, and
-    /// a block that finds too little begins again and again.
+    /// A waiting block can always begin, so a hall with one is never still. A
+    /// block that finds too little begins again and again, and no station behind
+    /// it gets its turn.
     ///
     /// # Errors
     ///

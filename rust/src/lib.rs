@@ -19,8 +19,9 @@
 //! - It keeps nothing from one call to the next and needs little stack, a
 //!   printed run some 20 KB, so any thread may call it at any time. A [`Hall`]
 //!   and a [`Printed`] own memory for their bytes; nothing else is allocated.
-//! - The same bytes always get the same answer. Only which accepted choice is
-//!   suggested is promised by nothing, and may differ in another version.
+//! - The same bytes always get the same answer.
+//! - A suggestion is the first accepted choice: the one with the lowest
+//!   position, and of several there the one with the lowest node.
 //! - Refused by table or hall, 1 to 11, hall and tally stay as they are.
 //!   Where a choice is refused, those before it stay done.
 //! - The answer of a step, moved or refused, displays as one English sentence
@@ -263,9 +264,12 @@ pub fn step(
     }
 }
 
-/// Suggests a choice, which is an accepted one; none where no choice is
-/// accepted. Which of the accepted choices it is, is not promised.
+/// Suggests the first accepted choice; none where no choice is accepted.
 /// [`Hall::suggest`] is the same on a hall that owns its bytes.
+///
+/// Of all accepted choices it is the one with the lowest position, and of
+/// several there the one with the lowest node. This leaves one: a station that
+/// can act has no move inside.
 ///
 /// # Errors
 ///
@@ -274,10 +278,15 @@ pub fn step(
 /// ```
 /// use ruonfidd::{open_hall, suggest, Choice, HALL_BYTES};
 ///
-/// let table = [7, 10, 1, 0, 9, 0, 1, 6, 2, 12, 0, 1, 13, 3];
+/// // A take from tray 0, which is empty, and two puts into tray 1.
+/// let table = [1, 3, 0, 0, 2, 1, 5, 2, 2, 5, 1, 3, 13, 4];
 /// let mut hall = vec![0; HALL_BYTES];
-/// assert_eq!(suggest(&table, &hall), Ok(None));
+/// assert_eq!(suggest(&table, &hall), Ok(None)); // no station yet
 /// open_hall(&table, &mut hall).unwrap();
+/// // The take cannot move. Of the two puts the first is suggested.
+/// assert_eq!(suggest(&table, &hall), Ok(Some(Choice::Act { position: 1 })));
+/// // With a token in tray 0 it is the take.
+/// hall[0] = 1;
 /// assert_eq!(suggest(&table, &hall), Ok(Some(Choice::Act { position: 0 })));
 /// ```
 pub fn suggest(table: &[u8], hall: &[u8]) -> Result<Option<Choice>, Refusal> {

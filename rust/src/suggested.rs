@@ -15,7 +15,8 @@ pub struct Followed {
 }
 
 /// Steps that are suggested and made, one for each item, which says what it did;
-/// from [`Hall::suggested_steps`].
+/// from [`Hall::suggested_steps`]. Each is the first accepted choice of the hall
+/// that the one before it left.
 ///
 /// They end where the hall is still. A waiting block can always begin, so they
 /// may go on for ever: whoever wants an end takes so many of them, or uses

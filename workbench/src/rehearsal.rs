@@ -123,7 +123,7 @@ impl<'a> Rehearsal<'a> {
     }
 
     /// Every choice that the engine accepts now, with its rule: each position
-    /// and each node is tried on a copy.
+    /// and each node is tried on a copy, from the lowest on.
     #[must_use]
     pub fn accepted(&self) -> Vec<(Choice, Rule)> {
         let mut accepted = Vec::new();
@@ -144,7 +144,8 @@ impl<'a> Rehearsal<'a> {
         accepted
     }
 
-    /// The engine's suggestion; none where the hall is still.
+    /// The engine's suggestion, the first of [`Rehearsal::accepted`]; none where
+    /// the hall is still.
     ///
     /// # Errors
     ///

@@ -92,7 +92,8 @@ usage: hall play FILE [CHOICES] [--binary]
 
 Shows the hall and the choices that the engine accepts, and makes the one that
 you name by its number, or as a lesson says it: act clerk, step clerk node 1.
-Enter takes the suggested one. CHOICES are made first.
+Enter takes the suggested one, number 1: the first station that can move, and
+inside its attempt the first node that can. CHOICES are made first.
 
   u          takes the last choice back
   b          the hall once more (board)

@@ -2,7 +2,9 @@
 
 use std::fs;
 
-use crate::common::{hall_in, package, scratch, Answer};
+use workbench::style::Style;
+
+use crate::common::{called, files, hall_in, package, scratch, Answer};
 
 const TEXT: &str = "\
 tray batch
@@ -26,6 +28,71 @@ fn played(name: &str, input: &str) -> Answer {
 /// What stands behind each prompt.
 fn parts(answer: &Answer) -> Vec<&str> {
     answer.out.split("\n> ").collect()
+}
+
+/// How many choices a screen lists. They are numbered from 1 on; number 1 is
+/// marked as suggested, and nothing else is.
+#[track_caller]
+fn listed(screen: &str) -> usize {
+    let mut numbers: Vec<usize> = Vec::new();
+    let mut marked = Vec::new();
+    for line in screen.lines() {
+        // Three columns for the number, two that are empty.
+        let number = line.get(..3).and_then(|it| it.trim_start().parse().ok());
+        let Some(number) = number.filter(|_| line[3..].starts_with("  ")) else {
+            assert!(!line.contains("<- suggested"), "{screen}");
+            continue;
+        };
+        numbers.push(number);
+        if line.ends_with("   <- suggested") {
+            marked.push(number);
+        }
+    }
+    assert!(numbers.iter().copied().eq(1..=numbers.len()), "{screen}");
+    assert_eq!(marked, numbers[..numbers.len().min(1)], "{screen}");
+    numbers.len()
+}
+
+/// All examples are played, by numbers that lead here and there.
+#[test]
+fn number_1_is_suggested() {
+    let (mut screens, mut of_several, mut still) = (0, 0, 0);
+    for file in files(&package().join("examples"), "hall") {
+        let name = file.to_str().expect("letters");
+        for numbers in ["1", "2 1 1", "3 2 1 1 1", "1 1 4 2"] {
+            let turns: Vec<&str> = numbers.split(' ').cycle().take(30).collect();
+            let input = turns.join("\n") + "\n";
+            let answer = called(&["play", name], input.as_bytes(), Style::PLAIN, false);
+            assert_eq!((answer.code, answer.err.as_str()), (Some(0), ""), "{name}");
+            let parts = parts(&answer);
+            // A screen before each number and one behind the last; no more is read.
+            assert_eq!((parts.len(), parts[31]), (32, "\n"), "{name}");
+            for screen in &parts[..31] {
+                let listed = listed(screen);
+                let is_still = screen.ends_with("The hall is still: no choice is accepted.");
+                assert_eq!(listed == 0, is_still, "{name}: {screen}");
+                screens += 1;
+                of_several += usize::from(listed > 1);
+                still += usize::from(is_still);
+            }
+        }
+    }
+    let met = (screens, of_several, still);
+    assert!(screens > 2_000 && of_several > 500 && still > 50, "{met:?}");
+}
+
+/// Enter does what the number 1 does.
+#[test]
+fn enter_takes_number_1() {
+    let by_number = played("by-number", &"1\n".repeat(14));
+    let by_enter = played("by-enter", &"\n".repeat(14));
+    assert_eq!(by_number.out.matches("\n> 1\n").count(), 14);
+    assert_eq!(by_number.out.replace("\n> 1\n", "\n> \n"), by_enter.out);
+    assert!(
+        by_enter.out.contains("   <- suggested\n  2  "),
+        "{}",
+        by_enter.out
+    );
 }
 
 /// What is printed at play, to the byte.

@@ -183,6 +183,32 @@ fn boards_show_every_station() {
     }
 }
 
+/// Accepted choices are listed by position and then by node, and the first of
+/// them is the suggestion.
+#[test]
+fn the_first_accepted_choice_is_suggested() {
+    let mut random = Random::new(23);
+    let (mut of_several, mut still) = (0, 0);
+    for (which, table, program) in halls(23, 600) {
+        let mut lesson = Lesson::open(&table, &program).expect(&which);
+        random_run(&mut random, &mut lesson, 25, |lesson, _| {
+            let accepted = lesson.rehearsal().accepted();
+            let first = accepted.first().map(|(choice, _)| *choice);
+            assert_eq!(lesson.rehearsal().suggestion(), Ok(first), "{which}");
+            let places = accepted.iter().map(|(choice, _)| {
+                let [_, position, node] = choice.to_bytes();
+                (position, node)
+            });
+            let places: Vec<(u8, u8)> = places.collect();
+            let in_order = places.windows(2).all(|pair| pair[0] < pair[1]);
+            assert!(in_order, "{which}: {places:?}");
+            of_several += usize::from(accepted.len() > 1);
+            still += usize::from(accepted.is_empty());
+        });
+    }
+    assert!(of_several > 2_000 && still > 20, "{of_several} {still}");
+}
+
 fn nodes_of(station: &Station) -> usize {
     match station {
         Station::Attempt(attempt) => attempt.nodes.len(),

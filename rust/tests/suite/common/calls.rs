@@ -11,6 +11,9 @@ use reference::run::{run_choices, Tally};
 use reference::table::{read_table, Term};
 use ruonfidd::{ffi, HALL_BYTES};
 
+use super::choices::step_bytes;
+use super::wrong_suggestions::{first_of, WRONG};
+
 /// What was met over many calls.
 #[derive(Clone, Debug, Default, PartialEq, Eq)]
 pub(crate) struct Met {
@@ -27,6 +30,10 @@ pub(crate) struct Met {
     /// Suggestions, and halls found still.
     pub(crate) suggested: usize,
     pub(crate) still: usize,
+    /// Suggestions where more than one choice was accepted.
+    pub(crate) of_several: usize,
+    /// How often each wrong way to suggest would have given something else.
+    pub(crate) wrong: [usize; WRONG.len()],
 }
 
 impl Met {
@@ -44,6 +51,8 @@ impl Met {
         each(&mut self.at_the_top, &other.at_the_top);
         self.suggested += other.suggested;
         self.still += other.still;
+        self.of_several += other.of_several;
+        each(&mut self.wrong, &other.wrong);
     }
 
     /// Each rule, 1 to 13, was done so often.
@@ -72,6 +81,14 @@ impl Met {
             );
         }
     }
+
+    /// Each wrong way to suggest would have been noticed so often.
+    #[track_caller]
+    pub(crate) fn wrong_at_least(&self, least: usize) {
+        for (times, wrong) in self.wrong.iter().zip(WRONG) {
+            assert!(*times >= least, "{}: too seldom: {self}", wrong.name);
+        }
+    }
 }
 
 impl fmt::Display for Met {
@@ -79,7 +96,8 @@ impl fmt::Display for Met {
         write!(
             out,
             "{} calls; rules 1 to 13 {:?}; numbers 0 to 20 {:?}; 19 at IN {}, REP {}, ATOK {}; \
-             counters at the top {:?}; {} suggestions, {} still",
+             counters at the top {:?}; {} suggestions, {} of several, {} still; \
+             wrong ways to suggest that would be noticed {:?}",
             self.calls,
             &self.rules[1..],
             self.numbers,
@@ -88,7 +106,9 @@ impl fmt::Display for Met {
             self.too_many[usize::from(ATOK)],
             self.at_the_top,
             self.suggested,
-            self.still
+            self.of_several,
+            self.still,
+            self.wrong
         )
     }
 }
@@ -218,36 +238,40 @@ impl Sequence {
         answer
     }
 
-    /// The choice suggested: one that is accepted, or none where none is.
+    /// The choice suggested, the first that is accepted; none where none is.
     #[track_caller]
     pub(crate) fn suggest(&mut self) -> Option<Choice> {
         let (mut place, mut choice) = (usize::MAX, [u8::MAX; 3]);
         let number = ffi::suggest(&self.table, &self.hall, &mut choice, &mut place);
-        let suggestion = match choice {
-            [0, 0, 0] => None,
-            [1, position, 0] => Some(Choice::Act { position }),
-            [2, position, node] => Some(Choice::Inside { position, node }),
-            _ => panic!("{choice:?} on {self}"),
+        let second = calls::suggest(&self.table, &self.by_second);
+        let expected = match second {
+            Ok(None) => (0, 0, [0; 3]),
+            Ok(Some(first)) => (0, 0, step_bytes(first, 0)),
+            Err(refusal) => (refusal.number, refusal.place, [0; 3]),
         };
+        assert_eq!((number, place, choice), expected, "{self}");
         self.met.numbers[usize::from(number)] += 1;
-        match calls::accepted_choices(&self.table, &self.by_second) {
-            Err(refusal) => {
-                let expected = (refusal.number, refusal.place, None);
-                assert_eq!((number, place, suggestion), expected, "{self}");
-            }
-            Ok(accepted) => {
-                assert_eq!((number, place), (0, 0), "{self}");
-                if let Some(choice) = suggestion {
-                    assert!(accepted.contains(&choice), "{choice:?} on {self}");
-                    self.met.suggested += 1;
-                } else {
-                    assert!(accepted.is_empty(), "{accepted:?} on {self}");
-                    self.met.still += 1;
-                }
-            }
-        }
+        self.note_suggestion();
         self.compare(&"a suggestion");
-        suggestion
+        second.ok().flatten()
+    }
+
+    /// What a suggestion meets, by the second implementation: how many choices
+    /// are accepted, and what wrong ways to suggest would make of them.
+    fn note_suggestion(&mut self) {
+        let Ok(accepted) = calls::accepted_choices(&self.table, &self.by_second) else {
+            return;
+        };
+        let all: Vec<[u8; 3]> = accepted.into_iter().map(|it| step_bytes(it, 0)).collect();
+        let Some(first) = first_of(&all) else {
+            self.met.still += 1;
+            return;
+        };
+        self.met.suggested += 1;
+        self.met.of_several += usize::from(all.len() > 1);
+        for (times, wrong) in self.met.wrong.iter_mut().zip(WRONG) {
+            *times += usize::from((wrong.suggests)(&all) != Some(first));
+        }
     }
 
     fn set_tally(&mut self, [commits, failed, retries]: [u32; 3]) {

@@ -6,3 +6,4 @@ pub(crate) mod by_hand;
 pub(crate) mod calls;
 pub(crate) mod choices;
 pub(crate) mod seeds;
+pub(crate) mod wrong_suggestions;

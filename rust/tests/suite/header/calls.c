@@ -15,6 +15,9 @@
 /* A block that reads tray 0 and writes tray 1; one token. */
 static const uint8_t table[] = {7, 10, 1, 0, 9, 0, 1, 6, 2, 12, 0, 1, 13, 3};
 static const uint8_t choices[] = {1, 0, 2, 0, 0, 2, 0, 0, 1, 0, 1, 0};
+/* A take from an empty tray, a block of two ways that each write, a put; and what is suggested, time after time. */
+static const uint8_t several[] = {1, 3, 0, 0, 7, 10, 1, 2, 11, 3, 3, 6, 4, 2, 1, 5, 5, 6, 5, 1, 7, 13, 8};
+static const uint8_t first[][3] = {{1, 1, 0}, {2, 1, 0}, {2, 1, 1}, {2, 1, 0}, {1, 1, 0}, {1, 1, 0}};
 static uint8_t hall[RUONFIDD_HALL_BYTES];
 static uint8_t before[RUONFIDD_HALL_BYTES];
 static const uint8_t input[] = {7, 10, 1, 0, 9, 0, 1, 6, 2, 12, 0, 1, 13, 3, 1, 0, 2, 0, 0, 2, 0, 0, 1, 0, 1, 0};
@@ -95,6 +98,20 @@ int main(void) {
     memset(choice, 99, sizeof choice);
     MUST(ruonfidd_suggest(table, 12, hall, sizeof hall, choice, &place) == 9 && place == 12);
     MUST(choice[0] == 0 && choice[1] == 0 && choice[2] == 0);
+
+    /* Of several accepted choices the first is suggested, also where its position and its node are not 0. */
+    MUST(ruonfidd_open_hall(several, sizeof several, hall, sizeof hall, &place) == 0);
+    for (size_t turn = 0; turn < sizeof first / sizeof *first; turn++) {
+        memset(choice, 99, sizeof choice);
+        place = unset;
+        MUST(ruonfidd_suggest(several, sizeof several, hall, sizeof hall, choice, &place) == 0 && place == 0);
+        MUST(memcmp(choice, first[turn], sizeof choice) == 0);
+        /* The put at the end, which is accepted too and is not suggested. */
+        memcpy(before, hall, sizeof hall);
+        MUST(ruonfidd_step(several, sizeof several, before, sizeof before, 1, 2, 0, tally, &rule, &place) == 0);
+        MUST(ruonfidd_step(several, sizeof several, hall, sizeof hall, choice[0], choice[1], choice[2], tally,
+                           &rule, &place) == 0);
+    }
 
     /* The printed run of table and choices; behind it nothing is written. */
     memset(report, 99, sizeof report);

@@ -174,6 +174,8 @@ fn calls_by_chance() {
     met.numbers_at_least([19].into_iter(), 25);
     met.numbers_at_least(1..=11, 10);
     assert!(met.suggested >= 5_000 && met.still >= 1_000, "{met}");
+    assert!(met.of_several >= 3_000, "{met}");
+    met.wrong_at_least(100);
     assert!(met.at_the_top.iter().all(|times| *times >= 50), "{met}");
 }
 

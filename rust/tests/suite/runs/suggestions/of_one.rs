@@ -1,24 +1,12 @@
-//! Suggestions: always an accepted choice, and still only where none is.
+//! Halls with one accepted choice, and still halls.
 
 use reference::build::Builder;
 use reference::choice::Choice;
-use reference::generator::{self, Random};
-use reference::hall::{encode, opening};
-use reference::run::Tally;
 
-use crate::common::by_chance::{accepted, any_table, reached_hall};
-use crate::common::by_hand::{attempt, each_kind, hall, joined, leaf, leaning_left};
+use super::{act, inside, sequence};
+use crate::common::by_hand::{attempt, each_kind, joined, leaf, leaning_left};
 use crate::common::by_hand::{BARE_RETRY, PUTTING, WAITING};
-use crate::common::calls::{Met, Sequence};
-use crate::common::choices::step_bytes;
-use crate::common::seeds::{say, seeds};
-
-/// A hall of the table with a term of each kind.
-fn sequence(counts: &[u8], stations: &[u8]) -> Sequence {
-    let mut stored = hall(stations);
-    stored[..counts.len()].copy_from_slice(counts);
-    Sequence::new(&each_kind::table(), &stored, Tally::FRESH)
-}
+use crate::common::calls::Sequence;
 
 /// The suggestion on such a hall.
 #[track_caller]
@@ -32,14 +20,6 @@ fn suggests(counts: &[u8], stations: &[u8], choice: Choice) {
 fn still(counts: &[u8], stations: &[u8]) {
     let mut sequence = sequence(counts, stations);
     assert_eq!(sequence.suggest(), None, "{sequence}");
-}
-
-fn act(position: u8) -> Choice {
-    Choice::Act { position }
-}
-
-fn inside(position: u8, node: u8) -> Choice {
-    Choice::Inside { position, node }
 }
 
 /// Where one choice alone is accepted, it is suggested.
@@ -106,47 +86,4 @@ fn a_repeated_take_in_a_full_hall() {
         let mut sequence = Sequence::open(&table.start(all));
         assert_eq!(sequence.suggest(), suggestion);
     }
-}
-
-/// From openings, suggestion after suggestion, each made by a step.
-#[test]
-fn followed_from_openings() {
-    let mut met = Met::default();
-    for seed in seeds("suggestions followed", 1_500) {
-        let mut random = Random::new(seed);
-        let bytes = any_table(&mut random);
-        let start = encode(&opening(&accepted(&bytes)));
-        let mut sequence = Sequence::new(&bytes, &start, Tally::FRESH);
-        for _ in 0..15 {
-            let Some(choice) = sequence.suggest() else {
-                break;
-            };
-            let (number, _, _) = sequence.step(step_bytes(choice, 5));
-            assert_eq!(number, 0, "{choice:?} on {sequence}");
-        }
-        met.add(&sequence.met);
-    }
-    say(&format!("suggestions followed: {met}"));
-    assert!(met.suggested >= 10_000 && met.still >= 100, "{met}");
-}
-
-/// Halls of any kind.
-#[test]
-fn on_any_hall() {
-    let mut met = Met::default();
-    for seed in seeds("suggestions on any hall", 12_000) {
-        let mut random = Random::new(seed);
-        let bytes = any_table(&mut random);
-        let table = accepted(&bytes);
-        let start = match seed % 3 {
-            0 => reached_hall(&mut random, &table, 6),
-            1 => generator::hall_with(&mut random, &table, 1),
-            _ => generator::hall(&mut random, &table),
-        };
-        let mut sequence = Sequence::new(&bytes, &encode(&start), Tally::FRESH);
-        sequence.suggest();
-        met.add(&sequence.met);
-    }
-    say(&format!("suggestions on any hall: {met}"));
-    assert!(met.suggested >= 5_000 && met.still >= 700, "{met}");
 }
