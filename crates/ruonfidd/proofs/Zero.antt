@@ -13,10 +13,10 @@ use Rattle.semantics.specs.Definitions.Moves.{Entry, Reply}
 use Rattle.semantics.specs.Definitions.Calls.{Verdict, ok, rejected, checkTable, checkHall, OpenAnswer, opened, notOpened, openHall, openVerdict}
 use Rattle.semantics.specs.Definitions.Suggestion.{SuggestAnswer, suggested, still, notSuggested, suggestCall}
 use Rattle.semantics.specs.Definitions.Sentence.{sentenceCall}
-use Rattle.semantics.specs.Claims.Suggestions.{SuggestionRefused}
+use Rattle.semantics.specs.Claims.Suggestions.{RefusedAsChecked}
 use Rattle.semantics.specs.Checks.Conditions.{RefusalNumbers}
 use Rattle.semantics.specs.Checks.Sentences.{ShortBuffersRefused}
-use Rattle.theorems.proofs.Theorems.{refusal-numbers, suggestion-refused, short-buffers-refused}
+use Rattle.theorems.proofs.Theorems.{refusal-numbers, refused-as-checked, short-buffers-refused}
 use Rattle.ruonfidd.specs.Answered.{VerdictAnswered, OpeningAnswered, choiceWords, SuggestionAnswered, SentenceAnswered}
 
 zero-ok : (v : Verdict) → ((n p : ℕ) → v ≡ rejected n p → 1 ≤ n) → (set : ℕ) → VerdictAnswered v 0 set → v ≡ ok
@@ -47,7 +47,7 @@ pub zero-suggested : (table hall : List ℕ) (place : ℕ) (w : List ℕ) →
     SuggestionAnswered (suggestCall table hall) 0 place w →
     ((e : Entry) × (w ≡ choiceWords e) × (suggestCall table hall ≡ suggested e)) ⊎
     ((w ≡ 0 ∷ 0 ∷ 0 ∷ []) × (suggestCall table hall ≡ still))
-unfolding RefusalNumbers SuggestionRefused
+unfolding RefusalNumbers RefusedAsChecked
 zero-suggested table hall place w x = go (suggestCall table hall) refl x
   where
     go : (a : SuggestAnswer) → suggestCall table hall ≡ a → SuggestionAnswered a 0 place w →
@@ -58,7 +58,7 @@ zero-suggested table hall place w x = go (suggestCall table hall) refl x
     go (notSuggested m q) h x =
         absurd
         (let n = x .number in
-        let l = refusal-numbers table hall m q .2 (suggestion-refused table hall m q .0 h) .0 in omega arith)
+        let l = refusal-numbers table hall m q .2 (refused-as-checked table hall m q .0 h) .0 in omega arith)
 
 -- a sentence with number 0 had room
 pub zero-sentence : (k p n : ℕ) (a : Reply) (buffer : List ℕ) (before after : ℕ) (buffer′ : List ℕ) →

@@ -1,13 +1,25 @@
 -- The worked examples of a suggestion follow from the definitions by computation.
 -- Assumes nothing.
-use mathlib.Core.Path.{refl}
+use Prim.Native.Nat.{zero, suc}
+use native.Mathlib.Omega.{arith}
+use mathlib.Core.Path.{refl, sym}
+use mathlib.Core.Bool.{false≢true}
+use Rattle.semantics.specs.Definitions.Moves.{act, inside}
+use Rattle.semantics.specs.Definitions.Run.{Quiescent}
 use Rattle.semantics.specs.Definitions.Calls.{openHall}
 use Rattle.semantics.specs.Definitions.Suggestion.{suggestCall}
 use Rattle.semantics.specs.Checks.Examples.{numbers, times, noise, attempt, leafOf}
-use Rattle.semantics.specs.Checks.SuggestionExamples.{writingTable, writing, twoWays, suggestedOn, SuggestionExamples}
+use Rattle.semantics.specs.Checks.SuggestionExamples.{writingTable, writing, twoWays, suggestedOn, attemptAlone, takeAlone, SuggestionExamples}
+
+take-waits : Quiescent takeAlone
+unfolding Quiescent takeAlone
+take-waits (act zero) b = refl
+take-waits (act (suc p)) b = refl
+take-waits (inside zero k) b = refl
+take-waits (inside (suc p) k) b = refl
 
 pub suggestion-examples : SuggestionExamples
-unfolding suggestCall suggestedOn openHall noise writingTable writing twoWays numbers times attempt leafOf
+unfolding Quiescent attemptAlone suggestCall suggestedOn openHall noise writingTable writing twoWays numbers times attempt leafOf
 suggestion-examples = record {
   opened = refl;
   put = refl;
@@ -35,6 +47,8 @@ suggestion-examples = record {
   position-before-node = refl;
   no-station = refl;
   all-wait = refl;
+  attempt-moves = λ q. false≢true (sym (q (inside 0 0) (omega arith, omega arith)));
+  take-waits = take-waits;
   malformed = refl;
   size-mismatch = refl;
   refused = refl;

@@ -12,11 +12,11 @@ use Rattle.semantics.specs.Definitions.Basics.{countUp}
 use Rattle.semantics.specs.Definitions.Terms.{Term}
 use Rattle.semantics.specs.Definitions.Configuration.{Component, idle, transaction, Configuration, nodes}
 use Rattle.semantics.specs.Definitions.Moves as moves
-use Rattle.semantics.specs.Definitions.Moves.{act, inside, innerLocal, actsInside, Answer, moved, refused, movedBy, refusedBy, applyAt, atPosition, answerTo, replyOf}
+use Rattle.semantics.specs.Definitions.Moves.{act, inside, innerLocal, actsInside, Answer, moved, refused, movedBy, refusedBy, applyAt, atPosition, answerTo, replyOf, isMoved, isAccepted}
 use Rattle.semantics.specs.Definitions.Stored.{ComponentOk}
-use Rattle.semantics.specs.Definitions.Suggestion.{isMoved, isAccepted, entriesBelow, firstAccepted}
-use Rattle.theorems.proofs.First.{passes-alone, fails-alone, none-yet, next-decides, found-kept, none-kept, none-below}
-use Rattle.theorems.proofs.Suggestions.{nodes-grow, positions-grow, act-found, act-passed}
+use Rattle.semantics.specs.Definitions.Suggestion.{entriesBelow, firstAccepted}
+use Rattle.theorems.proofs.First.{passes-alone, fails-alone, none-yet, next-decides, next-found, none-kept, none-below}
+use Rattle.theorems.proofs.Suggestions.{nodes-grow, positions-grow, act-found, act-passed, none-at}
 use Rattle.stored.specs.Layout.{transactionKind, maxNodes}
 use Rattle.storedlaws.proofs.Nodes.{few-nodes, beyond-nodes, inner-past}
 use Rattle.rules.specs.declared.Reply.{Reply}
@@ -76,19 +76,19 @@ refused-beyond {h = h} x p k l = go (getElem? (h .components) p) refl
 
 module _ {d s starts : List ℕ} {n p : ℕ} where
   -- of kind 2, where no transaction is open
-  idle-found : p < n → (getD s (getD starts p 0) 0 ≡ transactionKind → ⊥) → SuggestsInside d s starts n p Still
-  idle-found l other = record {
+  idle-inside-quiet : p < n → (getD s (getD starts p 0) 0 ≡ transactionKind → ⊥) → SuggestsInside d s starts n p Still
+  idle-inside-quiet l other = record {
     found = λ ts h y x. none-below (isAccepted h) (nodes-grow p) (suc maxByte)
         (λ k b. fails-alone (isAccepted h) (inside p k) (looked-refused (inside-idle l other) 15 refl ts h y x));
   }
 
   -- at a position past the last component
-  behind-found : n ≤ p → SuggestsAt d s starts n p Still
-  behind-found l = record {
-    found = λ ts h y x.
-        act-passed h (suc maxByte) p (looked-refused (nothing-looked (nothing-read l) refl refl) 14 refl ts h y x)
-        ∙ none-below (isAccepted h) (nodes-grow p) (suc maxByte)
-        (λ k b. fails-alone (isAccepted h) (inside p k) (looked-refused (inside-past l) 14 refl ts h y x));
+  behind-quiet : n ≤ p → SuggestsAt d s starts n p Still
+  behind-quiet l = record {
+    found = λ ts h y x. none-at h p (record {
+      outside = looked-refused (nothing-looked (nothing-read l) refl refl) 14 refl ts h y x;
+      within = λ k b. looked-refused (inside-past l) 14 refl ts h y x;
+    });
   }
 
 -- the next number, as the code has it
@@ -118,16 +118,15 @@ module _ {d s starts : List ℕ} {n p : ℕ} where
       r ≡ Moved rule → k ≤ maxNodes → SuggestsInside d s starts n p (Accepted (entry.Inside p k))
   inside-suggested {k} {rule} b l q c = record {
     found = λ ts h y x.
-        found-kept (isAccepted h) (nodes-grow p) (suc k) (suc maxByte) (inside p k) (omega arith)
-        (next-decides (isAccepted h) (nodes-grow p) k (some (inside p k)) (b .found ts h y x)
-        (passes-alone (isAccepted h) (inside p k) (looked-moved l rule q ts h y x)));
+        next-found (isAccepted h) (nodes-grow p) k (suc maxByte) (inside p k) (omega arith) (b .found ts h y x)
+        (passes-alone (isAccepted h) (inside p k) (looked-moved l rule q ts h y x));
   }
 
   pub nodes-quiet : {k : ℕ} → NoneBelow d s starts n p k → k ≤ maxNodes → maxNodes ≤ k → SuggestsInside d s starts n p Still
   nodes-quiet {k} b c l = record {
     found = λ ts h y x.
         none-kept (isAccepted h) (nodes-grow p) k (suc maxByte) (omega arith) (b .found ts h y x)
-        (λ i m. fails-alone (isAccepted h) (inside p i) (refused-beyond x p i (omega arith)));
+        (λ i m o. fails-alone (isAccepted h) (inside p i) (refused-beyond x p i (omega arith)));
   }
 
 -- ---- the entries at a position
@@ -150,7 +149,7 @@ module _ {d s starts : List ℕ} {n p : ℕ} {r : Reply} (l : Looked d s starts 
   -- i is the position as the code has it
   pub idle-quiet : {i m : ℕ} → r ≡ Refused m → Running d s starts n × (p < n) → i ≡ p →
       (getD s (getD starts i 0) 0 ≡ transactionKind → ⊥) → SuggestsAt d s starts n p Still
-  idle-quiet q b same other = inside-at (idle-found (b .1) (λ z. other (rw same z))) q
+  idle-quiet q b same other = inside-at (idle-inside-quiet (b .1) (λ z. other (rw same z))) q
 
 -- ---- the positions, the lowest first
 
@@ -159,7 +158,7 @@ few-positions c = let few = c .holds .form .few in let same = c .holds .counted 
 
 -- no entry is accepted at a position below p
 pub record QuietBelow (d s starts : List ℕ) (n p : ℕ) : Type 0 where
-  pub found : Always d s starts n (λ h. firstIn (entriesBelow p (suc maxByte)) h ≡ none)
+  pub found : Always d s starts n (λ h. firstIn (entriesBelow (suc maxByte) p) h ≡ none)
 
 module _ {d s starts : List ℕ} {n : ℕ} where
   pub no-position-yet : {p : ℕ} → p ≡ 0 → QuietBelow d s starts n p
@@ -183,9 +182,8 @@ module _ {d s starts : List ℕ} {n : ℕ} where
       let few = few-positions c in
       record {
         found = λ ts h y x.
-            found-kept (isAccepted h) (positions-grow (suc maxByte)) (suc p) (suc maxByte) (entryOf e) (omega arith)
-            (next-decides (isAccepted h) (positions-grow (suc maxByte)) p (some (entryOf e)) (b .found ts h y x)
-            (g .found ts h y x));
+            next-found (isAccepted h) (positions-grow (suc maxByte)) p (suc maxByte) (entryOf e) (omega arith)
+            (b .found ts h y x) (g .found ts h y x);
       }
 
   -- i is the position as the code has it
@@ -196,5 +194,5 @@ module _ {d s starts : List ℕ} {n : ℕ} where
     found = λ ts h y x.
         let few = few-positions c in
         none-kept (isAccepted h) (positions-grow (suc maxByte)) p (suc maxByte) (omega arith) (b .found ts h y x)
-        (λ q k. (behind-found (omega arith)) .found ts h y x);
+        (λ q k o. (behind-quiet (omega arith)) .found ts h y x);
   }

@@ -12,7 +12,8 @@ use Rattle.semantics.specs.Definitions.Basics.{countUp, firstOf}
 use Rattle.semantics.specs.Definitions.Terms.{Term}
 use Rattle.semantics.specs.Definitions.Configuration.{Configuration}
 use Rattle.semantics.specs.Definitions.Moves as moves
-use Rattle.semantics.specs.Definitions.Suggestion.{isAccepted, entriesAt, firstAccepted}
+use Rattle.semantics.specs.Definitions.Moves.{isAccepted}
+use Rattle.semantics.specs.Definitions.Suggestion.{entriesAt, firstAccepted}
 use Rattle.terms.specs.Decoded.{Decoded}
 use Rattle.index.specs.Holds.{Holds}
 use Rattle.schedule.specs.Entries.{entryOf}

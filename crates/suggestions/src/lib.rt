@@ -1,5 +1,5 @@
 // A suggestion: the first entry that is accepted, at the lowest position, there at the lowest node (document 02, Q-2).
-// Of kind 1 and kind 2 at most one is accepted at a position, so it does not matter which is looked at first.
+// Kind 1 and kind 2 are never both accepted at one position, so it does not matter which is looked at first.
 use acts::look_act;
 use buffer::wide;
 use choices::look_inside;
@@ -13,7 +13,7 @@ ghost use Prim.Native.Nat.{_<_};
 ghost use Rattle.index.specs.Holds.{Running};
 ghost use Rattle.suggestions.specs.Suggestions.{Suggests, SuggestsInside, SuggestsAt};
 
-// The entry that is accepted, or none is (document 01's still: quiescent).
+// The first entry that is accepted, or that none is (document 01's still: quiescent).
 pub enum Suggestion {
     Accepted(Entry),
     Still,

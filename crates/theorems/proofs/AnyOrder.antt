@@ -16,7 +16,8 @@ use Rattle.calculus.specs.Reduction.{Label, by, COM, Reduces, OUTr, INr, REPr, 
 use Rattle.calculus.proofs.Reductions.{as-stated}
 use Rattle.calculus.proofs.States.{same-self, same-other, occurrences-append}
 use Rattle.semantics.specs.Definitions.Configuration.{Configuration}
-use Rattle.semantics.specs.Definitions.Suggestion.{isMoved, isAccepted, Quiescent}
+use Rattle.semantics.specs.Definitions.Moves.{isMoved, isAccepted}
+use Rattle.semantics.specs.Definitions.Run.{Quiescent}
 use Rattle.semantics.specs.Claims.Correspondence.{LogOrderAsStated, HasChoices, Completeness, Reordered, unchanged, shuffled, within, CompletenessAnyOrder, StillIsStill}
 use Rattle.semantics.specs.Claims.Denotation.{parallel, WithinLimits}
 use Rattle.theorems.proofs.Communication.{none-occurs}

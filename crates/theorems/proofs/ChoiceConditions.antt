@@ -20,8 +20,7 @@ use Rattle.semantics.specs.Definitions.Basics.{replaceAt}
 use Rattle.semantics.specs.Definitions.Terms.{Expression, endT, retryT, rdT, wtT, orElseT}
 use Rattle.semantics.specs.Definitions.Logs.{emptyLog, readable, takeToken, addToken}
 use Rattle.semantics.specs.Definitions.Configuration.{Idle, taking, repeating, block, output, Tree, leaf, fork, Component, idle, transaction, Configuration, opens, nodes}
-use Rattle.semantics.specs.Definitions.Moves.{Entry, act, inside, moves, blocked, takes, puts, commits, ends, acts, Inner, evolves, noRule, outOfRange, reads, atLeaf, atFork, inLeft, inRight, inner, innerLocal, actsInside, Answer, moved, refused, applyAt, atPosition, answerTo}
-use Rattle.semantics.specs.Definitions.Suggestion.{isMoved, isAccepted}
+use Rattle.semantics.specs.Definitions.Moves.{Entry, act, inside, moves, blocked, takes, puts, commits, ends, acts, Inner, evolves, noRule, outOfRange, reads, atLeaf, atFork, inLeft, inRight, inner, innerLocal, actsInside, Answer, moved, refused, applyAt, atPosition, answerTo, isMoved, isAccepted}
 use Rattle.semantics.specs.Claims.ConverseRuns.{EmptyChannel, TooManyComponents, FullChannel}
 use Rattle.semantics.specs.Claims.InnerMoves.{Settled}
 use Rattle.semantics.specs.Checks.Conditions.{FirstCondition, preorder, NoRuleAtNode, ChoiceCondition, no-station, no-station-inside, unsettled, no-attempt, no-node, no-rule-there, in-empty, rep-empty, in-many, rep-many, commit-many, out-full, ChoiceNumbers}

@@ -16,10 +16,10 @@ pub record Growing {ℓ} {A : Type ℓ} (whole block : ℕ → List A) : Type �
   pub grows : (n : ℕ) → whole (suc n) ≡ whole n ++ block n
 
 -- numbers in a row, with one more; m is the last
-one-more : (k n m : ℕ) → m ≡ k + n → countUp k (suc n) ≡ countUp k n ++ (m ∷ [])
+count-grows : (k n m : ℕ) → m ≡ k + n → countUp k (suc n) ≡ countUp k n ++ (m ∷ [])
 unfolding countUp
-one-more k zero m e = let z : k ≡ m = omega arith in ap (λ i. i ∷ []) z
-one-more k (suc n) m e = ap (_∷_ k) (one-more (suc k) n m (omega arith))
+count-grows k zero m e = let z : k ≡ m = omega arith in ap (λ i. i ∷ []) z
+count-grows k (suc n) m e = ap (_∷_ k) (count-grows (suc k) n m (omega arith))
 
 module _ {ℓ} {A : Type ℓ} where
   flatten-append : (xs ys : List (List A)) → flatten (xs ++ ys) ≡ flatten xs ++ flatten ys
@@ -32,7 +32,7 @@ module _ {ℓ} {A : Type ℓ} where
   unfolding countUp
   mapped-grows f = record {
     empty = refl;
-    grows = λ n. ap (map f) (one-more 0 n n (omega arith)) ∙ map-append f (countUp 0 n) (n ∷ []);
+    grows = λ n. ap (map f) (count-grows 0 n n (omega arith)) ∙ map-append f (countUp 0 n) (n ∷ []);
   }
 
   pub blocks-grow : (block : ℕ → List A) → Growing (λ n. flatten (map block (countUp 0 n))) block
@@ -40,7 +40,7 @@ module _ {ℓ} {A : Type ℓ} where
   blocks-grow block = record {
     empty = refl;
     grows =
-        λ n. ap (λ ns. flatten (map block ns)) (one-more 0 n n (omega arith))
+        λ n. ap (λ ns. flatten (map block ns)) (count-grows 0 n n (omega arith))
         ∙ ap flatten (map-append block (countUp 0 n) (n ∷ []))
         ∙ flatten-append (map block (countUp 0 n)) (block n ∷ [])
         ∙ ap (_++_ (flatten (map block (countUp 0 n)))) (append-nil (block n));
@@ -122,20 +122,24 @@ module _ {ℓ} {A : Type ℓ} (passes : A → Bool) where
           | no z ↦ first-grown m ∙ rw (found-kept n m x (omega arith) e) refl
         ]
 
+    -- what the next block has, where none was found so far, is found from there on
+    pub next-found : (n m : ℕ) (x : A) → n < m → firstOf passes (whole n) ≡ none → firstOf passes (block n) ≡ some x →
+        firstOf passes (whole m) ≡ some x
+    next-found n m x l e f = found-kept (suc n) m x (omega arith) (next-decides n (some x) e f)
+
     -- where none was found so far, and none is in the blocks from there on, none is found
     pub none-kept : (n m : ℕ) → n ≤ m → firstOf passes (whole n) ≡ none →
-        ((i : ℕ) → n ≤ i → firstOf passes (block i) ≡ none) → firstOf passes (whole m) ≡ none
+        ((i : ℕ) → n ≤ i → i < m → firstOf passes (block i) ≡ none) → firstOf passes (whole m) ≡ none
     none-kept n zero l e f = none-yet
     none-kept n (suc m) l e f =
         elim (ℕ-discrete n (suc m)) [
           | yes z ↦ rw z at e
-          | no z ↦ next-decides m none (none-kept n m (omega arith) e f) (f m (omega arith))
+          | no z ↦ next-decides m none (none-kept n m (omega arith) e (λ i k b. f i k (omega arith))) (f m (omega arith) (omega arith))
         ]
 
-    -- none in the blocks below n
+    -- none in any block
     pub none-below : (n : ℕ) → ((i : ℕ) → i < n → firstOf passes (block i) ≡ none) → firstOf passes (whole n) ≡ none
-    none-below zero f = none-yet
-    none-below (suc n) f = next-decides n none (none-below n (λ i l. f i (omega arith))) (f n (omega arith))
+    none-below n f = none-kept 0 n (omega arith) none-yet (λ i k l. f i l)
 
     -- and back
     pub none-in : (n : ℕ) → firstOf passes (whole n) ≡ none → (i : ℕ) → i < n → firstOf passes (block i) ≡ none
@@ -151,7 +155,7 @@ module _ {ℓ} {A : Type ℓ} (passes : A → Bool) where
     -- the first block that has one decides
     pub first-block : (n k : ℕ) (x : A) → k < n → ((i : ℕ) → i < k → firstOf passes (block i) ≡ none) →
         firstOf passes (block k) ≡ some x → firstOf passes (whole n) ≡ some x
-    first-block n k x l f e = found-kept (suc k) n x (omega arith) (next-decides k (some x) (none-below k f) e)
+    first-block n k x l f e = next-found k n x l (none-below k f) e
 
     -- and back
     abbrev pub FoundBelow : ℕ → A → Type ℓ

@@ -16,12 +16,12 @@ use Rattle.semantics.specs.Definitions.Basics.{Bytes, countUp, firstOf}
 use Rattle.semantics.specs.Definitions.Terms.{Expression, endT, retryT, rdT, wtT, orElseT}
 use Rattle.semantics.specs.Definitions.Table.{Table}
 use Rattle.semantics.specs.Definitions.Configuration.{Component, idle, transaction, leaf, fork, Configuration}
-use Rattle.semantics.specs.Definitions.Moves.{Entry, act, inside, Answer, moved, refused, answerTo, atPosition, applyAt, acts, actsInside, ends, noRule, inner, innerLocal, atLeaf}
-use Rattle.semantics.specs.Definitions.Run.{Counters, schedule, entryBytes, InBytes, RunAnswer, continueRun, runFrom, run}
+use Rattle.semantics.specs.Definitions.Moves.{Entry, act, inside, Answer, moved, refused, answerTo, atPosition, applyAt, acts, actsInside, ends, noRule, inner, innerLocal, atLeaf, isMoved, isAccepted}
+use Rattle.semantics.specs.Definitions.Run.{Counters, schedule, entryBytes, InBytes, RunAnswer, continueRun, runFrom, run, Quiescent}
 use Rattle.semantics.specs.Definitions.Calls.{rejected, checkHall, admissionVerdict, Admission, admitted, notAdmitted, admission, Buffers, runResult, runAdmitted, runCall}
-use Rattle.semantics.specs.Definitions.Suggestion.{isMoved, isAccepted, Quiescent, entriesAt, entriesBelow, firstAccepted, SuggestAnswer, suggested, still, notSuggested, suggestFound, suggestAdmitted, suggestCall}
+use Rattle.semantics.specs.Definitions.Suggestion.{entriesAt, entriesBelow, firstAccepted, SuggestAnswer, suggested, still, notSuggested, suggestFound, suggestAdmitted, suggestCall}
 use Rattle.semantics.specs.Checks.StatedSuggestions.{NoneAt, AnswerAsStated, act-first, inside-first, none-accepted, not-admitted, SuggestionAsStated}
-use Rattle.semantics.specs.Claims.Suggestions.{positionOf, Before, lower-position, lower-node, FirstDone, SuggestedIsFirst, KindsApart, KindsInEitherOrder, StillIsQuiescent, StillRunsNone, SuggestionRefused}
+use Rattle.semantics.specs.Claims.Suggestions.{positionOf, Before, lower-position, lower-node, FirstDone, SuggestedIsFirst, KindsApart, KindsInEitherOrder, StillIsQuiescent, StillRunsNone, RefusedAsChecked}
 use Rattle.theorems.proofs.First.{Growing, mapped-grows, blocks-grow, firstSome, first-alone, first-of-both, passes-alone, fails-alone, alone-passes, alone-fails, none-below, none-in, first-block, found-in}
 
 -- ---- the kinds
@@ -38,7 +38,7 @@ module _ (h : Configuration) (p : ℕ) where
   leaf-settled n M N s δ e q zero = rw (e, q) refl
   leaf-settled n M N s δ e q (suc k) = rw e refl
 
--- kind 1 is accepted of what waits, and of an attempt that is one end or retry leaf; kind 2 of neither
+-- kind 1 is accepted of what waits or puts, and of an attempt that is one end or retry leaf; kind 2 of neither
 act-excludes : (h : Configuration) (p k : ℕ) → isAccepted h (act p) ≡ true → isAccepted h (inside p k) ≡ false
 unfolding isAccepted isMoved answerTo atPosition applyAt acts ends actsInside inner innerLocal atLeaf
 act-excludes h p k a = go (getElem? (h .components) p) refl a
@@ -63,7 +63,7 @@ kinds-apart h f g p k r s q w = not-both (ap isMoved w) (act-excludes h p k (ap 
 pub nodes-grow : (p : ℕ) → Growing (λ n. map (inside p) (countUp 0 n)) (λ k. inside p k ∷ [])
 nodes-grow p = mapped-grows (inside p)
 
-pub positions-grow : (n : ℕ) → Growing (λ m. entriesBelow m n) (entriesAt n)
+pub positions-grow : (n : ℕ) → Growing (entriesBelow n) (entriesAt n)
 unfolding entriesBelow
 positions-grow n = blocks-grow (entriesAt n)
 
@@ -79,11 +79,11 @@ module _ (h : Configuration) where
   act-passed n p e = rw e refl
 
   -- nothing in bytes is accepted at a position
-  record QuietAt (p : ℕ) : Type 0 where
-    outside : isAccepted h (act p) ≡ false
-    within : (k : ℕ) → k ≤ maxByte → isAccepted h (inside p k) ≡ false
+  pub record QuietAt (p : ℕ) : Type 0 where
+    pub outside : isAccepted h (act p) ≡ false
+    pub within : (k : ℕ) → k ≤ maxByte → isAccepted h (inside p k) ≡ false
 
-  none-at : (p : ℕ) → QuietAt p → firstOf (isAccepted h) (entriesAt (suc maxByte) p) ≡ none
+  pub none-at : (p : ℕ) → QuietAt p → firstOf (isAccepted h) (entriesAt (suc maxByte) p) ≡ none
   none-at p q =
       act-passed (suc maxByte) p (q .outside)
       ∙ none-below (isAccepted h) (nodes-grow p) (suc maxByte)
@@ -127,7 +127,7 @@ module _ (h : Configuration) where
   refused-before (lower-position {d} l) b quiet lower = quiet-entry d b (quiet (positionOf d) l)
   refused-before (lower-node {p} {j} {k} l) b quiet lower = lower p j k refl l
 
-  -- what is found is the first
+  -- an entry before which all is quiet
   first-act : (p : ℕ) → p ≤ maxByte → ((q : ℕ) → q < p → QuietAt h q) → isAccepted h (act p) ≡ true →
       IsFirst h (act p)
   unfolding InBytes
@@ -150,6 +150,7 @@ module _ (h : Configuration) where
       at-lower q j i e b =
           let y : p ≡ q = cc in let z : k ≡ i = cc in rw (← y) (lower j (omega arith))
 
+  -- what is found is the first
   found-first : (e : Entry) → firstAccepted h ≡ some e → IsFirst h e
   unfolding firstAccepted
   found-first e q =
@@ -299,10 +300,10 @@ unfolding suggestFound
 suggest-none none q = refl
 suggest-none (some d) q = absurd (let z : _≡_ {A = ℕ} 0 1 = cc in omega arith)
 
-found-admitted : (o : Option Entry) {n p : ℕ} → suggestFound o ≡ notSuggested n p → ⊥
+found-no-refusal : (o : Option Entry) {n p : ℕ} → suggestFound o ≡ notSuggested n p → ⊥
 unfolding suggestFound
-found-admitted none e = let x : _≡_ {A = ℕ} 0 1 = cc in omega arith
-found-admitted (some d) e = let x : _≡_ {A = ℕ} 0 1 = cc in omega arith
+found-no-refusal none e = let x : _≡_ {A = ℕ} 0 1 = cc in omega arith
+found-no-refusal (some d) e = let x : _≡_ {A = ℕ} 0 1 = cc in omega arith
 
 module _ (table hall : List ℕ) where
   pub admitted-suggests : (t : Table) (h : Configuration) → admission table hall ≡ admitted t h →
@@ -387,14 +388,14 @@ still-runs-none table l s choices b =
     let (t, h, z, q) = still-is-quiescent table (l .hall) .0 s in
     rw z (nothing-done h (l .counters) q choices b)
 
-pub suggestion-refused : SuggestionRefused
-unfolding SuggestionRefused suggestFound checkHall admissionVerdict
-suggestion-refused table hall n p = go (admission table hall) refl
+pub refused-as-checked : RefusedAsChecked
+unfolding RefusedAsChecked suggestFound checkHall admissionVerdict
+refused-as-checked table hall n p = go (admission table hall) refl
   where
     go : (a : Admission) → admission table hall ≡ a →
         (suggestCall table hall ≡ notSuggested n p) ↔ (admissionVerdict a ≡ rejected n p)
     go (admitted t h) z = (
-      λ e. absurd (found-admitted (firstAccepted h) (sym (admitted-suggests table hall t h z) ∙ e)),
+      λ e. absurd (found-no-refusal (firstAccepted h) (sym (admitted-suggests table hall t h z) ∙ e)),
       λ e. absurd (let x : _≡_ {A = ℕ} 0 1 = cc in omega arith),
     )
     go (notAdmitted m q) z = let call = refused-suggests table hall m q z in (λ e. cc, λ e. cc)

@@ -6,7 +6,7 @@ use Rattle.semantics.specs.Checks.ConverseSteps.{StartIsOpening, ConverseStepsA
 use Rattle.semantics.specs.Claims.InnerMoves.{MovesLowerWeight, MovesGoOn, SettledHasNoRule, MovesSettleFirstPath, OneOutcome}
 use Rattle.semantics.specs.Checks.StatedMoves.{OpensAsStated, MovesAsStated, MovesWorked}
 use Rattle.semantics.specs.Checks.StatedSuggestions.{SuggestionAsStated}
-use Rattle.semantics.specs.Claims.Suggestions.{SuggestedIsFirst, KindsApart, KindsInEitherOrder, StillIsQuiescent, StillRunsNone, SuggestionRefused}
+use Rattle.semantics.specs.Claims.Suggestions.{SuggestedIsFirst, KindsApart, KindsInEitherOrder, StillIsQuiescent, StillRunsNone, RefusedAsChecked}
 use Rattle.semantics.specs.Claims.Atomicity.{AtomicityOfCalls, initialBuffers, finalBuffers, allDone, doneWithoutAborted, atomic}
 use Rattle.semantics.specs.Checks.Conditions.{ReadAsStated, TableNumbers, MissingAtLength, HallNumbers, CheckNumbers, OpenNumbers, RefusalNumbers, ChoiceNumbers, RunNumbers, OneReason, RunCallNumbers, RunCallZero}
 use Rattle.semantics.specs.Checks.Answers.{AnswersReported, AnswersDiffer, ZeroIsAccepted}
@@ -114,8 +114,8 @@ still-is-quiescent = Suggesting.still-is-quiescent
 pub still-runs-none : StillRunsNone
 still-runs-none = Suggesting.still-runs-none
 
-pub suggestion-refused : SuggestionRefused
-suggestion-refused = Suggesting.suggestion-refused
+pub refused-as-checked : RefusedAsChecked
+refused-as-checked = Suggesting.refused-as-checked
 
 pub answers-differ : AnswersDiffer
 answers-differ = Telling.answers-differ

@@ -137,8 +137,8 @@ impl Workload {
         );
     }
 
-    /// Both suggest the same choice.
-    fn is_suggested_alike(&self) {
+    /// Both must suggest the same choice.
+    fn compare_suggestions(&self) {
         let mut bytes = Vec::new();
         if let Ok(Some(choice)) = ruonfidd::suggest(&self.table, &self.hall) {
             choice.write_to(&mut bytes);
@@ -150,7 +150,7 @@ impl Workload {
     /// A suggestion on the hall as it stands. The second implementation lists
     /// all accepted choices and takes the first of them.
     fn suggest(&self) {
-        self.is_suggested_alike();
+        self.compare_suggestions();
         print_row(
             self.name,
             ROUNDS,

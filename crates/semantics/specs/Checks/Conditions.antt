@@ -17,10 +17,9 @@ use Rattle.semantics.specs.Definitions.Terms.{Expression, endT, retryT, 
 use Rattle.semantics.specs.Definitions.Table.{Kind, kindByNumber, Field, channelF, programF, expressionF, amountF, fields, Reading, Content, termRecord, tokensRecord, startRecord, recordContent, Table, accepted, refusedAt, readTable}
 use Rattle.semantics.specs.Definitions.Configuration.{Idle, taking, repeating, output, Tree, leaf, fork, idle, transaction, Configuration, opens, opening, nodes}
 use Rattle.semantics.specs.Definitions.Stored.{WellFormed, bytesOf}
-use Rattle.semantics.specs.Definitions.Moves.{Entry, act, inside, refused, answerTo}
+use Rattle.semantics.specs.Definitions.Moves.{Entry, act, inside, refused, answerTo, isAccepted}
 use Rattle.semantics.specs.Definitions.Run.{Counters, RunAnswer, run, schedule, entries, scheduleBytes}
 use Rattle.semantics.specs.Definitions.Calls.{Verdict, ok, rejected, checkTable, admitted, notAdmitted, admission, checkHall, opened, notOpened, Opening, openHall, Buffers, runCall}
-use Rattle.semantics.specs.Definitions.Suggestion.{isAccepted}
 use Rattle.semantics.specs.Claims.ConverseRuns.{EmptyChannel, TooManyComponents, FullChannel}
 use Rattle.semantics.specs.Claims.InnerMoves.{Settled}
 use Rattle.semantics.specs.Claims.Correspondence.{AcceptsTable}

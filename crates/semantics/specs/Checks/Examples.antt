@@ -84,7 +84,7 @@ unfolding steps
 rulesDone (notAdmitted n p) es = []
 rulesDone (admitted t h) es = map (λ s. s .rule) (steps h es)
 
--- every choice on a hall of n stations, and some past them
+-- every choice on a hall of n stations, and some past them; kept apart from the list that suggestions go by
 unfoldable pub everyChoice : ℕ → List Entry
 unfolding countUp flatten
 everyChoice n = flatten (map (λ p. act p ∷ map (inside p) (countUp 0 16)) (countUp 0 (suc n)))

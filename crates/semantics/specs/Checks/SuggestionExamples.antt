@@ -5,7 +5,10 @@ use Prim.Native.Nat.{ℕ}
 use Prim.Native.String.{String}
 use mathlib.Core.Path.{_≡_}
 use mathlib.Core.List.{List, [], _∷_, _++_}
+use Rattle.semantics.specs.Definitions.Terms.{endT, wtT, orElseT, nilT}
+use Rattle.semantics.specs.Definitions.Configuration.{taking, leaf, idle, transaction, Configuration}
 use Rattle.semantics.specs.Definitions.Moves.{act, inside}
+use Rattle.semantics.specs.Definitions.Run.{Quiescent}
 use Rattle.semantics.specs.Definitions.Calls.{openHall}
 use Rattle.semantics.specs.Definitions.Suggestion.{SuggestAnswer, suggested, still, notSuggested, suggestCall}
 use Rattle.semantics.specs.Checks.Examples.{numbers, times, noise, trays, hallOf, attempt, leafOf}
@@ -31,6 +34,17 @@ unfoldable pub suggestedOn : (counts : String) (stations : List ℕ) → Suggest
 unfolding suggestCall writingTable hallOf trays
 suggestedOn counts stations = suggestCall writingTable (hallOf (trays counts) stations)
 
+-- empty trays and one station: an attempt of one branch that can write, and a take
+unfoldable pub attemptAlone : Configuration
+unfolding trays
+attemptAlone =
+    let M = wtT 1 1 (endT 0) in
+    record { counts = trays "0"; components = transaction 4 (orElseT 3 M M) (trays "0") (leaf M []) ∷ [] }
+
+unfoldable pub takeAlone : Configuration
+unfolding trays
+takeAlone = record { counts = trays "0"; components = idle (taking 6 0 (nilT 5)) ∷ [] }
+
 pub record SuggestionExamples : Type 0 where
   -- on the hall just opened the block begins
   pub opened : suggestCall writingTable ((openHall writingTable noise) .hall) ≡ suggested (act 0)
@@ -48,7 +62,7 @@ pub record SuggestionExamples : Type 0 where
   pub or-else : suggestedOn "0" (writing (leafOf 3 0 "") ++ numbers "20 4") ≡ suggested (inside 0 0)
   pub right-kept : suggestedOn "0" (writing (twoWays 255 2) ++ numbers "20 4") ≡ suggested (inside 0 0)
   pub left-kept : suggestedOn "0" (writing (twoWays 0 2) ++ numbers "20 4") ≡ suggested (inside 0 0)
-  pub one-of-each : suggestedOn "1 1 255"
+  pub one-of-each : suggestedOn "1 1"
       (numbers "20 4 20 6 20 8 24 1" ++ writing (leafOf 0 0 "") ++ writing (leafOf 255 0 "") ++ writing (leafOf 0 1 "3")
       ++ attempt 4 "1" (leafOf 7 0 "") ++ writing (leafOf 7 0 "") ++ writing (leafOf 1 0 "") ++ writing (leafOf 3 0 "")
       ++ writing (twoWays 255 2) ++ writing (twoWays 0 2)) ≡ suggested (act 0)
@@ -71,6 +85,9 @@ pub record SuggestionExamples : Type 0 where
   -- still: no station; none that can move
   pub no-station : suggestedOn "0" [] ≡ still
   pub all-wait : suggestedOn "0 0 255" (numbers "20 6 20 8 24 2") ≡ still
+  -- still is not where a move inside an attempt is accepted, and is where a take finds nothing
+  pub attempt-moves : Quiescent attemptAlone → ⊥
+  pub take-waits : Quiescent takeAlone
   -- bytes that are no hall; a hall of another size; and before both a table that is refused, with its place
   pub malformed : suggestCall writingTable noise ≡ notSuggested 11 0
   pub size-mismatch : suggestCall writingTable [] ≡ notSuggested 10 0

@@ -16,8 +16,7 @@ use Rattle.semantics.specs.Definitions.Table.{Table, accepted, readTable
 use Rattle.semantics.specs.Definitions.Configuration.{Tree, Component, transaction, Configuration, opening}
 use Rattle.semantics.specs.Definitions.Stored.{WellFormed, bytesOf, hallBytes}
 use Rattle.semantics.specs.Definitions.Moves.{Entry, act, inside, moved, answerTo, effectOf, ruleNumber}
-use Rattle.semantics.specs.Definitions.Run.{Counters, Step, run, steps, schedule, entries, InBytes}
-use Rattle.semantics.specs.Definitions.Suggestion.{Quiescent}
+use Rattle.semantics.specs.Definitions.Run.{Counters, Step, run, steps, schedule, entries, InBytes, Quiescent}
 use Rattle.semantics.specs.Claims.Denotation.{proc, ongoingOf, componentProcess, Denotes, WithinLimits}
 
 -- the bytes are those of an accepted table

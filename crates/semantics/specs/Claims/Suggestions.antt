@@ -1,6 +1,6 @@
 -- What is claimed of a suggestion (document 02, Q-2; demand 2, its last sentence): that the first accepted choice is
--- suggested and no other, that the order of the two kinds makes no difference, that still is said just where no choice of
--- either kind is accepted, as it was before.
+-- suggested and no other, that the order of the two kinds makes no difference, that still (document 01's) is said just where
+-- no choice of either kind is accepted, and that a refusal is that of a check of the hall.
 -- Assumes nothing.
 use Prim.Native.Nat.{ℕ, suc, _<_}
 use mathlib.Core.Path.{_≡_}
@@ -11,10 +11,10 @@ use Rattle.semantics.specs.Definitions.Layout.{maxByte}
 use Rattle.semantics.specs.Definitions.Basics.{Bytes, countUp, firstOf}
 use Rattle.semantics.specs.Definitions.Table.{Table}
 use Rattle.semantics.specs.Definitions.Configuration.{Configuration}
-use Rattle.semantics.specs.Definitions.Moves.{Entry, act, inside, moved, answerTo}
-use Rattle.semantics.specs.Definitions.Run.{entryBytes, InBytes}
+use Rattle.semantics.specs.Definitions.Moves.{Entry, act, inside, moved, answerTo, isAccepted}
+use Rattle.semantics.specs.Definitions.Run.{entryBytes, InBytes, Quiescent}
 use Rattle.semantics.specs.Definitions.Calls.{rejected, checkHall, admitted, admission, Buffers, runCall}
-use Rattle.semantics.specs.Definitions.Suggestion.{isAccepted, Quiescent, firstAccepted, suggested, still, notSuggested, suggestCall}
+use Rattle.semantics.specs.Definitions.Suggestion.{firstAccepted, suggested, still, notSuggested, suggestCall}
 
 -- ---- the first
 
@@ -75,8 +75,8 @@ StillRunsNone =
 -- ---- turned down
 
 -- a refusal is that of a check of the same table and hall
-unfoldable pub SuggestionRefused : Type 0
+unfoldable pub RefusedAsChecked : Type 0
 unfolding suggestCall checkHall
-SuggestionRefused =
+RefusedAsChecked =
     (table hall : List ℕ) (n p : ℕ) →
     (suggestCall table hall ≡ notSuggested n p) ↔ (checkHall table hall ≡ rejected n p)

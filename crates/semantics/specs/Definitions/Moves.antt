@@ -1,7 +1,7 @@
 -- One choice on a hall (document 01, "Choices and moves" and refusals 14 to 20). A choice is an entry of a schedule.
 -- Assumes nothing.
 use Prim.Native.Nat.{ℕ, zero, suc}
-use mathlib.Core.Bool.{cond}
+use mathlib.Core.Bool.{Bool, true, false, cond}
 use mathlib.Core.Option.{Option, none, some}
 use mathlib.Core.List.{List, [], _∷_, _++_, map}
 use lib.ListN.{length, getElem?}
@@ -149,6 +149,14 @@ unfoldable pub answerTo : Configuration → Entry → Answer
 unfolding atPosition applyAt acts actsInside
 answerTo h (act p) = atPosition (getElem? (h .components) p) (λ c. applyAt p (acts (h .counts) c) h)
 answerTo h (inside p k) = atPosition (getElem? (h .components) p) (λ c. applyAt p (actsInside (h .counts) c k) h)
+
+unfoldable pub isMoved : Answer → Bool
+isMoved (moved r h) = true
+isMoved (refused n) = false
+
+unfoldable pub isAccepted : Configuration → Entry → Bool
+unfolding isMoved answerTo
+isAccepted h e = isMoved (answerTo h e)
 
 -- ---- the rules
 

@@ -1,14 +1,15 @@
 -- A run over the bytes of a schedule (list of choices), with its counters (tally): document 01, "Choices and moves".
 -- Assumes nothing.
 use Prim.Native.Nat.{ℕ, zero, suc, _+_, _≤_, min}
-use mathlib.Core.Bool.{cond}
+use mathlib.Core.Path.{_≡_}
+use mathlib.Core.Bool.{false, cond}
 use mathlib.Core.List.{List, [], _∷_, _++_}
 use lib.Dec.{eqb}
 use lib.IntN.{ℤ, pos, _-ℤ_}
 use Rattle.calculus.specs.Reduction.{Rule}
 use Rattle.semantics.specs.Definitions.Layout.{counterTop, maxByte}
 use Rattle.semantics.specs.Definitions.Configuration.{Configuration}
-use Rattle.semantics.specs.Definitions.Moves.{Entry, act, inside, Answer, moved, refused, answerTo, ruleNumber}
+use Rattle.semantics.specs.Definitions.Moves.{Entry, act, inside, Answer, moved, refused, answerTo, isAccepted, ruleNumber}
 
 -- ---- the bytes of a schedule
 
@@ -37,6 +38,11 @@ entryBytes (inside p k) = 2 ∷ p ∷ k ∷ []
 unfoldable pub InBytes : Entry → Type 0
 InBytes (act p) = p ≤ maxByte
 InBytes (inside p k) = (p ≤ maxByte) × (k ≤ maxByte)
+
+-- quiescent ("still"): no entry whose position and node are bytes is accepted
+unfoldable pub Quiescent : Configuration → Type 0
+unfolding isAccepted InBytes
+Quiescent h = (e : Entry) → InBytes e → isAccepted h e ≡ false
 
 unfoldable pub scheduleBytes : List Entry → List ℕ
 unfolding entryBytes

@@ -3,31 +3,13 @@
 -- of that hall.
 -- Assumes nothing.
 use Prim.Native.Nat.{ℕ, suc}
-use mathlib.Core.Path.{_≡_}
-use mathlib.Core.Bool.{Bool, true, false}
 use mathlib.Core.Option.{Option, none, some}
 use mathlib.Core.List.{List, _∷_, map, flatten}
 use Rattle.semantics.specs.Definitions.Layout.{maxByte}
 use Rattle.semantics.specs.Definitions.Basics.{countUp, firstOf}
 use Rattle.semantics.specs.Definitions.Configuration.{Configuration}
-use Rattle.semantics.specs.Definitions.Moves.{Entry, act, inside, Answer, moved, refused, answerTo}
-use Rattle.semantics.specs.Definitions.Run.{InBytes}
+use Rattle.semantics.specs.Definitions.Moves.{Entry, act, inside, isAccepted}
 use Rattle.semantics.specs.Definitions.Calls.{Admission, admitted, notAdmitted, admission}
-
--- ---- accepted
-
-unfoldable pub isMoved : Answer → Bool
-isMoved (moved r h) = true
-isMoved (refused n) = false
-
-unfoldable pub isAccepted : Configuration → Entry → Bool
-unfolding isMoved answerTo
-isAccepted h e = isMoved (answerTo h e)
-
--- quiescent ("still"): no choice whose position and node are bytes is accepted
-unfoldable pub Quiescent : Configuration → Type 0
-unfolding isAccepted InBytes
-Quiescent h = (e : Entry) → InBytes e → isAccepted h e ≡ false
 
 -- ---- the first accepted entry
 
@@ -38,9 +20,9 @@ unfolding countUp
 entriesAt nodes p = act p ∷ map (inside p) (countUp 0 nodes)
 
 -- those at all positions below a number, lowest first
-unfoldable pub entriesBelow : (positions nodes : ℕ) → List Entry
+unfoldable pub entriesBelow : (nodes positions : ℕ) → List Entry
 unfolding entriesAt countUp flatten
-entriesBelow positions nodes = flatten (map (entriesAt nodes) (countUp 0 positions))
+entriesBelow nodes positions = flatten (map (entriesAt nodes) (countUp 0 positions))
 
 -- of all entries in bytes, the first that is accepted
 unfoldable pub firstAccepted : Configuration → Option Entry

@@ -1,5 +1,5 @@
-//! Calls that run choices, each compared with the second implementation's:
-//! answer, every byte of the hall, every number of the tally.
+//! Calls that run choices or suggest one, each compared with the second
+//! implementation's: answer, every byte of the hall, every number of the tally.
 
 use std::fmt;
 

@@ -93,6 +93,8 @@ int main(void) {
     MUST(place == 0 && done == 0);
 
     /* Still, and refused. */
+    memset(choice, 99, sizeof choice);
+    place = unset;
     MUST(ruonfidd_suggest(table, sizeof table, hall, sizeof hall, choice, &place) == 0 && place == 0);
     MUST(choice[0] == 0 && choice[1] == 0 && choice[2] == 0);
     memset(choice, 99, sizeof choice);

@@ -166,14 +166,14 @@ fn suggested_steps_to_a_still_hall() {
     }
     // It has ended and stays so.
     assert!(steps.next().is_none());
-    let rules: Vec<u8> = made.iter().map(|(_, rule)| *rule).collect();
-    assert_eq!(rules, [4, 8, 10, 7, 1]);
+    let act = Choice::Act { position: 0 };
+    let inside = Choice::Inside {
+        position: 0,
+        node: 0,
+    };
     assert_eq!(
-        made[1].0,
-        Choice::Inside {
-            position: 0,
-            node: 0
-        }
+        made,
+        [(act, 4), (inside, 8), (inside, 10), (act, 7), (act, 1)]
     );
     assert_eq!(hall.suggest(&EXAMPLE), Ok(None));
     assert_eq!(tally.commits, 1);
@@ -225,11 +225,17 @@ fn suggested_steps_leave_out_what_stands_behind() {
     let both = table.side_by_side(block, put);
     let bytes = table.start(both);
     let (mut hall, mut tally) = open(&bytes);
+    let mut made = Vec::new();
     for step in hall.suggested_steps(&bytes, &mut tally).take(300) {
-        let choice = step.expect("an accepted choice").choice;
-        let [_, position, _] = choice.to_bytes();
-        assert_eq!(position, 0);
+        made.push(step.expect("an accepted choice").choice);
     }
+    // It begins, finds nothing and gives up.
+    let act = Choice::Act { position: 0 };
+    let inside = Choice::Inside {
+        position: 0,
+        node: 0,
+    };
+    assert_eq!(made, [act, inside, act].repeat(100));
     assert_eq!((hall.counts()[0], tally.retries), (0, 100));
     // The put is made by hand, and the block ends.
     hall.step(&bytes, Choice::Act { position: 1 }, &mut tally)
