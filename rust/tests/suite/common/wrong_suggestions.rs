@@ -12,50 +12,51 @@ pub(crate) struct Wrong {
 
 /// The right one, for any order of the list: lowest position, then lowest node.
 pub(crate) fn first_of(all: &[[u8; 3]]) -> Option<[u8; 3]> {
-    let order = |[_, position, node]: &[u8; 3]| (*position, *node);
-    all.iter().copied().min_by_key(order)
+    least(all, |[_, position, node]| (position, node))
+}
+
+/// The choice with the least key.
+fn least<K: Ord>(all: &[[u8; 3]], key: impl Fn([u8; 3]) -> K) -> Option<[u8; 3]> {
+    all.iter().copied().min_by_key(|choice| key(*choice))
+}
+
+/// The right one of those choices that are looked at.
+fn first_where(all: &[[u8; 3]], looked_at: impl Fn([u8; 3]) -> bool) -> Option<[u8; 3]> {
+    let some: Vec<[u8; 3]> = all.iter().copied().filter(|it| looked_at(*it)).collect();
+    first_of(&some)
 }
 
 /// None of them is right on every hall.
 pub(crate) const WRONG: [Wrong; 8] = [
     Wrong {
         name: "the last accepted choice",
-        suggests: |all| {
-            let order = |[_, position, node]: &[u8; 3]| (*position, *node);
-            all.iter().copied().max_by_key(order)
-        },
+        suggests: |all| least(all, |[_, position, node]| Reverse((position, node))),
     },
     Wrong {
         name: "the highest node",
-        suggests: |all| {
-            let order = |[_, position, node]: &[u8; 3]| (*position, Reverse(*node));
-            all.iter().copied().min_by_key(order)
-        },
+        suggests: |all| least(all, |[_, position, node]| (position, Reverse(node))),
     },
     Wrong {
         name: "the node before the position",
-        suggests: |all| {
-            let order = |[_, position, node]: &[u8; 3]| (*node, *position);
-            all.iter().copied().min_by_key(order)
-        },
+        suggests: |all| least(all, |[_, position, node]| (node, position)),
     },
     Wrong {
         name: "kind 1 before kind 2",
-        suggests: |all| all.iter().copied().min(),
+        suggests: |all| least(all, |choice| choice),
     },
     Wrong {
         name: "kind 2 before kind 1",
         suggests: |all| {
-            let order = |[kind, position, node]: &[u8; 3]| (Reverse(*kind), *position, *node);
-            all.iter().copied().min_by_key(order)
+            least(all, |[kind, position, node]| {
+                (Reverse(kind), position, node)
+            })
         },
     },
     Wrong {
         name: "the first position that can move is passed over",
         suggests: |all| {
             let first = first_of(all)?;
-            let others: Vec<[u8; 3]> = all.iter().copied().filter(|it| it[1] != first[1]).collect();
-            first_of(&others)
+            first_where(all, |choice| choice[1] != first[1])
         },
     },
     Wrong {
@@ -64,9 +65,6 @@ pub(crate) const WRONG: [Wrong; 8] = [
     },
     Wrong {
         name: "no node but 0",
-        suggests: |all| {
-            let others: Vec<[u8; 3]> = all.iter().copied().filter(|it| it[2] == 0).collect();
-            first_of(&others)
-        },
+        suggests: |all| first_where(all, |choice| choice[2] == 0),
     },
 ];

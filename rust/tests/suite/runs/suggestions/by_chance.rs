@@ -57,11 +57,7 @@ fn followed_from_openings() {
 fn on_any_hall() {
     let mut met = Met::default();
     for seed in seeds("suggestions on any hall", 12_000) {
-        let mut random = Random::new(seed);
-        let bytes = any_table(&mut random);
-        let table = accepted(&bytes);
-        let start = any_hall(&mut random, &table, seed);
-        let mut sequence = Sequence::new(&bytes, &encode(&start), Tally::FRESH);
+        let mut sequence = any_sequence(seed);
         sequence.suggest();
         met.add(&sequence.met);
     }
@@ -77,11 +73,7 @@ fn on_any_hall() {
 fn the_first_that_a_step_accepts() {
     let mut met = Met::default();
     for seed in seeds("suggestions beside steps", 3_000) {
-        let mut random = Random::new(seed);
-        let bytes = any_table(&mut random);
-        let table = accepted(&bytes);
-        let start = any_hall(&mut random, &table, seed);
-        let mut sequence = Sequence::new(&bytes, &encode(&start), Tally::FRESH);
+        let mut sequence = any_sequence(seed);
         let suggestion = sequence.suggest();
         let suggested = suggestion.map_or([0; 3], |choice| step_bytes(choice, 0));
         for act_before_nodes in [true, false] {
@@ -93,6 +85,14 @@ fn the_first_that_a_step_accepts() {
     say(&format!("suggestions beside steps: {met}"));
     assert!(met.of_several >= 1_000 && met.still >= 170, "{met}");
     met.wrong_at_least(30);
+}
+
+/// Any table with any hall of it.
+fn any_sequence(seed: u64) -> Sequence {
+    let mut random = Random::new(seed);
+    let bytes = any_table(&mut random);
+    let start = any_hall(&mut random, &accepted(&bytes), seed);
+    Sequence::new(&bytes, &encode(&start), Tally::FRESH)
 }
 
 /// By turns a hall that a run reaches, one with a single station, and one that
