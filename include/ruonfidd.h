@@ -7,9 +7,10 @@
  * WHAT EVERY CALL GIVES
  *
  * Each call but ruonfidd_fresh_tally and ruonfidd_report returns a number, 0 where nothing is
- * refused.  Whatever is returned, it has set every number that it was given a pointer to: none has
- * to be set beforehand but the tally, which runs and steps count on from.  The one exception is
- * ruonfidd_sentence, which leaves its length as it was where it refuses.
+ * refused.  Whatever is returned, it has set every number that it was given a pointer to, and all
+ * bytes of a choice or a shortage: none has to be set beforehand but the tally, which runs and steps
+ * count on from.  The one exception is ruonfidd_sentence, which leaves its length as it was where it
+ * refuses.
  * Any bytes may be handed in; there are none on which a call does not end, stops the program, or
  * reads or writes past what it was lent.  A call keeps nothing for the next one, allocates nothing
  * and needs a few KB of stack, ruonfidd_report some 20.  The same bytes always get the same answer.
@@ -48,8 +49,8 @@
  * WHAT A CALLER OWES
  *
  * - A pointer and a length are those of memory that may be read, and written where the pointer is
- *   not const.  A null pointer is allowed only with length 0.  Pointers to numbers, to a tally and
- *   to a choice are never null.
+ *   not const.  A null pointer is allowed only with length 0.  Pointers to numbers, to a tally, to
+ *   a choice and to a shortage are never null.
  * - No two buffers of one call overlap, the numbers that it sets included.  (Two that are only read
  *   may.)
  * - While a call is at work, no other thread writes what it was lent, and none reads what it writes.
@@ -108,16 +109,22 @@ uint8_t ruonfidd_run(const uint8_t *table, size_t table_length, uint8_t *hall, s
                      const uint8_t *choices, size_t choices_length, uint32_t tally[3],
                      size_t *place, size_t *done);
 
-/* Makes one choice, as a run of it alone would, and says by which rule.  For kind 1 the node counts
- * for nothing.  Kind, position and node are bytes: C cuts a larger number down to one.
+/* Makes one choice, as a run of it alone would, and says by which rule, and where a commit or a read
+ * fails, which tray was short.  For kind 1 the node counts for nothing.  Kind, position and node are
+ * bytes: C cuts a larger number down to one.
  *
  * Done: 0; the place is the choice's length in a list, 2 or 3; the rule is 1 OUT, 2 IN, 3 REP,
  * 4 ATST, 5 ATRE, 6 ATFAIL, 7 ATOK, 8 ARDOK, 9 ARDF, 10 AWR, 11 AOI, 12 AOF or 13 AOE.
- * Refused: 1 to 12 or 14 to 20, and the place, which is 0 from 10 on; the rule is 0; hall and tally
- * are as they were. */
+ * shortage: by rules 6 and 9 a tray, 0 to 15, and by how many it was short, 1 to 16.  By rule 6 the
+ * reads of the log were held against the counts of now, by rule 9 the reads of the log and this one
+ * against the attempt's snapshot; of all trays that have fewer it is the lowest.  So rule 9 tells the
+ * tray that it reads, short by 1; in a hall that no run reached it may tell another, or more.  By
+ * every other rule nothing was short, and both bytes are 0.
+ * Refused: 1 to 12 or 14 to 20, and the place, which is 0 from 10 on; the rule is 0, the shortage
+ * 0, 0; hall and tally are as they were. */
 uint8_t ruonfidd_step(const uint8_t *table, size_t table_length, uint8_t *hall, size_t hall_length,
                       uint8_t kind, uint8_t position, uint8_t node, uint32_t tally[3],
-                      uint8_t *rule, size_t *place);
+                      uint8_t *rule, uint8_t shortage[2], size_t *place);
 
 /* Suggests the first choice that is accepted.
  *
@@ -140,15 +147,19 @@ uint8_t ruonfidd_suggest(const uint8_t *table, size_t table_length, const uint8_
  * moved: 0 where the choice was refused with the number, any other byte where it moved by the rule of
  * that number.  A step that returned 0 has moved by its rule; any other was refused with what it
  * returned.  For kind 1 the node counts for nothing.
- * The sentence names kind, position, node and number in decimal, and says in words what rules 1 to 13
- * and refusals 1 to 20 mean.  All bytes are taken, also those that no hall gives; no two choices or
- * answers that differ have the same sentence.
+ * tray, short_by: what was short, at any rule; nothing was where short_by is 0, and then the tray
+ * counts for nothing, as both do where the choice was refused.  The two bytes that a step has set are
+ * handed on as they are, whatever it answered.
+ * The sentence names kind, position, node and number in decimal, behind them the tray and by how many
+ * it was short, and says in words what rules 1 to 13 and refusals 1 to 20 mean.  All bytes are taken,
+ * also those that no hall gives; no two choices or answers that differ have the same sentence.
  *
  * Written: 0, and length is how many bytes the sentence has.  It stands at the front of the buffer,
  * with no zero behind it; all other bytes of the buffer are as they were.
  * Refused: 21, where the buffer is shorter than RUONFIDD_SENTENCE_BYTES. */
 uint8_t ruonfidd_sentence(uint8_t kind, uint8_t position, uint8_t node, uint8_t moved, uint8_t number,
-                          uint8_t *buffer, size_t buffer_length, size_t *length);
+                          uint8_t tray, uint8_t short_by, uint8_t *buffer, size_t buffer_length,
+                          size_t *length);
 
 /* No printed run is longer. */
 #define RUONFIDD_REPORT_BYTES 1024

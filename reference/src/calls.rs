@@ -10,6 +10,7 @@ use crate::hall::{decode, encode, opening, Hall, HALL_BYTES};
 use crate::moves::{self, make_move, Outcome};
 use crate::run::{run_choices, Tally};
 use crate::sentence::{sentence, Reply, SENTENCE_ROOM};
+use crate::shortage::Shortage;
 use crate::suggestion::suggestion;
 use crate::table::{read_table, Refusal, Table};
 
@@ -44,8 +45,14 @@ pub struct RunAnswer {
 /// The answer to one choice.
 #[derive(Clone, Copy, Debug, PartialEq, Eq)]
 pub enum StepAnswer {
-    /// The number of the rule, 1 to 13.
-    Moved(u8),
+    /// One rule was done.
+    Moved {
+        /// Its number, 1 to 13.
+        rule: u8,
+        /// What was short: something under rules 6 and 9, nothing under any other
+        /// (document 02, Q-3).
+        short: Option<Shortage>,
+    },
     /// Why nothing moved; the place of 12 to 20 is the choice's first byte, 0.
     Refused(Refusal),
 }
@@ -107,21 +114,25 @@ pub fn run(table: &[u8], hall: &mut [u8], tally: &mut Tally, choices: &[u8]) -> 
 pub fn step(table: &[u8], hall: &mut [u8], tally: &mut Tally, choice: &[u8]) -> StepAnswer {
     match make_step(table, hall, choice) {
         Err(refusal) => StepAnswer::Refused(refusal),
-        Ok((rule, next)) => {
+        Ok((rule, short, next)) => {
             hall.copy_from_slice(&encode(&next));
             *tally = tally.after(rule);
-            StepAnswer::Moved(rule)
+            StepAnswer::Moved { rule, short }
         }
     }
 }
 
-/// The rule and the hall after it, or a refusal.
-fn make_step(table: &[u8], hall: &[u8], choice: &[u8]) -> Result<(u8, Hall), Refusal> {
+/// The rule, what was short and the hall after it, or a refusal.
+fn make_step(
+    table: &[u8],
+    hall: &[u8],
+    choice: &[u8],
+) -> Result<(u8, Option<Shortage>, Hall), Refusal> {
     let refused = |number| Refusal { number, place: 0 };
     let (table, before) = read_both(table, hall)?;
     let choice = first_choice(choice).map_err(refused)?;
     match make_move(&table, &before, choice) {
-        Outcome::Moved { rule, hall } => Ok((rule, hall)),
+        Outcome::Moved { rule, short, hall } => Ok((rule, short, hall)),
         Outcome::Refused(number) => Err(refused(number)),
     }
 }

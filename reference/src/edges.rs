@@ -4,11 +4,25 @@
 //! `1 0 1 0 1 0`. Where `/` cuts the bytes in three they are a table, a stored
 //! hall and choices; a fourth part is the tally that the calls begin with, four
 //! bytes a counter, the highest first. A line without a colon is a heading.
+//!
+//! Of a line its name is printed, then its printed run; of a line with a stored
+//! hall, then what the calls answer:
+//!
+//! | Line | What it tells |
+//! |---|---|
+//! | `H number place` | checking the hall |
+//! | `O number place` | opening a hall in its place |
+//! | `M number place rule tray by` | the first choice alone, and what was short |
+//! | `R number place done` | all choices |
+//! | `C commits failed retries` | the tally after them |
+//! | `B` and bytes | the hall after them, without the zeros at its end |
+//! | `S number place kind position node` | what is suggested for that hall |
 
 use crate::calls::{self, Answer, StepAnswer};
 use crate::choice::Choice;
 use crate::print::printed_run;
 use crate::run::Tally;
+use crate::shortage::Shortage;
 use crate::table::Refusal;
 
 /// A list longer than this is not read whole.
@@ -135,14 +149,13 @@ fn printed_calls(table: &[u8], hall: &[u8], choices: &[u8], first: Tally) -> Str
         Ok(_) => Answer::ACCEPTED,
         Err(Refusal { number, place }) => Answer { number, place },
     };
-    let (step, rule) = first_step(table, hall, choices, first);
     let mut after = hall.to_vec();
     let mut tally = first;
     let run = calls::run(table, &mut after, &mut tally, choices);
     let mut lines = vec![
         format!("H {} {}", check.number, check.place),
         format!("O {} {}", opening.number, opening.place),
-        format!("M {} {} {rule}", step.number, step.place),
+        step_line(table, hall, choices, first),
         format!("R {} {} {}", run.number, run.place, run.done),
         format!("C {} {} {}", tally.commits, tally.failed, tally.retries),
     ];
@@ -173,9 +186,10 @@ fn suggestion_line(table: &[u8], hall: &[u8]) -> String {
     format!("S {number} {place} {kind} {position} {node}")
 }
 
-/// The answer to the first choice alone, and its rule, 0 for none. A missing
-/// byte counts as 0.
-fn first_step(table: &[u8], hall: &[u8], choices: &[u8], first: Tally) -> (Answer, u8) {
+/// The line on the first choice alone: `M number place rule tray by`. The rule is
+/// 0 where it is refused. Tray and by are what was short, and 0 both where nothing
+/// was; what is short is never short by 0. A missing byte of the choice counts as 0.
+fn step_line(table: &[u8], hall: &[u8], choices: &[u8], first: Tally) -> String {
     let byte = |at: usize| choices.get(at).copied().unwrap_or(0);
     let choice = match byte(0) {
         1 => vec![1, byte(1)],
@@ -183,11 +197,11 @@ fn first_step(table: &[u8], hall: &[u8], choices: &[u8], first: Tally) -> (Answe
         kind => vec![kind],
     };
     let mut tally = first;
-    match calls::step(table, &mut hall.to_vec(), &mut tally, &choice) {
-        StepAnswer::Moved(rule) => {
-            let place = choice.len();
-            (Answer { number: 0, place }, rule)
-        }
-        StepAnswer::Refused(Refusal { number, place }) => (Answer { number, place }, 0),
-    }
+    let step = calls::step(table, &mut hall.to_vec(), &mut tally, &choice);
+    let (number, place, rule, short) = match step {
+        StepAnswer::Moved { rule, short } => (0, choice.len(), rule, short),
+        StepAnswer::Refused(Refusal { number, place }) => (number, place, 0, None),
+    };
+    let Shortage { tray, by } = short.unwrap_or(Shortage { tray: 0, by: 0 });
+    format!("M {number} {place} {rule} {tray} {by}")
 }

@@ -1,6 +1,7 @@
 //! The hall as plain data, and its stored form of 11,344 bytes (document 01,
 //! "The stored hall").
 
+use crate::shortage::Shortage;
 use crate::table::{branches, byte_of, length, Counts, Table, Term};
 use crate::table::{MOST_BRANCHES, MOST_LENGTH, TRAYS};
 
@@ -73,9 +74,22 @@ impl Log {
         trays
     }
 
-    /// True when for each tray the reads are at most the count.
+    /// The one test of the reads against counts: nothing when for each tray the
+    /// reads are at most the count, else the lowest tray for which they are not,
+    /// and by how many they are more (document 02, Q-3).
+    pub fn shortage(&self, counts: &Counts) -> Option<Shortage> {
+        (0..TRAYS).find_map(|tray| {
+            let lacking = self.reads_of(tray).checked_sub(usize::from(counts[tray]))?;
+            (lacking > 0).then(|| Shortage {
+                tray: byte_of(tray),
+                by: byte_of(lacking),
+            })
+        })
+    }
+
+    /// True when nothing is short.
     pub fn reads_within(&self, counts: &Counts) -> bool {
-        (0..TRAYS).all(|tray| self.reads_of(tray) <= usize::from(counts[tray]))
+        self.shortage(counts).is_none()
     }
 }
 

@@ -1,8 +1,10 @@
 //! What one choice does to a hall (document 01, "Choices and moves", refusals
-//! 14 to 20).
+//! 14 to 20), and what was short where a commit or a read fails (document 02,
+//!
 
 use crate::choice::Choice;
 use crate::hall::{stations_of, Action, Hall, Leaf, Log, Node, Rest, Station, MOST_STATIONS};
+use crate::shortage::Shortage;
 use crate::table::{byte_of, Counts, Table, Term, TRAYS};
 
 /// A put is done.
@@ -39,6 +41,8 @@ pub enum Outcome {
     Moved {
         /// Its number, 1 to 13.
         rule: u8,
+        /// What was short: something under rules 6 and 9, nothing under any other.
+        short: Option<Shortage>,
         /// The hall after it.
         hall: Hall,
     },
@@ -46,8 +50,13 @@ pub enum Outcome {
     Refused(u8),
 }
 
+/// A rule that finds nothing short.
 fn moved(rule: u8, hall: Hall) -> Outcome {
-    Outcome::Moved { rule, hall }
+    Outcome::Moved {
+        rule,
+        short: None,
+        hall,
+    }
 }
 
 /// One choice on a hall. The hall given is left as it is.
@@ -128,16 +137,14 @@ fn finish(table: &Table, hall: &Hall, position: usize, term: usize, tree: &Node)
             ATRE,
             with_stations(hall, position, vec![Station::Waiting { term }]),
         ),
-        Verdict::End(log) => {
-            if log.reads_within(&hall.counts) {
-                commit(hall, position, &log)
-            } else {
-                moved(
-                    ATFAIL,
-                    with_stations(hall, position, vec![Station::Waiting { term }]),
-                )
-            }
-        }
+        Verdict::End(log) => match log.shortage(&hall.counts) {
+            None => commit(hall, position, &log),
+            short => Outcome::Moved {
+                rule: ATFAIL,
+                short,
+                hall: with_stations(hall, position, vec![Station::Waiting { term }]),
+            },
+        },
     }
 }
 
@@ -173,51 +180,77 @@ fn inside(table: &Table, hall: &Hall, position: usize, node: usize) -> Outcome {
     let Some(here) = tree.at(node) else {
         return Outcome::Refused(16);
     };
-    let Some((rule, new_node)) = move_of_node(table, snapshot, here) else {
+    let Some(made) = move_of_node(table, snapshot, here) else {
         return Outcome::Refused(17);
     };
     let attempt = Station::Attempt {
         term: *term,
         snapshot: *snapshot,
-        tree: tree.replaced(node, &new_node),
+        tree: tree.replaced(node, &made.by),
     };
-    moved(rule, with_stations(hall, position, vec![attempt]))
+    Outcome::Moved {
+        rule: made.rule,
+        short: made.short,
+        hall: with_stations(hall, position, vec![attempt]),
+    }
 }
 
-/// Rules 8 to 13: the rule and what takes the node's place, or nothing when
-/// no rule applies there.
-fn move_of_node(table: &Table, snapshot: &Counts, node: &Node) -> Option<(u8, Node)> {
+/// A move at a node, by one of rules 8 to 13.
+struct NodeMove {
+    /// The number of the rule.
+    rule: u8,
+    /// What was short, where a read failed.
+    short: Option<Shortage>,
+    /// What takes the node's place.
+    by: Node,
+}
+
+/// A move at a node by a rule that finds nothing short.
+fn node_moved(rule: u8, by: Node) -> NodeMove {
+    NodeMove {
+        rule,
+        short: None,
+        by,
+    }
+}
+
+/// Rules 8 to 13, or nothing when no rule applies at the node.
+fn move_of_node(table: &Table, snapshot: &Counts, node: &Node) -> Option<NodeMove> {
     match node {
         Node::Leaf(leaf) => move_of_leaf(table, snapshot, leaf),
         Node::Fork(left, right) => match verdict(table, left) {
-            Verdict::Retry => Some((AOF, (**right).clone())),
-            Verdict::End(_) => Some((AOE, (**left).clone())),
+            Verdict::Retry => Some(node_moved(AOF, (**right).clone())),
+            Verdict::End(_) => Some(node_moved(AOE, (**left).clone())),
             Verdict::Unsettled => None,
         },
     }
 }
 
-fn move_of_leaf(table: &Table, snapshot: &Counts, leaf: &Leaf) -> Option<(u8, Node)> {
+fn move_of_leaf(table: &Table, snapshot: &Counts, leaf: &Leaf) -> Option<NodeMove> {
     let Rest::Term(term) = leaf.rest else {
         return None;
     };
     match table.terms[term] {
         Term::Rd { tray, rest } => {
             let log = leaf.log.with(Action::Read(tray));
-            if log.reads_within(snapshot) {
-                Some((ARDOK, leaf_node(Rest::Term(rest), log)))
-            } else {
-                Some((ARDF, leaf_node(Rest::BareRetry, leaf.log.clone())))
-            }
+            Some(match log.shortage(snapshot) {
+                None => node_moved(ARDOK, leaf_node(Rest::Term(rest), log)),
+                short => NodeMove {
+                    rule: ARDF,
+                    short,
+                    by: leaf_node(Rest::BareRetry, leaf.log.clone()),
+                },
+            })
         }
         Term::Wt { tray, rest } => {
             let log = leaf.log.with(Action::Write(tray));
-            Some((AWR, leaf_node(Rest::Term(rest), log)))
+            Some(node_moved(AWR, leaf_node(Rest::Term(rest), log)))
         }
         Term::OrElse { left, right } => {
             let left = leaf_node(Rest::Term(left), leaf.log.clone());
             let right = leaf_node(Rest::Term(right), leaf.log.clone());
-            Some((AOI, Node::Fork(Box::new(left), Box::new(right))))
+            let fork = Node::Fork(Box::new(left), Box::new(right));
+            Some(node_moved(AOI, fork))
         }
         _ => None,
     }

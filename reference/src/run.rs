@@ -79,7 +79,7 @@ pub fn run_choices(table: &Table, hall: &Hall, tally: Tally, choices: &[u8]) -> 
                 result.number = number;
                 return result;
             }
-            Outcome::Moved { rule, hall } => {
+            Outcome::Moved { rule, hall, .. } => {
                 result.hall = hall;
                 result.tally = result.tally.after(rule);
                 result.rules.push(rule);

@@ -4,7 +4,7 @@
 use std::error::Error;
 use std::fmt;
 
-use crate::{say, Answer, Refusal, Sentence};
+use crate::{say, Answer, Refusal, Sentence, Shortage};
 
 /// One choice. Positions and nodes count from 0. A node of an attempt counts
 /// before the sides below it, and those on the left before those on the right.
@@ -85,6 +85,20 @@ impl Choice {
 /// let moved = hall.step(&table, Choice::Act { position: 0 }, &mut tally)?;
 /// assert_eq!(moved.rule, Moved::OUT);
 /// assert_eq!(moved.to_string(), "Kind 1 at station 0 moved by rule 1, token put.");
+///
+/// // Two blocks that read tray 0, which has one token. Both begin and read, and the
+/// // first is committed: the other, which stands first now, comes too late.
+/// let table = [7, 9, 0, 0, 6, 1, 5, 2, 2, 12, 0, 1, 13, 3];
+/// let (mut hall, mut tally) = Hall::open(&table)?;
+/// hall.run(&table, &[1, 0, 1, 1, 2, 0, 0, 2, 1, 0, 1, 0], &mut tally)?;
+/// let moved = hall.step(&table, Choice::Act { position: 0 }, &mut tally)?;
+/// assert_eq!(moved.rule, Moved::ATFAIL);
+/// let shortage = moved.shortage.unwrap();
+/// assert_eq!((shortage.tray, shortage.by.get()), (0, 1));
+/// assert_eq!(
+///     moved.to_string(),
+///     "Kind 1 at station 0 moved by rule 6, commit failed, tray 0 short by 1."
+/// );
 /// # Ok::<(), Refusal>(())
 /// ```
 #[derive(Clone, Copy, Debug, PartialEq, Eq, Hash)]
@@ -97,6 +111,9 @@ pub struct Moved {
     /// How many bytes the choice has in a list: what a run of this choice alone
     /// would give as its place.
     pub place: usize,
+    /// The lowest tray that was short. [`Moved::ATFAIL`] and [`Moved::ARDF`] tell
+    /// one, and no other rule does.
+    pub shortage: Option<Shortage>,
 }
 
 /// Stations that are no attempts.
@@ -115,7 +132,8 @@ impl Moved {
 impl Moved {
     /// It ended in retry, and the block waits again.
     pub const ATRE: u8 = 5;
-    /// Its commit found too little, and the block waits again.
+    /// Its commit found too little, and the block waits again. The shortage is of
+    /// the log's reads against the counts of now.
     pub const ATFAIL: u8 = 6;
     /// It was committed.
     pub const ATOK: u8 = 7;
@@ -125,7 +143,9 @@ impl Moved {
 impl Moved {
     /// A read was logged.
     pub const ARDOK: u8 = 8;
-    /// A read found too little and became a retry.
+    /// A read found too little and became a retry. The shortage is of the log's
+    /// reads and this one against the attempt's snapshot: where a run from the
+    /// opening reached the hall, it is of the tray that is read, by 1.
     pub const ARDF: u8 = 9;
     /// A write was logged.
     pub const AWR: u8 = 10;
@@ -138,10 +158,11 @@ impl Moved {
 }
 
 impl Moved {
-    /// The choice and its rule in words. Nothing is allocated.
+    /// The choice and its rule in words, and what was short. Nothing is allocated.
     #[must_use]
     pub fn sentence(&self) -> Sentence {
-        say(self.choice.to_bytes(), Answer::Moved(self.rule))
+        let Moved { rule, shortage, .. } = *self;
+        say(self.choice.to_bytes(), Answer::Moved { rule, shortage })
     }
 }
 

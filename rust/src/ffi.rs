@@ -58,6 +58,7 @@ mod library {
             node: u8,
             tally: *mut [u32; 3],
             rule: *mut u8,
+            shortage: *mut [u8; 2],
             place: *mut usize,
         ) -> u8;
         pub(super) fn ruonfidd_suggest(
@@ -80,6 +81,8 @@ mod library {
             node: u8,
             moved: u8,
             number: u8,
+            tray: u8,
+            short_by: u8,
             buffer: *mut u8,
             buffer_length: usize,
             length: *mut usize,
@@ -167,14 +170,16 @@ pub fn run(
 /// One choice, in its three bytes: kind, position, node.
 ///
 /// The number; in `place` its place, or where it is 0 the length of the choice;
-/// in `rule` the number of the rule done, 0 for none. Hall and tally are as the
-/// choice has made them, and as they were where the number is not 0.
+/// in `rule` the number of the rule done, 0 for none; in `shortage` the tray that
+/// was short and by how many, 0 and 0 for none. Hall and tally are as the choice
+/// has made them, and as they were where the number is not 0.
 pub fn step(
     table: &[u8],
     hall: &mut [u8],
     [kind, position, node]: [u8; 3],
     tally: &mut [u32; 3],
     rule: &mut u8,
+    shortage: &mut [u8; 2],
     place: &mut usize,
 ) -> u8 {
     // SAFETY: as for a run.
@@ -189,6 +194,7 @@ pub fn step(
             node,
             tally,
             rule,
+            shortage,
             place,
         )
     }
@@ -224,7 +230,8 @@ pub fn report(input: &[u8], output: &mut [u8; REPORT_BYTES], written: &mut usize
 }
 
 /// The sentence of a choice, in its three bytes, and of its answer: refused with
-/// `number` where `moved` is 0, else moved by the rule `number`.
+/// `number` where `moved` is 0, else moved by the rule `number`, with this tray
+/// short by so many. By 0, nothing was short; so it is too where it was refused.
 ///
 /// The number, 0 or 21. Where it is 0, the sentence stands at the front of the
 /// buffer and its length in `length`; what follows it in the buffer is as it was.
@@ -234,6 +241,7 @@ pub fn sentence(
     [kind, position, node]: [u8; 3],
     moved: u8,
     number: u8,
+    [tray, short_by]: [u8; 2],
     buffer: &mut [u8],
     length: &mut usize,
 ) -> u8 {
@@ -246,6 +254,8 @@ pub fn sentence(
             node,
             moved,
             number,
+            tray,
+            short_by,
             buffer.as_mut_ptr(),
             buffer.len(),
             length,
@@ -405,39 +415,87 @@ mod tests {
         assert_eq!(buffer, before);
     }
 
-    #[test]
-    fn a_step_writes_hall_tally_rule_and_place_and_nothing_beside_them() {
-        let mut buffer = guarded_hall();
-        let mut tallies = [[7; 3], [1, 2, 3], [7; 3]];
-        let mut rules = [99; 3];
+    /// What a step sets beside hall and tally, each between two guards.
+    #[derive(Debug, PartialEq, Eq)]
+    struct Set {
+        rules: [u8; 3],
+        shortages: [[u8; 2]; 3],
+    }
+
+    /// Values that no step sets.
+    const UNSET: Set = Set {
+        rules: [99; 3],
+        shortages: [[88, 99]; 3],
+    };
+
+    /// A step on this hall sets this rule and this shortage, and nothing beside
+    /// them.
+    #[track_caller]
+    fn step_sets(
+        (table, hall): (&[u8], &mut [u8]),
+        choice: [u8; 3],
+        tally: &mut [u32; 3],
+        (number, place): (u8, usize),
+        (rule, shortage): (u8, [u8; 2]),
+    ) {
+        let mut set = UNSET;
+        let (rule_set, shortage_set) = (&mut set.rules[1], &mut set.shortages[1]);
         sets_the_place(
-            |at| {
-                let hall = &mut buffer[1..=HALL_BYTES];
-                step(&TABLE, hall, [1, 0, 77], &mut tallies[1], &mut rules[1], at)
-            },
-            0,
-            2,
+            |at| step(table, hall, choice, tally, rule_set, shortage_set, at),
+            number,
+            place,
         );
-        assert_eq!(rules, [99, 4, 99]);
-        assert_eq!(tallies, [[7; 3], [1, 2, 3], [7; 3]]);
-        assert_eq!((buffer[0], buffer[HALL_BYTES + 1]), (170, 170));
-        assert_eq!(buffer[1..=HALL_BYTES], begun());
-        sets_the_place(
-            |at| {
-                let hall = &mut buffer[1..=HALL_BYTES];
-                step(&TABLE, hall, [2, 0, 0], &mut tallies[1], &mut rules[1], at)
-            },
-            0,
-            3,
-        );
-        assert_eq!(rules, [99, 8, 99]);
-        let mut read = begun();
-        read[35..38].copy_from_slice(&[1, 1, 0]);
-        assert_eq!(buffer[1..=HALL_BYTES], read);
+        let mut expected = UNSET;
+        expected.rules[1] = rule;
+        expected.shortages[1] = shortage;
+        assert_eq!(set, expected, "{choice:?}");
     }
 
     #[test]
-    fn a_refused_step_sets_rule_and_place_and_writes_nothing_else() {
+    fn a_step_writes_hall_tally_rule_shortage_and_place_and_nothing_beside_them() {
+        let mut buffer = guarded_hall();
+        let mut tallies = [[7; 3], [1, 2, 3], [7; 3]];
+        let hall = &mut buffer[1..=HALL_BYTES];
+        let tally = &mut tallies[1];
+        step_sets((&TABLE, hall), [1, 0, 77], tally, (0, 2), (4, [0, 0]));
+        assert_eq!(hall, begun());
+        step_sets((&TABLE, hall), [2, 0, 0], tally, (0, 3), (8, [0, 0]));
+        let mut read = begun();
+        read[35..38].copy_from_slice(&[1, 1, 0]);
+        assert_eq!(hall, read);
+        assert_eq!(tallies, [[7; 3], [1, 2, 3], [7; 3]]);
+        assert_eq!((buffer[0], buffer[HALL_BYTES + 1]), (170, 170));
+    }
+
+    #[test]
+    fn a_step_that_finds_too_little_sets_the_shortage() {
+        let mut tally = [1, 2, 3];
+        // A read of tray 0 where the snapshot has none; the counts have one.
+        let mut hall = begun();
+        hall[18] = 0;
+        step_sets(
+            (&TABLE, &mut hall),
+            [2, 0, 0],
+            &mut tally,
+            (0, 3),
+            (9, [0, 1]),
+        );
+        // An end behind three reads of tray 11, of which there is one.
+        let mut hall = begun();
+        hall[11] = 1;
+        hall[34..40].copy_from_slice(&[23, 0, 3, 11, 11, 11]);
+        step_sets(
+            (&TABLE, &mut hall),
+            [1, 0, 0],
+            &mut tally,
+            (0, 2),
+            (6, [11, 2]),
+        );
+        assert_eq!(tally, [1, 3, 3]);
+    }
+
+    #[test]
+    fn a_refused_step_sets_rule_shortage_and_place_and_writes_nothing_else() {
         let mut hall = begun();
         let before = hall.clone();
         let mut tally = [1, 2, 3];
@@ -451,31 +509,22 @@ mod tests {
             (&TABLE[..], [2, 0, 1], 16, 0),
             (&TABLE[..], [2, 0, 255], 16, 0),
         ] {
-            let mut rule = 99;
-            sets_the_place(
-                |at| step(table, &mut hall, choice, &mut tally, &mut rule, at),
-                number,
-                place,
-            );
-            assert_eq!(rule, 0, "{choice:?}");
+            let answer = (number, place);
+            step_sets((table, &mut hall), choice, &mut tally, answer, (0, [0, 0]));
             assert_eq!(tally, [1, 2, 3]);
             assert_eq!(hall, before);
         }
-        let mut rule = 99;
-        sets_the_place(
-            |at| step(&TABLE, &mut hall[1..], [1, 0, 0], &mut tally, &mut rule, at),
-            10,
-            0,
+        let none = (0, [0, 0]);
+        step_sets(
+            (&TABLE, &mut hall[1..]),
+            [1, 0, 0],
+            &mut tally,
+            (10, 0),
+            none,
         );
-        assert_eq!(rule, 0);
         hall[17] = 0;
-        let mut rule = 99;
-        sets_the_place(
-            |at| step(&TABLE, &mut hall, [1, 0, 0], &mut tally, &mut rule, at),
-            11,
-            0,
-        );
-        assert_eq!((rule, tally), (0, [1, 2, 3]));
+        step_sets((&TABLE, &mut hall), [1, 0, 0], &mut tally, (11, 0), none);
+        assert_eq!(tally, [1, 2, 3]);
     }
 
     #[test]
@@ -527,31 +576,42 @@ mod tests {
     /// has.
     #[test]
     fn a_sentence_writes_its_bytes_and_their_number_and_nothing_beside_them() {
-        for (choice, moved, number, text) in [
+        for (choice, moved, number, shortage, text) in [
             (
                 [1, 0, 7],
                 1,
                 4,
+                [9, 0],
                 &b"Kind 1 at station 0 moved by rule 4, attempt begun."[..],
             ),
             (
                 [2, 63, 14],
                 0,
                 18,
+                [9, 9],
                 b"Kind 2 at station 63, node 14 met refusal 18, tray empty.",
+            ),
+            (
+                [1, 63, 0],
+                1,
+                6,
+                [0, 16],
+                b"Kind 1 at station 63 moved by rule 6, commit failed, tray 0 short by 16.",
             ),
             (
                 [255; 3],
                 255,
                 255,
-                b"Kind 255 at station 255, node 255 moved by rule 255.",
+                [255, 255],
+                b"Kind 255 at station 255, node 255 moved by rule 255, tray 255 short by 255.",
             ),
         ] {
             for lent in [SENTENCE_BYTES, SENTENCE_BYTES + 1, 1_000] {
                 let mut buffer = vec![170; lent + 2];
                 let mut lengths = [usize::MAX; 3];
                 let part = &mut buffer[1..=lent];
-                let refused = sentence(choice, moved, number, part, &mut lengths[1]);
+                let length = &mut lengths[1];
+                let refused = sentence(choice, moved, number, shortage, part, length);
                 assert_eq!(refused, 0);
                 assert_eq!(lengths, [usize::MAX, text.len(), usize::MAX]);
                 assert_eq!(buffer[1..=text.len()], *text);
@@ -566,7 +626,8 @@ mod tests {
         for lent in [0, 1, 53, SENTENCE_BYTES - 1] {
             let mut buffer = vec![170; lent + 2];
             let mut length = usize::MAX;
-            let refused = sentence([1, 0, 0], 1, 4, &mut buffer[1..=lent], &mut length);
+            let part = &mut buffer[1..=lent];
+            let refused = sentence([1, 0, 0], 1, 6, [3, 1], part, &mut length);
             assert_eq!((refused, length), (21, usize::MAX));
             assert!(buffer.iter().all(|byte| *byte == 170));
         }

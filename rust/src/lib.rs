@@ -3,7 +3,7 @@
 //! The engine is a static library, `libruonfidd.a`, that is proved to answer
 //! as the scope's definitions say. This package links it and adds nothing to
 //! its answers: only its number and its place become a [`Result`], those of a
-//! step with its choice.
+//! step with its choice, and two bytes an optional [`Shortage`].
 //!
 //! # Linking
 //!
@@ -24,9 +24,11 @@
 //!   position, and of several there the one with the lowest node.
 //! - Refused by table or hall, 1 to 11, hall and tally stay as they are.
 //!   Where a choice is refused, those before it stay done.
+//! - Where a commit or a read fails, the step tells the lowest tray that was short
+//!   and by how many; no other answer tells one.
 //! - The answer of a step, moved or refused, displays as one English sentence
-//!   of at most [`SENTENCE_BYTES`] bytes, which no other choice, rule or number
-//!   of a refusal has; where a refusal was, is not told.
+//!   of at most [`SENTENCE_BYTES`] bytes, which no other choice, rule, shortage or
+//!   number of a refusal has; where a refusal was, is not told.
 //!   [`say`] gives the sentence of any choice and answer.
 //!
 //! What is proved of a whole list of calls, that each committed block acts in
@@ -87,6 +89,7 @@ mod hall;
 mod printed;
 mod refusal;
 mod sentence;
+mod shortage;
 mod suggested;
 mod tally;
 
@@ -95,6 +98,7 @@ pub use hall::Hall;
 pub use printed::Printed;
 pub use refusal::Refusal;
 pub use sentence::{Answer, Sentence};
+pub use shortage::Shortage;
 pub use suggested::{Followed, SuggestedSteps};
 pub use tally::Tally;
 
@@ -215,9 +219,9 @@ pub fn run(
     }
 }
 
-/// Makes one choice and says by which rule. [`Hall::step`] is the same on a
-/// hall that owns its bytes. The answer, moved or refused, displays as its
-/// sentence.
+/// Makes one choice and says by which rule, and where a commit or a read fails,
+/// which tray was short. [`Hall::step`] is the same on a hall that owns its bytes.
+/// The answer, moved or refused, displays as its sentence.
 ///
 /// # Errors
 ///
@@ -225,14 +229,14 @@ pub fn run(
 /// choice. Hall and tally are then as they were.
 ///
 /// ```
-/// use ruonfidd::{open_hall, step, Choice, Moved, Refusal, HALL_BYTES};
+/// use ruonfidd::{open_hall, step, Choice, Moved, Refusal, Shortage, HALL_BYTES};
 ///
 /// let table = [7, 10, 1, 0, 9, 0, 1, 6, 2, 12, 0, 1, 13, 3];
 /// let mut hall = vec![0; HALL_BYTES];
 /// let mut tally = open_hall(&table, &mut hall).unwrap();
 /// let act = Choice::Act { position: 0 };
 /// let moved = step(&table, &mut hall, act, &mut tally).unwrap();
-/// assert_eq!((moved.rule, moved.place), (Moved::ATST, 2));
+/// assert_eq!((moved.rule, moved.place, moved.shortage), (Moved::ATST, 2, None));
 /// assert_eq!(moved.to_string(), "Kind 1 at station 0 moved by rule 4, attempt begun.");
 ///
 /// // The attempt has not come to its end.
@@ -242,6 +246,19 @@ pub fn run(
 ///     refused.to_string(),
 ///     "Kind 1 at station 0 met refusal 15, station cannot do this."
 /// );
+///
+/// // Without its token the attempt finds tray 0 empty.
+/// let mut hall = vec![0; HALL_BYTES];
+/// let mut tally = open_hall(&table, &mut hall).unwrap();
+/// hall[0] = 0;
+/// step(&table, &mut hall, act, &mut tally).unwrap();
+/// let inside = Choice::Inside { position: 0, node: 0 };
+/// let moved = step(&table, &mut hall, inside, &mut tally).unwrap();
+/// assert_eq!((moved.rule, moved.shortage), (Moved::ARDF, Shortage::new(0, 1)));
+/// assert_eq!(
+///     moved.to_string(),
+///     "Kind 2 at station 0, node 0 moved by rule 9, read failed, tray 0 short by 1."
+/// );
 /// ```
 pub fn step(
     table: &[u8],
@@ -250,15 +267,23 @@ pub fn step(
     tally: &mut Tally,
 ) -> Result<Moved, Refused> {
     let mut words = tally.to_words();
-    let (mut rule, mut place) = (0, 0);
-    let bytes = choice.to_bytes();
-    let number = ffi::step(table, hall, bytes, &mut words, &mut rule, &mut place);
+    let (mut rule, mut shortage, mut place) = (0, [0; 2], 0);
+    let number = ffi::step(
+        table,
+        hall,
+        choice.to_bytes(),
+        &mut words,
+        &mut rule,
+        &mut shortage,
+        &mut place,
+    );
     *tally = Tally::from_words(words);
     match Refusal::unless_zero(number, place) {
         Ok(()) => Ok(Moved {
             choice,
             rule,
             place,
+            shortage: Shortage::from_bytes(shortage),
         }),
         Err(refusal) => Err(Refused { choice, refusal }),
     }
@@ -352,18 +377,18 @@ pub fn print_run(input: &[u8]) -> Printed {
 /// use ruonfidd::{say_into, Answer, Refusal, SENTENCE_BYTES};
 ///
 /// let mut buffer = [b'.'; SENTENCE_BYTES];
-/// let length = say_into([1, 0, 0], Answer::Moved(6), &mut buffer)?;
-/// assert_eq!(buffer[..length], *b"Kind 1 at station 0 moved by rule 6, commit failed.");
+/// let length = say_into([1, 0, 0], Answer::moved(7), &mut buffer)?;
+/// assert_eq!(buffer[..length], *b"Kind 1 at station 0 moved by rule 7, block committed.");
 /// assert!(buffer[length..].iter().all(|byte| *byte == b'.'));
 ///
-/// let refusal = say_into([1, 0, 0], Answer::Moved(6), &mut buffer[1..]).unwrap_err();
+/// let refusal = say_into([1, 0, 0], Answer::moved(7), &mut buffer[1..]).unwrap_err();
 /// assert_eq!((refusal.number, refusal.place), (Refusal::BUFFER_TOO_SHORT, 0));
 /// # Ok::<(), Refusal>(())
 /// ```
 pub fn say_into(choice: [u8; 3], answer: Answer, buffer: &mut [u8]) -> Result<usize, Refusal> {
-    let [moved, number] = answer.to_bytes();
+    let (moved, number, shortage) = answer.to_bytes();
     let mut length = 0;
-    let refused = ffi::sentence(choice, moved, number, buffer, &mut length);
+    let refused = ffi::sentence(choice, moved, number, shortage, buffer, &mut length);
     Refusal::unless_zero(refused, 0).map(|()| length)
 }
 
@@ -372,7 +397,7 @@ pub fn say_into(choice: [u8; 3], answer: Answer, buffer: &mut [u8]) -> Result<us
 /// The answers of a step have theirs already: see [`Moved`] and [`Refused`].
 ///
 /// ```
-/// use ruonfidd::{say, Answer};
+/// use ruonfidd::{say, Answer, Shortage};
 ///
 /// let sentence = say([2, 3, 14], Answer::Refused(17));
 /// assert_eq!(
@@ -380,10 +405,11 @@ pub fn say_into(choice: [u8; 3], answer: Answer, buffer: &mut [u8]) -> Result<us
 ///     "Kind 2 at station 3, node 14 met refusal 17, no move at this node."
 /// );
 /// // No hall gives this one.
-/// let sentence = say([255, 255, 255], Answer::Moved(255));
+/// let shortage = Shortage::new(255, 255);
+/// let sentence = say([255; 3], Answer::Moved { rule: 255, shortage });
 /// assert_eq!(
 ///     sentence.to_string(),
-///     "Kind 255 at station 255, node 255 moved by rule 255."
+///     "Kind 255 at station 255, node 255 moved by rule 255, tray 255 short by 255."
 /// );
 /// ```
 #[must_use]

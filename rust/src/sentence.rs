@@ -3,24 +3,39 @@
 use std::fmt;
 use std::str;
 
-use crate::{say_into, SENTENCE_BYTES};
+use crate::{say_into, Shortage, SENTENCE_BYTES};
 
-/// What came of a choice. Any number may stand here, also one that no hall
-/// answers.
+/// What came of a choice. Any numbers may stand here, also some that no hall
+/// answers, and a shortage at any rule.
 #[derive(Clone, Copy, Debug, PartialEq, Eq, Hash)]
 pub enum Answer {
-    /// It moved, by the rule of this number.
-    Moved(u8),
+    /// It moved.
+    Moved {
+        /// The number of the rule.
+        rule: u8,
+        /// What was short, if anything was.
+        shortage: Option<Shortage>,
+    },
     /// It was refused, with this number.
     Refused(u8),
 }
 
 impl Answer {
-    /// Whether it moved, as the library takes it, and the number.
-    pub(crate) fn to_bytes(self) -> [u8; 2] {
+    /// It moved by the rule of this number, and nothing was short.
+    #[must_use]
+    pub fn moved(rule: u8) -> Answer {
+        Answer::Moved {
+            rule,
+            shortage: None,
+        }
+    }
+
+    /// As the library takes it: whether it moved, the number, and the two bytes
+    /// of what was short.
+    pub(crate) fn to_bytes(self) -> (u8, u8, [u8; 2]) {
         match self {
-            Answer::Moved(rule) => [1, rule],
-            Answer::Refused(number) => [0, number],
+            Answer::Moved { rule, shortage } => (1, rule, Shortage::to_bytes(shortage)),
+            Answer::Refused(number) => (0, number, Shortage::to_bytes(None)),
         }
     }
 }
@@ -28,12 +43,13 @@ impl Answer {
 /// A choice and its answer in words: what [`say`](crate::say) gives.
 ///
 /// ```
-/// use ruonfidd::{say, Answer};
+/// use ruonfidd::{say, Answer, Shortage};
 ///
-/// let sentence = say([2, 3, 14], Answer::Refused(17));
+/// let shortage = Shortage::new(3, 1);
+/// let sentence = say([2, 5, 14], Answer::Moved { rule: 9, shortage });
 /// assert_eq!(
 ///     sentence.as_str(),
-///     "Kind 2 at station 3, node 14 met refusal 17, no move at this node."
+///     "Kind 2 at station 5, node 14 moved by rule 9, read failed, tray 3 short by 1."
 /// );
 /// assert_eq!(sentence.to_string(), sentence.as_str());
 /// assert_eq!(sentence.as_bytes(), sentence.as_str().as_bytes());

@@ -1,6 +1,6 @@
 //! A hall under way: the engine's bytes and tally, with the names beside them.
 
-use ruonfidd::{Choice, Hall, Refusal, Tally};
+use ruonfidd::{Choice, Hall, Refusal, Shortage, Tally};
 
 use crate::names::Names;
 use crate::rules::{self, Rule};
@@ -26,6 +26,8 @@ pub struct Happened {
     pub choice: Choice,
     /// The engine's answer.
     pub rule: Rule,
+    /// What was short, as the engine told it: where a commit or a take failed.
+    pub shortage: Option<Shortage>,
     /// The hall before.
     pub before: Moment,
     /// The hall after.
@@ -105,6 +107,7 @@ impl<'a> Rehearsal<'a> {
         Ok(Happened {
             choice,
             rule,
+            shortage: moved.shortage,
             before,
             after,
         })

@@ -1,11 +1,11 @@
 //! What an accepted choice did, in a sentence with names and changed counts.
 
-use ruonfidd::{Choice, Moved};
+use ruonfidd::{Choice, Moved, Shortage};
 
 use crate::board::doing;
 use crate::measures::measures;
 use crate::rehearsal::Happened;
-use crate::stations::{puts, takes, Attempt, Leaf, Node, Station};
+use crate::stations::{puts, takes, Action, Attempt, Leaf, Node, Station};
 use crate::table::{Counts, Table, Term};
 use crate::text::tree::Program;
 use crate::ways::{count_of, notes, shortages, tray_counts, trays_counted, trays_taken};
@@ -146,12 +146,13 @@ impl<'a> Teller<'a> {
     ) -> String {
         match leaf.rest.map(|rest| self.table.term(rest)) {
             Some(Term::NoteTake { tray, .. }) => {
-                let in_all = count_of(&takes(&leaf.log), tray).saturating_add(1);
+                let needs = takes(&[&leaf.log[..], &[Action::Take(tray)]].concat());
+                if let Some(short) = happened.shortage {
+                    return self.lacking(short, &needs, &attempt.remembers, who);
+                }
+                let in_all = count_of(&needs, tray);
                 let remembered = count_of(&attempt.remembers, tray);
                 let tray = self.tray(tray);
-                if happened.rule.number == Moved::ARDF {
-                    return format!("{who} lacks {tray}: it would take {in_all} and remembers {remembered}. This way gives up.");
-                }
                 let more = if in_all > 1 {
                     format!("one more {tray}, {in_all} in all")
                 } else {
@@ -166,6 +167,17 @@ impl<'a> Teller<'a> {
             Some(Term::OrElse { left, right }) => self.split(leaf, left, right, who, node),
             _ => String::new(),
         }
+    }
+
+    /// A take for which too little is remembered: the tray is the engine's answer.
+    fn lacking(&self, short: Shortage, needs: &Counts, remembers: &Counts, who: &str) -> String {
+        let Shortage { tray, by } = short;
+        format!(
+            "{who} lacks {by} of {}: it would take {} and remembers {}. This way gives up.",
+            self.tray(tray),
+            count_of(needs, tray),
+            count_of(remembers, tray)
+        )
     }
 
     /// A way that becomes several.
@@ -233,26 +245,33 @@ impl<'a> Teller<'a> {
             Moved::ATRE => format!("{who} gives up: no way was left. Nothing was taken or laid down, and its block waits again."),
             Moved::ATFAIL => format!(
                 "{who} fails to commit: {}. Its notes are thrown away, and its block waits again.",
-                self.short(&needs, &happened.before.counts)
+                self.short(happened, &needs)
             ),
             _ => self.commit(happened, &needs, &puts(log), who),
         }
     }
 
-    /// `it noted 2 of sheet, but sheet has 1 now`
-    fn short(&self, needs: &Counts, counts: &Counts) -> String {
-        let words: Vec<String> = shortages(needs, counts)
+    /// `sheet is short by 1 (2 noted, 1 there now)`: the tray that the engine tells,
+    /// which is the first one, and behind it any others.
+    fn short(&self, happened: &Happened, needs: &Counts) -> String {
+        let counts = &happened.before.counts;
+        let told = happened.shortage.map(|it| (it.tray, it.by.get()));
+        let others = shortages(needs, counts)
             .into_iter()
-            .map(|(tray, _)| {
-                let name = self.tray(tray);
+            .filter(|(tray, _)| told.map_or(true, |(told, _)| told != *tray));
+        let words: Vec<String> = told
+            .into_iter()
+            .chain(others)
+            .map(|(tray, by)| {
                 format!(
-                    "it noted {} of {name}, but {name} has {} now",
+                    "{} is short by {by} ({} noted, {} there now)",
+                    self.tray(tray),
                     count_of(needs, tray),
                     count_of(counts, tray)
                 )
             })
             .collect();
-        words.join("; ")
+        words.join(", ")
     }
 
     fn commit(&self, happened: &Happened, needs: &Counts, puts: &[u8], who: &str) -> String {

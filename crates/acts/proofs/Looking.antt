@@ -9,10 +9,11 @@ use lib.ListN.{getD}
 use Rattle.semantics.specs.Definitions.Terms.{Term}
 use Rattle.semantics.specs.Definitions.Configuration.{transaction, Configuration}
 use Rattle.semantics.specs.Definitions.Stored.{componentBytes}
-use Rattle.semantics.specs.Definitions.Moves.{act, atPosition, answerTo, replyOf}
+use Rattle.semantics.specs.Definitions.Moves.{act, atPosition, respondTo, replyOf}
 use Rattle.terms.specs.Decoded.{Decoded}
 use Rattle.stored.specs.Layout.{indexSize}
 use Rattle.rules.specs.declared.Reply.{Reply}
+use Rattle.rules.specs.declared.Shortage.the-variants.{Enough}
 use Rattle.rules.specs.declared.Reply.the-variants.{Moved, Refused}
 use Rattle.rules.specs.Replies.{replyIs}
 use Rattle.index.specs.Holds.{Holds, Running}
@@ -34,7 +35,7 @@ occupant-is f e = rw e at f
 module _ {d s starts : List ℕ} {n p : ℕ} {o : Occupant} (f : OccupantRead d s starts n p o) where
   -- refusal 14
   pub nothing-looked : {q : ℕ} → o ≡ Nothing → p ≡ q → Looked d s starts n (act q) (Refused 14)
-  unfolding answerTo atPosition replyOf replyIs
+  unfolding respondTo atPosition replyOf replyIs
   nothing-looked is e = rw (← e) (record { found = λ ts h y x. rw (occupant-is f is .found ts h y x) refl })
 
   -- a transaction
@@ -86,7 +87,7 @@ module _ {d s starts : List ℕ} {n p : ℕ} {o : Occupant} (f : OccupantRead d 
     })
 
   -- a block: ATST
-  pub block-looked : {q : ℕ} → o ≡ Block → p ≡ q → Looked d s starts n (act q) (Moved 4)
+  pub block-looked : {q : ℕ} → o ≡ Block → p ≡ q → Looked d s starts n (act q) (Moved 4 Enough)
   unfolding replyIs
   block-looked is e = rw (← e) (record {
     found = λ ts h y x. let (m, M, there) = occupant-is f is .found ts h y x in sym (block-begins x p m M there);

@@ -18,6 +18,8 @@ use Rattle.communication.proofs.Acting.{Local, acts-local}
 use Rattle.blocks.proofs.Numbers.{BlockMove, begins, retries, fails, commits, act-made}
 use Rattle.semantics.specs.Definitions.Moves.{act, LocalAnswer, moves}
 use Rattle.rules.specs.declared.Reply.{Reply}
+use Rattle.rules.specs.declared.Shortage.{Shortage}
+use Rattle.rules.specs.declared.Shortage.the-variants.{Enough}
 use Rattle.rules.specs.declared.Reply.the-variants.{Moved, Refused}
 use Rattle.index.specs.Holds.{Running}
 use Rattle.acts.specs.declared.occupants.Occupant.{Occupant}
@@ -38,32 +40,32 @@ module _ {d s starts : List ℕ} {n p rule : ℕ} (x : Accepts d s starts n (act
   h = x .configuration
 
   own-move : (c : Component) → getElem? (h .components) p ≡ some c →
-      let a = acted h p rule (x .reply) in Local (h .counts) c (moves (a .rule) (a .result .counts) (a .laid))
+      let a = acted h p rule (x .by) in Local (h .counts) c (moves (a .rule) (a .lacks) (a .result .counts) (a .laid))
   own-move c f =
-      let a = acted h p rule (x .reply) in
+      let a = acted h p rule (x .by) in
       let there = a .found in
       let same : a .component ≡ c = cc in
-      local-as (h .counts) (a .component) c (moves (a .rule) (a .result .counts) (a .laid)) same
+      local-as (h .counts) (a .component) c (moves (a .rule) (a .lacks) (a .result .counts) (a .laid)) same
       (rw (a .local) at (acts-local (h .counts) (a .component)))
 
   -- the numbers of the rules by which it acts
   output-number : {a : ℕ} → OccupantRead d s starts n p (Output a) → rule ≡ 1
   output-number {a} f =
-      sym (acted h p rule (x .reply) .number) ∙ own-move (idle (output a)) (f .found (x .terms) h (x .decoded) (x .holds)) .0
+      sym (acted h p rule (x .by) .number) ∙ own-move (idle (output a)) (f .found (x .terms) h (x .decoded) (x .holds)) .0
 
   take-number : {m : ℕ} → OccupantRead d s starts n p (Take m) → (b : Bool) × (rule ≡ takeNumber b)
   take-number {m} f = let (b, a, P, e) = f .found (x .terms) h (x .decoded) (x .holds) in (b, go b a P e)
     where
       go : (b : Bool) (a : Name) (P : Program) → getElem? (h .components) p ≡ some (idle (takeOf b m a P)) → rule ≡ takeNumber b
-      go false a P e = sym (acted h p rule (x .reply) .number) ∙ own-move _ e .0
-      go true a P e = sym (acted h p rule (x .reply) .number) ∙ own-move _ e .0
+      go false a P e = sym (acted h p rule (x .by) .number) ∙ own-move _ e .0
+      go true a P e = sym (acted h p rule (x .by) .number) ∙ own-move _ e .0
 
   end-number : OccupantRead d s starts n p Transaction → (4 < rule) × (rule ≤ 7)
   end-number f =
       let (m, M, σ, t, e) = f .found (x .terms) h (x .decoded) (x .holds) in
       let above = own-move (transaction m M σ t) e in
-      let same = acted h p rule (x .reply) .number in
-      let made = act-made h p rule (omega arith) (x .reply) in
+      let same = acted h p rule (x .by) .number in
+      let made = act-made h p rule (omega arith) (x .by) in
       let there = made .acted .found in
       go (made .acted .component) m M σ t (cc) (made .move)
     where
@@ -93,7 +95,7 @@ module _ {d s starts : List ℕ} {n p : ℕ} {o : Occupant} (f : OccupantRead d 
   act-nothing is e = chosen-refused (nothing-looked f is e) refl
 
   -- OUT
-  module _ {a : ℕ} (is : o ≡ Output a) {r : Reply} (g : OutputLooked s a r) {rule : ℕ} (moves : r ≡ Moved rule)
+  module _ {a : ℕ} (is : o ≡ Output a) {r : Reply} (g : OutputLooked s a r) {rule : ℕ} {w : Shortage} (moves : r ≡ Moved rule w)
       (x : Running d s starts n) where
     accepts-put : Accepts d s starts n (act p) rule
     accepts-put = looked-accepts x (output-looked f is g refl) moves
@@ -102,7 +104,7 @@ module _ {d s starts : List ℕ} {n p : ℕ} {o : Occupant} (f : OccupantRead d 
     can-put = record { decoded = d; accepts = renamed (output-number accepts-put (occupant-is f is)) accepts-put }
 
     pub act-put : {q : ℕ} {s′ starts′ : List ℕ} {n′ : ℕ} → TokenPut s starts n p s′ starts′ n′ → p ≡ q →
-        Chosen d s starts n (act q) (Moved rule) s′ starts′ n′
+        Chosen d s starts n (act q) (Moved rule w) s′ starts′ n′
     act-put t e =
         act-named
         (chosen-moved (output-looked f is g refl) moves
@@ -118,11 +120,11 @@ module _ {d s starts : List ℕ} {n p : ℕ} {o : Occupant} (f : OccupantRead d 
     can-begin x = looked-accepts x (block-looked f is refl) refl
 
     pub act-begin : {q : ℕ} {s′ starts′ : List ℕ} → Applied d s starts n (act p) 4 s′ starts′ n → p ≡ q →
-        Chosen d s starts n (act q) (Moved 4) s′ starts′ n
+        Chosen d s starts n (act q) (Moved 4 Enough) s′ starts′ n
     act-begin t e = act-named (chosen-moved (block-looked f is refl) refl t) e
 
   -- IN, and REP
-  module _ {m : ℕ} (is : o ≡ Take m) {r : Reply} (g : TakeLooked d s n m r) {rule : ℕ} (moves : r ≡ Moved rule)
+  module _ {m : ℕ} (is : o ≡ Take m) {r : Reply} (g : TakeLooked d s n m r) {rule : ℕ} {w : Shortage} (moves : r ≡ Moved rule w)
       (x : Running d s starts n) where
     accepts-take : Accepts d s starts n (act p) rule
     accepts-take = looked-accepts x (take-looked f is g refl) moves
@@ -133,13 +135,13 @@ module _ {d s starts : List ℕ} {n p : ℕ} {o : Occupant} (f : OccupantRead d 
         record { repeated = b; accepts = renamed same accepts-take }
 
     pub act-take : {s′ starts′ : List ℕ} {n′ : ℕ} → TokenTaken d s starts n p s′ starts′ n′ →
-        Chosen d s starts n (act p) (Moved rule) s′ starts′ n′
+        Chosen d s starts n (act p) (Moved rule w) s′ starts′ n′
     act-take t =
         let (b, same) = take-number accepts-take (occupant-is f is) in
         chosen-moved (take-looked f is g refl) moves (renamed-back same (t .applied b))
 
   -- ATOK, ATRE and ATFAIL
-  module _ (is : o ≡ Transaction) {r : Reply} (g : EndLooked d s n (getD starts p 0) r) {rule : ℕ} (moves : r ≡ Moved rule)
+  module _ (is : o ≡ Transaction) {r : Reply} (g : EndLooked d s n (getD starts p 0) r) {rule : ℕ} {w : Shortage} (moves : r ≡ Moved rule w)
       (x : Running d s starts n) where
     accepts-end : Accepts d s starts n (act p) rule
     accepts-end = looked-accepts x (end-looked f is g refl) moves
@@ -148,7 +150,7 @@ module _ {d s starts : List ℕ} {n p : ℕ} {o : Occupant} (f : OccupantRead d 
     can-commit c = record { decoded = d; accepts = renamed c accepts-end }
 
     pub act-commit : rule ≡ 7 → {s′ starts′ : List ℕ} {n′ : ℕ} → Committed s starts n p s′ starts′ n′ →
-        Chosen d s starts n (act p) (Moved rule) s′ starts′ n′
+        Chosen d s starts n (act p) (Moved rule w) s′ starts′ n′
     act-commit c t = chosen-moved (end-looked f is g refl) moves (renamed-back c (t .found d))
 
     module _ (other : rule ≡ 7 → ⊥) where
@@ -161,5 +163,5 @@ module _ {d s starts : List ℕ} {n p : ℕ} {o : Occupant} (f : OccupantRead d 
       can-restart = record { decoded = d; rule = rule; either = restarts; accepts = accepts-end }
 
       pub act-restart : {s′ starts′ : List ℕ} → Restarted s starts n p s′ starts′ →
-          Chosen d s starts n (act p) (Moved rule) s′ starts′ n
+          Chosen d s starts n (act p) (Moved rule w) s′ starts′ n
       act-restart t = chosen-moved (end-looked f is g refl) moves (t .found d rule restarts)

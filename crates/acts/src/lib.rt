@@ -10,6 +10,7 @@ use rules::ATOK;
 use rules::ATST;
 use rules::NO_COMPONENT;
 use rules::Reply;
+use rules::Shortage;
 use stored::INDEX_SIZE;
 use terms::DECODED;
 ghost use Rattle.semantics.specs.Definitions.Moves.{act};
@@ -41,7 +42,7 @@ pub fn look_act(
         Occupant::Nothing => Reply::Refused(NO_COMPONENT),
         Occupant::Transaction => blocks::look_end(decoded, hall, starts[p], components),
         Occupant::Output { channel } => communication::look_out(hall, channel),
-        Occupant::Block => Reply::Moved(ATST),
+        Occupant::Block => Reply::Moved(ATST, Shortage::Enough),
         Occupant::Take { term } => communication::look_take(decoded, hall, components, term),
     }
 }
@@ -61,18 +62,18 @@ fn act_end(
 {
     let begin = starts[position];
     match blocks::look_end(decoded, hall, begin, components) {
-        Reply::Moved(rule) => {
+        Reply::Moved(rule, shortage) => {
             if rule == ATOK {
                 let now = blocks::commit(hall, starts, components, position);
                 return Made {
-                    reply: Reply::Moved(rule),
+                    reply: Reply::Moved(rule, shortage),
                     components: now,
                 };
             }
             // ATRE and ATFAIL
             blocks::restart(hall, starts, components, position);
             Made {
-                reply: Reply::Moved(rule),
+                reply: Reply::Moved(rule, shortage),
                 components,
             }
         }
@@ -98,10 +99,10 @@ fn act_take(
         (r .reply) (now (hall .exit)) (now (starts .exit)) (r .components) ⌝ }
 {
     match communication::look_take(decoded, hall, components, term) {
-        Reply::Moved(rule) => {
+        Reply::Moved(rule, shortage) => {
             let now = communication::take(decoded, hall, starts, components, position);
             Made {
-                reply: Reply::Moved(rule),
+                reply: Reply::Moved(rule, shortage),
                 components: now,
             }
         }
@@ -132,10 +133,10 @@ pub fn act(
         },
         Occupant::Transaction => act_end(decoded, hall, starts, components, p),
         Occupant::Output { channel } => match communication::look_out(hall, channel) {
-            Reply::Moved(rule) => {
+            Reply::Moved(rule, shortage) => {
                 let now = communication::put(hall, starts, components, p);
                 Made {
-                    reply: Reply::Moved(rule),
+                    reply: Reply::Moved(rule, shortage),
                     components: now,
                 }
             }
@@ -147,7 +148,7 @@ pub fn act(
         Occupant::Block => {
             blocks::begin(decoded, hall, starts, components, p);
             Made {
-                reply: Reply::Moved(ATST),
+                reply: Reply::Moved(ATST, Shortage::Enough),
                 components,
             }
         }

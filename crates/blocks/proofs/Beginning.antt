@@ -12,9 +12,10 @@ use Rattle.semantics.specs.Definitions.Terms.{Expression, Term, process, atomT,
 use Rattle.semantics.specs.Definitions.Logs.{emptyLog}
 use Rattle.semantics.specs.Definitions.Configuration.{block, leaf, Component, idle, transaction, Configuration}
 use Rattle.semantics.specs.Definitions.Stored.{treeBytes, componentBytes, ComponentOk}
-use Rattle.semantics.specs.Definitions.Moves.{act, acts, answerTo, ruleNumber, movedBy, replyOf}
+use Rattle.semantics.specs.Definitions.Shortage.{enough}
+use Rattle.semantics.specs.Definitions.Moves.{act, acts, respondTo, answerTo, ruleNumber, movedBy, replyOf}
 use Rattle.theorems.proofs.Lists.{found-below, length-replaceAt}
-use Rattle.theorems.proofs.Moves.{positionOf, localMove, accepted-made}
+use Rattle.theorems.proofs.Moves.{positionOf, localMove, response-made}
 use Rattle.terms.specs.Decoded.{Decoded, maxTerms, firstAt}
 use Rattle.buffer.specs.Splice.{written}
 use Rattle.buffer.proofs.Written.{written-twice}
@@ -24,7 +25,7 @@ use Rattle.storedlaws.proofs.Starts.{idle-size}
 use Rattle.logs.specs.declared.Log.{Log}
 use Rattle.logs.specs.Values.{LogIs}
 use Rattle.index.specs.Holds.{Holds, Replaced, CanReplace}
-use Rattle.index.specs.Choices.{Accepts, Applied, afterwards}
+use Rattle.index.specs.Choices.{AcceptedBy, Accepts, Applied, afterwards}
 use Rattle.index.proofs.Holding.{hall-length, counts-here, start-below-used, used-inside, position-below, component-ok, component-ends, body-here}
 use Rattle.index.proofs.Replacing.{one-spaced}
 use Rattle.blocks.specs.Begins.{begunSize, firstLeaf, begunBytes}
@@ -77,7 +78,7 @@ transaction-laid s n e first head r l f g q =
 -- ---- the move
 
 module _ (ts : List Term) (h : Configuration) (d s starts : List ℕ) (n p : ℕ) (decoded : Decoded ts d)
-    (x : Holds ts h s starts n) (q : replyOf (answerTo h (act p)) ≡ movedBy 4) where
+    (x : Holds ts h s starts n) (q : AcceptedBy h (act p) 4) where
   pub atst-link : (b e : ℕ) (new : List ℕ) → b ≡ getD s (getD starts p 0 + componentBody) 0 → e ≡ firstAt d b →
       new ≡ begunBytes s (getD s (getD starts p 0 + componentBody) 0) e →
       Replacement ts (afterwards (answerTo h (act p)) h) s starts n p new 1
@@ -105,7 +106,7 @@ module _ (ts : List Term) (h : Configuration) (d s starts : List ℕ) (n p : ℕ
 module _ (d s starts : List ℕ) (n p : ℕ) (x : Accepts d s starts n (act p) 4) where
   -- the block at the position
   waits : (k : ℕ) × (M : Expression) × (getElem? (x .configuration .components) p ≡ some (idle (block k M)))
-  waits = let m = act-made (x .configuration) p 4 (omega arith) (x .reply) in elim (m .move) [
+  waits = let m = act-made (x .configuration) p 4 (omega arith) (x .by) in elim (m .move) [
     | begins k M c i τ cs ↦ (k, M, m .acted .found ∙ ap some c)
     | retries k M σ j δ c i τ cs ↦ absurd (omega arith)
     | fails k M σ j δ c i τ cs ↦ absurd (omega arith)
@@ -140,7 +141,7 @@ module _ (d s starts : List ℕ) (n p b e : ℕ) (new : List ℕ) (f : b ≡ get
     (g : e ≡ firstAt d b) (laid : new ≡ begunBytes s (getD s (getD starts p 0 + componentBody) 0) e) where
   pub begin-can : Accepts d s starts n (act p) 4 → CanReplace s starts n p new 1
   begin-can x =
-      replacement-can (atst-link (x .terms) (x .configuration) d s starts n p (x .decoded) (x .holds) (x .reply) b e
+      replacement-can (atst-link (x .terms) (x .configuration) d s starts n p (x .decoded) (x .holds) (x .by) b e
       new f g laid)
 
   pub begin-applied : (s′ starts′ : List ℕ) (n′ : ℕ) → Replaced s starts n p new 1 s′ starts′ n′ →
@@ -154,10 +155,10 @@ module _ (d s starts : List ℕ) (n p b e : ℕ) (new : List ℕ) (f : b ≡ get
 -- ATST is never refused: the number of components stays
 pub block-begins : {ts : List Term} {h : Configuration} {s starts : List ℕ} {n : ℕ} → Holds ts h s starts n →
     (p m : ℕ) (M : Expression) → getElem? (h .components) p ≡ some (idle (block m M)) →
-    replyOf (answerTo h (act p)) ≡ movedBy 4
+    replyOf (respondTo h (act p)) ≡ movedBy 4 enough
 unfolding positionOf localMove acts replyOf ruleNumber
 block-begins {h = h} y p m M there =
     let few = y .form .few in
     let same = length-replaceAt (h .components) (transaction m M (h .counts) (leaf M emptyLog) ∷ []) p
     (found-below (h .components) p _ there) in
-    rw (accepted-made h (act p) _ (h .counts) (idle (block m M)) _ there refl (omega arith))
+    rw (response-made h (act p) _ (h .counts) (idle (block m M)) _ there refl (omega arith))

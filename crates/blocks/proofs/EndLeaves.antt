@@ -3,7 +3,7 @@
 use Prim.Native.Nat.{ℕ, _+_, _*_, _-_, _≤_, _<_}
 use native.Mathlib.Omega.{arith}
 use mathlib.Core.Path.{_≡_, refl, sym, ap, _∙_}
-use mathlib.Core.Bool.{Bool, true, false}
+use mathlib.Core.Bool.{true}
 use mathlib.Core.Option.{some}
 use mathlib.Core.List.{List, [], _∷_}
 use lib.ListN.{length, getD, take, drop, replicate, getElem?, length-append}
@@ -15,19 +15,22 @@ use Rattle.calculus.specs.Log.{WT}
 use Rattle.semantics.specs.Definitions.Basics.{padded}
 use Rattle.semantics.specs.Definitions.Terms.{Expression, Term}
 use Rattle.semantics.specs.Definitions.Configuration.{leaf, transaction, Configuration}
-use Rattle.semantics.specs.Definitions.Logs.{readable}
+use Rattle.semantics.specs.Definitions.Shortage.{short, isEnough}
+use Rattle.semantics.specs.Definitions.Logs.{shortage, readable}
 use Rattle.terms.specs.Decoded.{Decoded}
 use Rattle.stored.specs.Layout.{channels, maxActions, maxComponents, idleSize, transactionHead, leafLogLength, leafLog}
+use Rattle.rules.specs.declared.Shortage.{Shortage}
+use Rattle.rules.specs.declared.Shortage.the-variants.{Enough, Short}
 use Rattle.rules.specs.declared.Reply.the-variants.{Moved, Refused}
-use Rattle.rules.specs.Replies.{replyIs}
+use Rattle.rules.specs.Replies.{shortageIs, replyIs}
 use Rattle.index.specs.Holds.{Holds}
 use Rattle.index.proofs.Holding.{sixteen}
 use Rattle.logs.specs.declared.Outputs.{Outputs}
-use Rattle.logs.specs.Needs.{needsOf, withinAt}
+use Rattle.logs.specs.Needs.{shortAt}
 use Rattle.logs.specs.Writes.{writesOf, outputsSize, outputBytes}
 use Rattle.logs.specs.Values.{OutputsAre}
 use Rattle.logs.proofs.Writing.{output-length}
-use Rattle.logs.proofs.StoredLogs.{stored-readable, stored-outputs-count}
+use Rattle.logs.proofs.StoredLogs.{stored-shortage, stored-outputs-count}
 use Rattle.logs.proofs.Places.{log-held, counts-held, leaf-length, leaf-stored, hall-counts}
 use Rattle.leaves.proofs.Leaves.{whole-at}
 use Rattle.blocks.specs.Ends.{LogHere, CanLookCommit, commitReply, CommitLooked}
@@ -108,17 +111,23 @@ module _ (s : List ℕ) (leaf n : ℕ) (x : CanLookCommit s leaf n) where
 
 -- ---- the reply to a commit
 
-module _ (s : List ℕ) (leaf n size : ℕ) (r : Bool) (e : size ≡ getD s (leaf + leafLogLength) 0)
-    (g : r ≡ withinAt (needsOf (take size (drop (leaf + leafLog) s))) s 0) where
-  test-here : {σ : State} {δ : Log} → LogHere s leaf σ δ → r ≡ readable σ δ
-  test-here {σ} {δ} y = stored-readable s (leaf + leafLog) size δ (y .log) (e ∙ y .size) 0 σ _ r (y .counts) refl g
+module _ (s : List ℕ) (leaf n size : ℕ) (r : Shortage) (e : size ≡ getD s (leaf + leafLogLength) 0)
+    (g : shortageIs r ≡ shortAt (take size (drop (leaf + leafLog) s)) s 0) where
+  short-here : {σ : State} {δ : Log} → LogHere s leaf σ δ → shortageIs r ≡ shortage σ δ
+  short-here {σ} {δ} y = stored-shortage s (leaf + leafLog) size δ (y .log) (e ∙ y .size) 0 σ _ (y .counts) g
 
   -- ATFAIL
-  pub commit-fails : r ≡ false → CommitLooked s leaf n (Moved 6)
-  unfolding replyIs commitReply
-  commit-fails q = record { found = λ σ δ y. rw (sym (test-here y) ∙ q) }
+  pub commit-fails : (a k : ℕ) → r ≡ Short a k → CommitLooked s leaf n (Moved 6 (Short a k))
+  unfolding replyIs shortageIs commitReply readable isEnough
+  commit-fails a k q = record {
+    found = λ σ δ y. let is : shortage σ δ ≡ short a k = sym (short-here y) ∙ ap shortageIs q in rw is;
+  }
 
-  module _ (o : Outputs) (w : OutputsAre o (writesOf (take size (drop (leaf + leafLog) s)))) (q : r ≡ true) where
+  module _ (o : Outputs) (w : OutputsAre o (writesOf (take size (drop (leaf + leafLog) s)))) (q : r ≡ Enough) where
+    enough-here : {σ : State} {δ : Log} → LogHere s leaf σ δ → readable σ δ ≡ true
+    unfolding shortageIs readable isEnough
+    enough-here y = ap isEnough (sym (short-here y) ∙ ap shortageIs q)
+
     many-here : {σ : State} {δ : Log} → LogHere s leaf σ δ → o .count ≡ length (WT δ)
     many-here {σ} {δ} y = stored-outputs-count s (leaf + leafLog) size δ (y .log) (e ∙ y .size) o w
 
@@ -129,15 +138,15 @@ module _ (s : List ℕ) (leaf n size : ℕ) (r : Bool) (e : size ≡ getD s (lea
       found = λ σ δ y.
           let c = many-here y in
           let k : maxComponents < n - 1 + length (WT δ) = rw (← c) l in
-          rw (sym (test-here y) ∙ q, lt-leb _ _ k);
+          rw (enough-here y, lt-leb _ _ k);
     }
 
     -- ATOK
-    pub commit-done : n - 1 + o .count ≤ maxComponents → CommitLooked s leaf n (Moved 7)
+    pub commit-done : n - 1 + o .count ≤ maxComponents → CommitLooked s leaf n (Moved 7 Enough)
     unfolding replyIs commitReply
     commit-done l = record {
       found = λ σ δ y.
           let c = many-here y in
           let k : n - 1 + length (WT δ) ≤ maxComponents = rw (← c) l in
-          rw (sym (test-here y) ∙ q, le-leb _ _ k);
+          rw (enough-here y, le-leb _ _ k);
     }

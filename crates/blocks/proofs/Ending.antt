@@ -14,14 +14,14 @@ use Rattle.calculus.specs.Log.{RD, WT}
 use Rattle.semantics.specs.Definitions.Terms.{Expression, Term, endT, retryT}
 use Rattle.semantics.specs.Definitions.Configuration.{block, output, Tree, leaf, Component, idle, transaction, Configuration}
 use Rattle.semantics.specs.Definitions.Stored.{componentBytes}
-use Rattle.semantics.specs.Definitions.Moves.{act, answerTo, movedBy, replyOf}
+use Rattle.semantics.specs.Definitions.Moves.{act, answerTo}
 use Rattle.theorems.proofs.WellFormedKept.{without-bytes}
 use Rattle.terms.specs.Decoded.{Decoded}
 use Rattle.stored.specs.Layout.{indexSize, waitingKind, idleSize, componentBody, transactionHead, leafLogLength, leafLog}
 use Rattle.storedlaws.specs.Positions.{allBytes}
 use Rattle.storedlaws.proofs.Configurations.{one-bytes}
 use Rattle.index.specs.Holds.{Holds, Spaced, Replaced, CanReplace}
-use Rattle.index.specs.Choices.{Accepts, afterwards}
+use Rattle.index.specs.Choices.{AcceptedBy, Accepts, afterwards}
 use Rattle.index.proofs.Holding.{few-components, position-below, body-here}
 use Rattle.index.proofs.Replacing.{idle-spaced, one-spaced}
 use Rattle.index.proofs.InPlace.{counts-stored}
@@ -52,7 +52,7 @@ module _ (ts : List Term) (h : Configuration) (s starts : List ℕ) (n p : ℕ) 
       let bytes : new ≡ componentBytes back = laid ∙ rw body in
       acted-replacement (m .acted) x (rw τ x) new 1 (rw cs (bytes ∙ sym (one-bytes back))) (rw cs refl) (rw cs (one-spaced back))
 
-  pub atre-link : replyOf (answerTo h (act p)) ≡ movedBy 5 →
+  pub atre-link : AcceptedBy h (act p) 5 →
       Replacement ts (afterwards (answerTo h (act p)) h) s starts n p new 1
   atre-link q = let m = act-made h p 5 (omega arith) q in elim (m .move) [
     | begins i M c k τ cs ↦ absurd (omega arith)
@@ -61,7 +61,7 @@ module _ (ts : List Term) (h : Configuration) (s starts : List ℕ) (n p : ℕ) 
     | commits i M σ j δ c y k τ cs ↦ absurd (omega arith)
   ]
 
-  pub atfail-link : replyOf (answerTo h (act p)) ≡ movedBy 6 →
+  pub atfail-link : AcceptedBy h (act p) 6 →
       Replacement ts (afterwards (answerTo h (act p)) h) s starts n p new 1
   atfail-link q = let m = act-made h p 6 (omega arith) q in elim (m .move) [
     | begins i M c k τ cs ↦ absurd (omega arith)
@@ -70,7 +70,7 @@ module _ (ts : List Term) (h : Configuration) (s starts : List ℕ) (n p : ℕ) 
     | commits i M σ j δ c y k τ cs ↦ absurd (omega arith)
   ]
 
-  restart-link : (rule : ℕ) → Restarts rule → replyOf (answerTo h (act p)) ≡ movedBy rule →
+  restart-link : (rule : ℕ) → Restarts rule → AcceptedBy h (act p) rule →
       Replacement ts (afterwards (answerTo h (act p)) h) s starts n p new 1
   restart-link rule either q = ⊎-elim (λ e. atre-link (rw e at q)) (λ e. atfail-link (rw e at q)) either
 
@@ -79,7 +79,7 @@ module _ (ts : List Term) (h : Configuration) (s starts : List ℕ) (n p : ℕ) 
 -- a transaction of one leaf ends by the rules 5 to 7
 module _ (d s starts : List ℕ) (n p k : ℕ) (few : 5 ≤ k) (x : Accepts d s starts n (act p) k) where
   ending-looks : CanLookCommit s (getD starts p 0 + transactionHead) n
-  ending-looks = let m = act-made (x .configuration) p k (omega arith) (x .reply) in elim (m .move) [
+  ending-looks = let m = act-made (x .configuration) p k (omega arith) (x .by) in elim (m .move) [
     | begins i M c z τ cs ↦ absurd (omega arith)
     | retries i M σ j δ c z τ cs ↦ at-leaf i M σ (retryT j) δ (m .acted .found ∙ ap some c)
     | fails i M σ j δ c z τ cs ↦ at-leaf i M σ (endT j) δ (m .acted .found ∙ ap some c)
@@ -100,7 +100,7 @@ module _ (d s starts : List ℕ) (n p k : ℕ) (few : 5 ≤ k) (x : Accepts d s 
           }
 
   ending-position : p < indexSize
-  ending-position = let m = act-made (x .configuration) p k (omega arith) (x .reply) in
+  ending-position = let m = act-made (x .configuration) p k (omega arith) (x .by) in
       held-position (x .holds) p (position-below (x .holds) p (m .acted .component) (m .acted .found))
 
   ending-inside : getD starts p 0 + transactionHead < length s
@@ -126,7 +126,7 @@ module _ (s starts : List ℕ) (n p : ℕ) where
     restart-can =
         let y = x .accepts in
         replacement-can (restart-link (y .terms) (y .configuration) s starts n p (y .holds) _ refl (x .rule)
-        (x .either) (y .reply))
+        (x .either) (y .by))
 
   pub restart-applied : (s′ starts′ : List ℕ) (n′ : ℕ) →
       Replaced s starts n p (waitingKind ∷ getD s (getD starts p 0 + componentBody) 0 ∷ []) 1 s′ starts′ n′ →
@@ -140,7 +140,7 @@ module _ (s starts : List ℕ) (n p : ℕ) where
 -- ---- the commit
 
 module _ (ts : List Term) (h : Configuration) (d s starts : List ℕ) (n p : ℕ) (decoded : Decoded ts d)
-    (x : Holds ts h s starts n) (q : replyOf (answerTo h (act p)) ≡ movedBy 7) (size : ℕ) (need : List ℕ)
+    (x : Holds ts h s starts n) (q : AcceptedBy h (act p) 7) (size : ℕ) (need : List ℕ)
     (e : size ≡ getD s (getD starts p 0 + transactionHead + leafLogLength) 0)
     (f : need ≡ needsOf (take size (drop (getD starts p 0 + transactionHead + leafLog) s))) where
   -- the reads are within the counts of now
@@ -192,7 +192,7 @@ module _ (s starts : List ℕ) (n p : ℕ) where
     pub commit-within : CanCommit s starts n p → withinAt need s 0 ≡ true
     commit-within x =
         let y = x .accepts in
-        atok-within (y .terms) (y .configuration) (x .decoded) s starts n p (y .decoded) (y .holds) (y .reply) size
+        atok-within (y .terms) (y .configuration) (x .decoded) s starts n p (y .decoded) (y .holds) (y .by) size
         need e f
 
     module _ (o : Outputs)
@@ -203,7 +203,7 @@ module _ (s starts : List ℕ) (n p : ℕ) where
       commit-can x =
           let y = x .accepts in
           replacement-can (atok-link (y .terms) (y .configuration) (x .decoded) s starts n p (y .decoded) (y .holds)
-          (y .reply) size need e f o written t low)
+          (y .by) size need e f o written t low)
 
       pub commit-applied : (s′ starts′ : List ℕ) (n′ : ℕ) →
           Replaced t starts n p (take (o .count * idleSize) (o .bytes)) (o .count) s′ starts′ n′ →

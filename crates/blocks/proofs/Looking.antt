@@ -17,15 +17,17 @@ use Rattle.calculus.specs.Reduction.{Rule, ATFAIL, ATOK}
 use Rattle.semantics.specs.Definitions.Basics.{replaceAt}
 use Rattle.semantics.specs.Definitions.Table.{endK, retryK}
 use Rattle.semantics.specs.Definitions.Terms.{Expression, endT, retryT, rdT, wtT, orElseT, Term}
-use Rattle.semantics.specs.Definitions.Logs.{readable}
+use Rattle.semantics.specs.Definitions.Shortage.{Shortage, enough}
+use Rattle.semantics.specs.Definitions.Logs.{shortage, readable}
 use Rattle.semantics.specs.Definitions.Configuration.{block, output, Tree, leaf, fork, Component, idle, transaction, Configuration}
-use Rattle.semantics.specs.Definitions.Moves.{act, moves, blocked, commits, ends, acts, Answer, applyAt, answerTo, ruleNumber, Reply, movedBy, refusedBy, replyOf}
+use Rattle.semantics.specs.Definitions.Moves.{act, moves, blocked, commits, ends, acts, Response, applyAt, respondTo, ruleNumber, Reply, movedBy, refusedBy, replyOf}
 use Rattle.theorems.proofs.Lists.{found-below, length-replaceAt}
 use Rattle.theorems.proofs.Moves.{positionOf, localMove, chosen-at}
 use Rattle.records.specs.Shapes.{kindByte}
 use Rattle.stored.specs.Layout.{hallBytes, maxComponents, transactionHead}
 use Rattle.storedlaws.specs.Reading.{termKind}
 use Rattle.rules.specs.declared.Reply as code
+use Rattle.rules.specs.declared.Shortage.the-variants.{Enough}
 use Rattle.rules.specs.declared.Reply.the-variants.{Moved, Refused}
 use Rattle.rules.specs.Replies.{replyIs}
 use Rattle.index.specs.Holds.{Holds}
@@ -37,7 +39,7 @@ use Rattle.blocks.proofs.EndLeaves.{log-here}
 
 -- ---- the reply to an act
 
-reply-cond : (b : Bool) (x y : Answer) → replyOf (cond b x y) ≡ cond b (replyOf x) (replyOf y)
+reply-cond : (b : Bool) (x y : Response) → replyOf (cond b x y) ≡ cond b (replyOf x) (replyOf y)
 reply-cond true x y = refl
 reply-cond false x y = refl
 
@@ -45,16 +47,16 @@ module _ {ts : List Term} {h : Configuration} {s starts : List ℕ} {n : ℕ} (y
     (c : Component)
     (e : getElem? (h .components) p ≡ some c) where
   -- a component that has nothing to do
-  reply-blocked : (k : ℕ) → acts (h .counts) c ≡ blocked k → replyOf (answerTo h (act p)) ≡ refusedBy k
+  reply-blocked : (k : ℕ) → acts (h .counts) c ≡ blocked k → replyOf (respondTo h (act p)) ≡ refusedBy k
   unfolding positionOf localMove applyAt replyOf
   reply-blocked k q = ap replyOf (chosen-at h (act p) c e) ∙ rw q
 
   -- one that gives way to others: refused where too many are left
-  reply-moves : (r : Rule) (τ : State) (cs : List Component) → acts (h .counts) c ≡ moves r τ cs →
-      replyOf (answerTo h (act p)) ≡ cond (leb (n - 1 + length cs) maxComponents) (movedBy (ruleNumber r))
+  reply-moves : (r : Rule) (w : Shortage) (τ : State) (cs : List Component) → acts (h .counts) c ≡ moves r w τ cs →
+      replyOf (respondTo h (act p)) ≡ cond (leb (n - 1 + length cs) maxComponents) (movedBy (ruleNumber r) w)
       (refusedBy 19)
   unfolding positionOf localMove applyAt replyOf
-  reply-moves r τ cs q =
+  reply-moves r w τ cs q =
       let below = found-below (h .components) p c e in
       let counted = y .counted in
       let l = length-replaceAt (h .components) cs p below in
@@ -63,14 +65,14 @@ module _ {ts : List Term} {h : Configuration} {s starts : List ℕ} {n : ℕ} (y
       ∙ rw q (reply-cond (leb (length (replaceAt p cs (h .components))) maxComponents) _ _ ∙ rw many)
 
   -- one that gives way to one
-  reply-moves-one : (r : Rule) (τ : State) (d : Component) → acts (h .counts) c ≡ moves r τ (d ∷ []) →
-      replyOf (answerTo h (act p)) ≡ movedBy (ruleNumber r)
-  reply-moves-one r τ d q =
+  reply-moves-one : (r : Rule) (w : Shortage) (τ : State) (d : Component) → acts (h .counts) c ≡ moves r w τ (d ∷ []) →
+      replyOf (respondTo h (act p)) ≡ movedBy (ruleNumber r) w
+  reply-moves-one r w τ d q =
       let few = few-components y in
       let below = found-below (h .components) p c e in
       let counted = y .counted in
       let k : n - 1 + length (d ∷ []) ≤ maxComponents = omega arith in
-      reply-moves r τ (d ∷ []) q ∙ rw (le-leb _ _ k)
+      reply-moves r w τ (d ∷ []) q ∙ rw (le-leb _ _ k)
 
 -- ---- at a transaction
 
@@ -78,26 +80,26 @@ module _ {ts : List Term} {h : Configuration} {s starts : List ℕ} {n : ℕ} (y
     (M : Expression) (σ : State) where
   -- at a retry leaf
   retry-reply : (e : ℕ) (δ : Log) → getElem? (h .components) p ≡ some (transaction m M σ (leaf (retryT e) δ)) →
-      replyOf (answerTo h (act p)) ≡ movedBy 5
+      replyOf (respondTo h (act p)) ≡ movedBy 5 enough
   unfolding acts ends ruleNumber
-  retry-reply e δ f = reply-moves-one y p _ f _ (h .counts) (idle (block m M)) refl
+  retry-reply e δ f = reply-moves-one y p _ f _ enough (h .counts) (idle (block m M)) refl
 
   -- at an end leaf
   end-reply : (e : ℕ) (δ : Log) → getElem? (h .components) p ≡ some (transaction m M σ (leaf (endT e) δ)) →
-      replyOf (answerTo h (act p)) ≡ commitReply (h .counts) δ n
+      replyOf (respondTo h (act p)) ≡ commitReply (h .counts) δ n
   unfolding acts ends commits ruleNumber commitReply
   end-reply e δ f = go (readable (h .counts) δ) refl
     where
-      go : (b : Bool) → readable (h .counts) δ ≡ b → replyOf (answerTo h (act p)) ≡ commitReply (h .counts) δ n
+      go : (b : Bool) → readable (h .counts) δ ≡ b → replyOf (respondTo h (act p)) ≡ commitReply (h .counts) δ n
       go true q =
-          rw q (reply-moves y p _ f (ATOK δ) (without (h .counts) (RD δ)) (map (λ a. idle (output a)) (WT δ)) (rw q)
+          rw q (reply-moves y p _ f (ATOK δ) enough (without (h .counts) (RD δ)) (map (λ a. idle (output a)) (WT δ)) (rw q)
           ∙ rw (length-map (WT δ) (λ a. idle (output a))))
-      go false q = rw q (reply-moves-one y p _ f ATFAIL (h .counts) (idle (block m M)) (rw q))
+      go false q = rw q (reply-moves-one y p _ f ATFAIL (shortage (h .counts) δ) (h .counts) (idle (block m M)) (rw q))
 
   -- while there is more to do
   more-reply : (t : Tree) → getElem? (h .components) p ≡ some (transaction m M σ t) →
       ends (h .counts) m M t ≡ blocked 15 →
-      replyOf (answerTo h (act p)) ≡ refusedBy 15
+      replyOf (respondTo h (act p)) ≡ refusedBy 15
   unfolding acts
   more-reply t f q = reply-blocked y p _ f 15 q
 
@@ -163,7 +165,7 @@ module _ (d s : List ℕ) (n at : ℕ) (x : CanLookEnd d s n at) where
       })
 
 module _ (d s : List ℕ) (n at : ℕ) where
-  pub look-retry : (k : ℕ) → LeafKindRead d s (at + transactionHead) k → k ≡ kindByte retryK → EndLooked d s n at (Moved 5)
+  pub look-retry : (k : ℕ) → LeafKindRead d s (at + transactionHead) k → k ≡ kindByte retryK → EndLooked d s n at (Moved 5 Enough)
   unfolding replyIs
   look-retry k q same = record {
     found = λ ts h starts p w.

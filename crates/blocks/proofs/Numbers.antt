@@ -13,8 +13,9 @@ use Rattle.semantics.specs.Definitions.Layout.{maxCount}
 use Rattle.semantics.specs.Definitions.Terms.{Expression, endT, retryT, rdT, wtT, orElseT}
 use Rattle.semantics.specs.Definitions.Logs.{emptyLog, readable}
 use Rattle.semantics.specs.Definitions.Configuration.{taking, repeating, block, output, Tree, leaf, fork, Component, idle, transaction, Configuration}
-use Rattle.semantics.specs.Definitions.Moves.{act, LocalAnswer, moves, blocked, takes, puts, ends, acts, answerTo, ruleNumber, movedBy, replyOf}
+use Rattle.semantics.specs.Definitions.Moves.{act, LocalAnswer, moves, blocked, takes, puts, ends, acts, ruleNumber}
 use Rattle.theorems.proofs.Reading.{by-cases}
+use Rattle.index.specs.Choices.{AcceptedBy}
 use Rattle.index.proofs.Acting.{Acted, acted}
 
 -- what a block or its transaction makes of the counts σ and of itself, by the number of the rule
@@ -30,7 +31,7 @@ pub data BlockMove (σ : State) (c : Component) (k : ℕ) (τ : State) (cs : Lis
 
 -- of a move with a number from 4 on
 abbrev OfBlock : State → Component → LocalAnswer → Type 0
-OfBlock σ c (moves r τ cs) = 4 ≤ ruleNumber r → BlockMove σ c (ruleNumber r) τ cs
+OfBlock σ c (moves r w τ cs) = 4 ≤ ruleNumber r → BlockMove σ c (ruleNumber r) τ cs
 OfBlock σ c (blocked n) = Unit {0}
 
 -- where a transaction is
@@ -62,7 +63,7 @@ pub record Made (h : Configuration) (p k : ℕ) : Type 0 where
   pub acted : Acted h p k
   pub move : BlockMove (h .counts) (acted .component) k (acted .result .counts) (acted .laid)
 
-pub act-made : (h : Configuration) (p k : ℕ) → 4 ≤ k → replyOf (answerTo h (act p)) ≡ movedBy k → Made h p k
+pub act-made : (h : Configuration) (p k : ℕ) → 4 ≤ k → AcceptedBy h (act p) k → Made h p k
 act-made h p k l q =
     let a = acted h p k q in
     let move = rw (a .local) at (acts-by (h .counts) (a .component)) in

@@ -12,11 +12,12 @@ use lib.ListN.{length, getD}
 use lib.Dec.{leb}
 use Rattle.calculus.specs.Syntax.{Log, State}
 use Rattle.calculus.specs.Log.{WT}
+use Rattle.semantics.specs.Definitions.Shortage.{enough}
 use Rattle.semantics.specs.Definitions.Terms.{Term}
 use Rattle.semantics.specs.Definitions.Configuration.{Configuration}
-use Rattle.semantics.specs.Definitions.Logs.{readable}
+use Rattle.semantics.specs.Definitions.Logs.{shortage, readable}
 use Rattle.semantics.specs.Definitions.Moves as moves
-use Rattle.semantics.specs.Definitions.Moves.{act, answerTo, replyOf}
+use Rattle.semantics.specs.Definitions.Moves.{act, respondTo, replyOf}
 use Rattle.stored.specs.Layout.{maxComponents, leafLogLength, leafLog}
 use Rattle.logs.specs.Places.{LogAt, CountsAt}
 use Rattle.rules.specs.declared.Reply.{Reply}
@@ -37,7 +38,7 @@ pub record CanLookEnd (d s : List ℕ) (n at : ℕ) : Type 0 where
 -- r is what an act is answered there, whichever transaction it is
 pub record EndLooked (d s : List ℕ) (n at : ℕ) (r : Reply) : Type 0 where
   pub found : (ts : List Term) (h : Configuration) (starts : List ℕ) (p : ℕ) →
-      TransactionAt ts h d s starts n p at → replyIs r ≡ replyOf (answerTo h (act p))
+      TransactionAt ts h d s starts n p at → replyIs r ≡ replyOf (respondTo h (act p))
 
 -- ---- the look at an end leaf
 
@@ -55,12 +56,12 @@ pub record CanLookCommit (s : List ℕ) (leaf n : ℕ) : Type 0 where
   pub few : n ≤ maxComponents
 
 -- ATOK where the log is readable at the counts of now and its outputs leave no more than 64 of n components, else
--- refused by 19; ATFAIL where it is not readable, whatever the number of components
+-- refused by 19; ATFAIL, with what is short, where it is not readable, whatever the number of components
 unfoldable pub commitReply : State → Log → (n : ℕ) → moves.Reply
-unfolding readable WT
+unfolding readable shortage WT
 commitReply σ δ n =
-    cond (readable σ δ) (cond (leb (n - 1 + length (WT δ)) maxComponents) (moves.movedBy 7) (moves.refusedBy 19))
-    (moves.movedBy 6)
+    cond (readable σ δ) (cond (leb (n - 1 + length (WT δ)) maxComponents) (moves.movedBy 7 enough) (moves.refusedBy 19))
+    (moves.movedBy 6 (shortage σ δ))
 
 -- r is the reply to a commit, whichever log and counts stand there
 pub record CommitLooked (s : List ℕ) (leaf n : ℕ) (r : Reply) : Type 0 where

@@ -7,6 +7,7 @@ use rules::ATFAIL;
 use rules::ATOK;
 use rules::ATRE;
 use rules::Reply;
+use rules::Shortage;
 use rules::TOO_MANY_COMPONENTS;
 use rules::WRONG_COMPONENT;
 use stored::COMPONENT_BODY;
@@ -21,22 +22,24 @@ use terms::DECODED;
 ghost use Rattle.blocks.specs.Ends.{CanLookCommit, CommitLooked, CanLookEnd, EndLooked};
 ghost use Rattle.blocks.specs.Ends.{CanRestart, Restarted, CanCommit, Committed};
 
-// What ends the transaction whose only leaf is the end leaf at an offset: ATOK where the log is readable at the counts
-// of now, else ATFAIL. Only a commit that succeeds is refused for its components.
+// What ends the transaction whose only leaf is the end leaf at an offset: ATOK where the counts of now are enough for the
+// log, else ATFAIL with what is short. Only a commit that succeeds is refused for its components.
 fn look_commit(hall: &[u8], leaf: usize, components: usize) -> Reply
     requires { ⌜ CanLookCommit (now hall) leaf components ⌝ }
     ensures { λ r. ⌜ CommitLooked (now (hall .entry)) leaf components r ⌝ }
 {
     let size = wide(hall[leaf + LEAF_LOG_LENGTH]);
-    if logs::readable(hall, leaf + LEAF_LOG, size, 0) {
-        let outputs = logs::outputs_of(hall, leaf + LEAF_LOG, size);
-        let after = components - 1 + outputs.count;
-        if MAX_COMPONENTS < after {
-            return Reply::Refused(TOO_MANY_COMPONENTS);
+    match logs::shortage(hall, leaf + LEAF_LOG, size, 0) {
+        Shortage::Short { channel, by } => Reply::Moved(ATFAIL, Shortage::Short { channel, by }),
+        Shortage::Enough => {
+            let outputs = logs::outputs_of(hall, leaf + LEAF_LOG, size);
+            let after = components - 1 + outputs.count;
+            if MAX_COMPONENTS < after {
+                return Reply::Refused(TOO_MANY_COMPONENTS);
+            }
+            Reply::Moved(ATOK, Shortage::Enough)
         }
-        return Reply::Moved(ATOK);
     }
-    Reply::Moved(ATFAIL)
 }
 
 // What ends the transaction that begins at an offset: ATRE, ATFAIL or ATOK; refused while it has more to do, and where
@@ -52,7 +55,7 @@ pub fn look_end(
 {
     let leaf = transaction + TRANSACTION_HEAD;
     match leaves::expression_kind_at(decoded, hall, leaf) {
-        RETRY => Reply::Moved(ATRE),
+        RETRY => Reply::Moved(ATRE, Shortage::Enough),
         END => look_commit(hall, leaf, components),
         _ => Reply::Refused(WRONG_COMPONENT),
     }

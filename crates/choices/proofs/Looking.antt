@@ -13,7 +13,7 @@ use mir.Val.{Fits}
 use Rattle.semantics.specs.Definitions.Terms.{Term}
 use Rattle.semantics.specs.Definitions.Configuration.{Component, idle, transaction, Configuration}
 use Rattle.semantics.specs.Definitions.Stored.{componentBytes}
-use Rattle.semantics.specs.Definitions.Moves.{inside, actsInside, atPosition, applyAt, answerTo, replyOf}
+use Rattle.semantics.specs.Definitions.Moves.{inside, actsInside, atPosition, applyAt, respondTo, replyOf}
 use Rattle.stored.specs.declared.Place.{Place}
 use Rattle.stored.specs.declared.Place.the-variants.{At, Nowhere}
 use Rattle.stored.specs.Layout.{transactionKind, transactionHead, idleSize, indexSize}
@@ -54,17 +54,17 @@ can-find {d} x = record { decoded = d; running = x }
 module _ {d s starts : List ℕ} {n k : ℕ} where
   -- refusal 14 before refusal 15
   pub inside-past : {p : ℕ} → n ≤ p → Looked d s starts n (inside p k) (Refused 14)
-  unfolding answerTo atPosition replyOf replyIs
+  unfolding respondTo atPosition replyOf replyIs
   inside-past {p} l = record { found = λ ts h y x. rw (no-component x p l) refl }
 
   pub inside-idle : {p : ℕ} → p < n → (getD s (getD starts p 0) 0 ≡ transactionKind → ⊥) →
       Looked d s starts n (inside p k) (Refused 15)
-  unfolding answerTo atPosition applyAt actsInside componentBytes replyOf replyIs
+  unfolding respondTo atPosition applyAt actsInside componentBytes replyOf replyIs
   inside-idle {p} l other = record { found = λ ts h y x. let (c, there) = component-at x p l in go ts h x c there }
     where
       go : (ts : List Term) (h : Configuration) → Holds ts h s starts n → (c : Component) →
           getElem? (h .components) p ≡ some c →
-          replyIs (Refused 15) ≡ replyOf (answerTo h (inside p k))
+          replyIs (Refused 15) ≡ replyOf (respondTo h (inside p k))
       go ts h x (idle c) there = rw there refl
       go ts h x (transaction m M σ t) there = absurd (other (kind-here x p (transaction m M σ t) there))
 

@@ -35,11 +35,11 @@ module _ {s starts : List ℕ} {n p k : ℕ} {r : NodePlace} (f : NodeFound s st
         looks = node-looked f is (m .read) refl
 
         go : (b : Reply) → a ≡ b → Chosen d s starts n (inside p k) b s′ starts′ n
-        go (Moved rule) same =
+        go (Moved rule w) same =
             chosen-moved looks same (record {
-              found = λ ts h y x reply.
-                  m .made rule same .found ts h k
-                  (record { decoded = y; holds = x; place = node-there f is .place; reply = reply });
+              found = λ ts h y x by.
+                  m .made rule w same .found ts h k
+                  (record { decoded = y; holds = x; place = node-there f is .place; by = by });
             })
         go (Refused j) same = let z = m .unchanged j same in rw (z .0, z .1) (chosen-refused looks same)
 

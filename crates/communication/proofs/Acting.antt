@@ -16,12 +16,14 @@ use Rattle.calculus.specs.Reduction.{Rule, OUT}
 use Rattle.semantics.specs.Definitions.Basics.{replaceAt}
 use Rattle.semantics.specs.Definitions.Layout.{maxCount, maxComponents}
 use Rattle.semantics.specs.Definitions.Terms.{Expression, Program, endT, retryT, rdT, wtT, orElseT}
+use Rattle.semantics.specs.Definitions.Shortage.{Shortage, enough}
 use Rattle.semantics.specs.Definitions.Logs.{readable, addToken, takeToken}
 use Rattle.semantics.specs.Definitions.Configuration.{taking, repeating, block, output, Tree, leaf, fork, Component, idle, transaction, Configuration, opens}
-use Rattle.semantics.specs.Definitions.Moves.{act, LocalAnswer, moves, blocked, takes, puts, ends, commits, acts, moved, applyAt, answerTo, ruleNumber, movedBy, refusedBy, replyOf}
+use Rattle.semantics.specs.Definitions.Moves.{act, LocalAnswer, moves, blocked, takes, puts, ends, commits, acts, does, applyAt, respondTo, ruleNumber, refusedBy, replyOf}
 use Rattle.theorems.proofs.Lists.{found-below, length-replaceAt}
 use Rattle.theorems.proofs.Reading.{by-cases}
-use Rattle.theorems.proofs.Moves.{positionOf, localMove, chosen-at, accepted-made}
+use Rattle.theorems.proofs.Moves.{positionOf, localMove, chosen-at, response-made}
+use Rattle.index.specs.Choices.{AcceptedBy}
 use Rattle.index.proofs.Acting.{acted}
 use Rattle.communication.specs.Tokens.{takeOf, successors, staying, takeRule, takeNumber}
 
@@ -32,17 +34,17 @@ module _ (h : Configuration) (p : ℕ) (a : Name) (e : getElem? (h .components) 
   abbrev pub afterPut : Configuration
   afterPut = record { counts = addToken (h .counts) a; components = replaceAt p [] (h .components) }
 
-  pub full-refused : maxCount ≤ count (h .counts) a → replyOf (answerTo h (act p)) ≡ refusedBy 20
+  pub full-refused : maxCount ≤ count (h .counts) a → replyOf (respondTo h (act p)) ≡ refusedBy 20
   unfolding positionOf localMove acts puts applyAt replyOf
   full-refused q = ap replyOf (chosen-at h (act p) (idle (output a)) e) ∙ rw (le-leb maxCount (count (h .counts) a) q)
 
   -- what is left is fewer than it was
   pub put-accepted : length (h .components) ≤ maxComponents → count (h .counts) a < maxCount →
-      answerTo h (act p) ≡ moved (OUT a) afterPut
+      respondTo h (act p) ≡ does (OUT a) enough afterPut
   unfolding positionOf localMove acts puts
   put-accepted few q =
       let l = length-replaceAt (h .components) [] p (found-below (h .components) p _ e) in
-      accepted-made h (act p) (OUT a) (addToken (h .counts) a) (idle (output a)) [] e
+      response-made h (act p) (OUT a) (addToken (h .counts) a) (idle (output a)) [] e
       (rw (lt-leb maxCount (count (h .counts) a) q)) (omega arith)
 
 -- ---- at a take
@@ -80,23 +82,23 @@ module _ (h : Configuration) (p : ℕ) (b : Bool) (m : ℕ) (a : Name) (P : Prog
       let n = length-map (successors b m a P) idle in
       let k = laid-length b m a P in omega arith
 
-  take-answer : answerTo h (act p) ≡ applyAt p (takes (h .counts) a (takeRule b a) (successors b m a P)) h
+  take-answer : respondTo h (act p) ≡ applyAt p (takes (h .counts) a (takeRule b a) (successors b m a P)) h
   unfolding positionOf localMove
   take-answer = chosen-at h (act p) (idle (takeOf b m a P)) e ∙ ap (λ l. applyAt p l h) (acts-take (h .counts) b m a P)
 
-  pub empty-refused : count (h .counts) a ≡ 0 → replyOf (answerTo h (act p)) ≡ refusedBy 18
+  pub empty-refused : count (h .counts) a ≡ 0 → replyOf (respondTo h (act p)) ≡ refusedBy 18
   unfolding takes applyAt replyOf
   empty-refused q = ap replyOf take-answer ∙ rw (eq-eqb (count (h .counts) a) 0 q)
 
   pub crowded-refused : (count (h .counts) a ≡ 0 → ⊥) → maxComponents < length (replaceAt p laid (h .components)) →
-      replyOf (answerTo h (act p)) ≡ refusedBy 19
+      replyOf (respondTo h (act p)) ≡ refusedBy 19
   unfolding takes applyAt replyOf
   crowded-refused q l =
       ap replyOf take-answer
       ∙ rw (ne-eqb (count (h .counts) a) 0 q, lt-leb (length (replaceAt p laid (h .components))) maxComponents l)
 
   pub take-accepted : (count (h .counts) a ≡ 0 → ⊥) → length (replaceAt p laid (h .components)) ≤ maxComponents →
-      answerTo h (act p) ≡ moved (takeRule b a) afterTake
+      respondTo h (act p) ≡ does (takeRule b a) enough afterTake
   unfolding takes applyAt
   take-accepted q l =
       take-answer
@@ -107,12 +109,12 @@ module _ (h : Configuration) (p : ℕ) (b : Bool) (m : ℕ) (a : Name) (P : Prog
 -- what a component's own move by such a rule says of it
 abbrev pub Local : State → Component → LocalAnswer → Type 0
 Local σ c (blocked n) = Unit {0}
-Local σ (idle (output a)) (moves r τ ds) = (ruleNumber r ≡ 1) × (count σ a < maxCount)
-Local σ (idle (taking m a P)) (moves r τ ds) = (ruleNumber r ≡ 2) × (count σ a ≡ 0 → ⊥) × (ds ≡ map idle (opens P))
-Local σ (idle (repeating m a P)) (moves r τ ds) =
+Local σ (idle (output a)) (moves r w τ ds) = (ruleNumber r ≡ 1) × (count σ a < maxCount)
+Local σ (idle (taking m a P)) (moves r w τ ds) = (ruleNumber r ≡ 2) × (count σ a ≡ 0 → ⊥) × (ds ≡ map idle (opens P))
+Local σ (idle (repeating m a P)) (moves r w τ ds) =
     (ruleNumber r ≡ 3) × (count σ a ≡ 0 → ⊥) × (ds ≡ map idle (opens P ++ (repeating m a P ∷ [])))
-Local σ (idle (block m M)) (moves r τ ds) = 3 < ruleNumber r
-Local σ (transaction m M s t) (moves r τ ds) = 3 < ruleNumber r
+Local σ (idle (block m M)) (moves r w τ ds) = 3 < ruleNumber r
+Local σ (transaction m M s t) (moves r w τ ds) = 3 < ruleNumber r
 
 ends-local : (σ : State) (m : ℕ) (M : Expression) (s : State) (t : Tree) → Local σ (transaction m M s t) (ends σ m M t)
 unfolding ends commits ruleNumber
@@ -158,39 +160,39 @@ abbrev Standing : Configuration → ℕ → ℕ → Type 0
 Standing h p k = (k ≡ 1 → Puts h p) × (k ≡ 2 → TakesHere h p false) × (k ≡ 3 → TakesHere h p true)
 
 module _ (h : Configuration) (p : ℕ) where
-  by-component : (r : Rule) (τ : State) (ds : List Component) (c : Component) → getElem? (h .components) p ≡ some c →
-      length (replaceAt p ds (h .components)) ≤ maxComponents → Local (h .counts) c (moves r τ ds) →
+  by-component : (r : Rule) (w : Shortage) (τ : State) (ds : List Component) (c : Component) → getElem? (h .components) p ≡ some c →
+      length (replaceAt p ds (h .components)) ≤ maxComponents → Local (h .counts) c (moves r w τ ds) →
       Standing h p (ruleNumber r)
-  by-component r τ ds (idle (output a)) e few x =
+  by-component r w τ ds (idle (output a)) e few x =
       let n = x .0 in
       (λ k. record { channel = a; there = e; room = x .1 }, λ k. absurd (omega arith), λ k. absurd (omega arith))
-  by-component r τ ds (idle (taking m a P)) e few x =
+  by-component r w τ ds (idle (taking m a P)) e few x =
       let n = x .0 in (
         λ k. absurd (omega arith),
         λ k. record { number = m; channel = a; continuation = P; there = e; token = x .1; few = rw (x .2) at few },
         λ k. absurd (omega arith),
       )
-  by-component r τ ds (idle (repeating m a P)) e few x =
+  by-component r w τ ds (idle (repeating m a P)) e few x =
       let n = x .0 in (
         λ k. absurd (omega arith),
         λ k. absurd (omega arith),
         λ k. record { number = m; channel = a; continuation = P; there = e; token = x .1; few = rw (x .2) at few },
       )
-  by-component r τ ds (idle (block m M)) e few x =
+  by-component r w τ ds (idle (block m M)) e few x =
       (λ k. absurd (omega arith), λ k. absurd (omega arith), λ k. absurd (omega arith))
-  by-component r τ ds (transaction m M s t) e few x =
+  by-component r w τ ds (transaction m M s t) e few x =
       (λ k. absurd (omega arith), λ k. absurd (omega arith), λ k. absurd (omega arith))
 
-  standing : (k : ℕ) → replyOf (answerTo h (act p)) ≡ movedBy k → Standing h p k
+  standing : (k : ℕ) → AcceptedBy h (act p) k → Standing h p k
   standing k q =
       let m = acted h p k q in
       rw (← m .number)
-      (by-component (m .rule) (m .result .counts) (m .laid) (m .component) (m .found) (rw (← m .placed) (m .fits))
+      (by-component (m .rule) (m .lacks) (m .result .counts) (m .laid) (m .component) (m .found) (rw (← m .placed) (m .fits))
       (rw (m .local) at (acts-local (h .counts) (m .component))))
 
-  pub puts-there : replyOf (answerTo h (act p)) ≡ movedBy 1 → Puts h p
+  pub puts-there : AcceptedBy h (act p) 1 → Puts h p
   puts-there q = standing 1 q .0 refl
 
-  pub takes-there : (b : Bool) → replyOf (answerTo h (act p)) ≡ movedBy (takeNumber b) → TakesHere h p b
+  pub takes-there : (b : Bool) → AcceptedBy h (act p) (takeNumber b) → TakesHere h p b
   takes-there false q = standing 2 q .1 refl
   takes-there true q = standing 3 q .2 refl

@@ -11,6 +11,7 @@ use Rattle.semantics.specs.Definitions.Stored.{ComponentOk}
 use Rattle.semantics.specs.Definitions.Moves.{replyOf, ruleNumber}
 use Rattle.theorems.proofs.WellFormedKept.{count-byte}
 use Rattle.stored.specs.Layout.{channels, maxComponents, componentBody}
+use Rattle.rules.specs.declared.Shortage.the-variants.{Enough}
 use Rattle.rules.specs.declared.Reply.the-variants.{Moved, Refused}
 use Rattle.rules.specs.Replies.{replyIs}
 use Rattle.index.specs.Holds.{CanReplace, Replaced}
@@ -38,7 +39,7 @@ module _ (s : List ℕ) (a : ℕ) where
           let k : getD s a 0 ≡ maxCount = rw e at q in sym (full-refused h p a f (omega arith));
     }
 
-    pub put-looked : (getD s i 0 ≡ maxCount → ⊥) → OutputLooked s a (Moved 1)
+    pub put-looked : (getD s i 0 ≡ maxCount → ⊥) → OutputLooked s a (Moved 1 Enough)
     unfolding ComponentOk replyIs replyOf ruleNumber
     put-looked q = record {
       found = λ ts h starts n p x f.
@@ -58,25 +59,25 @@ module _ (s starts : List ℕ) (n p : ℕ) where
   module _ (x : CanPut s starts n p) where
     pub put-position : p < maxComponents
     put-position =
-        let a = x .accepts in position-inside (a .holds) p _ (puts-there (a .configuration) p (a .reply) .there)
+        let a = x .accepts in position-inside (a .holds) p _ (puts-there (a .configuration) p (a .by) .there)
 
     pub put-body : getD starts p 0 + componentBody < length s
     put-body =
         let a = x .accepts in
-        let l = body-inside (a .holds) p _ (puts-there (a .configuration) p (a .reply) .there) in
+        let l = body-inside (a .holds) p _ (puts-there (a .configuration) p (a .by) .there) in
         let z = hall-length (a .holds) in omega arith
 
     module _ (a : ℕ) (e : a ≡ getD s (getD starts p 0 + componentBody) 0) where
       pub put-channel : a < length s
       put-channel =
-          let l = out-room (x .accepts .holds) p (x .accepts .reply) a e .0 in
+          let l = out-room (x .accepts .holds) p (x .accepts .by) a e .0 in
           let z = hall-length (x .accepts .holds) in omega arith
 
       pub put-room : getD s a 0 < maxCount
-      put-room = out-room (x .accepts .holds) p (x .accepts .reply) a e .1
+      put-room = out-room (x .accepts .holds) p (x .accepts .by) a e .1
 
       pub can-replace-output : CanReplace (set s a (getD s a 0 + 1)) starts n p [] 0
-      can-replace-output = replacement-can (out-link (x .accepts .holds) p (x .accepts .reply) a e)
+      can-replace-output = replacement-can (out-link (x .accepts .holds) p (x .accepts .by) a e)
 
   pub token-put : (a : ℕ) → a ≡ getD s (getD starts p 0 + componentBody) 0 → (s′ starts′ : List ℕ) (n′ : ℕ) →
       Replaced (set s a (getD s a 0 + 1)) starts n p [] 0 s′ starts′ n′ → TokenPut s starts n p s′ starts′ n′

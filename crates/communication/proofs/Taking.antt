@@ -17,7 +17,8 @@ use Rattle.semantics.specs.Definitions.Table.{parK}
 use Rattle.semantics.specs.Definitions.Configuration.{repeating, idle, Configuration, opens}
 use Rattle.semantics.specs.Definitions.Stored.{componentBytes}
 use Rattle.semantics.specs.Definitions.Moves as moves
-use Rattle.semantics.specs.Definitions.Moves.{act, answerTo, replyOf}
+use Rattle.semantics.specs.Definitions.Shortage.{enough}
+use Rattle.semantics.specs.Definitions.Moves.{act, respondTo, replyOf}
 use Rattle.theorems.proofs.Lists.{found-below}
 use Rattle.theorems.proofs.RoundTrip.{width-bounds-opening}
 use Rattle.records.specs.Shapes.{kindByte}
@@ -30,6 +31,7 @@ use Rattle.storedlaws.proofs.Configurations.{all-bytes-append}
 use Rattle.opening.specs.Opening.{componentsBytes, ComponentsFit, ComponentsWritten, ComponentsCounted}
 use Rattle.opening.proofs.Components.{opened-fits}
 use Rattle.rules.specs.declared.Reply.{Reply}
+use Rattle.rules.specs.declared.Shortage.the-variants.{Enough}
 use Rattle.rules.specs.declared.Reply.the-variants.{Moved, Refused}
 use Rattle.rules.specs.Replies.{replyIs}
 use Rattle.index.specs.Holds.{Holds, CanReplace, Replaced}
@@ -102,7 +104,7 @@ staying-few true = omega arith
 -- the answer where a token is there, by the room for what opens
 abbrev roomReply : (repeated crowded : Bool) → Reply
 roomReply b true = Refused 19
-roomReply b false = Moved (takeNumber b)
+roomReply b false = Moved (takeNumber b) Enough
 
 module _ (d s : List ℕ) (n m i : ℕ) (same : i ≡ m) where
   module _ (x : TakeHeld d s n m) where
@@ -175,7 +177,7 @@ module _ (d s : List ℕ) (n m i : ℕ) (same : i ≡ m) where
           go : (h : Configuration) (p : ℕ) (c : Name) (P : Program) →
               getElem? (h .components) p ≡ some (idle (takeOf b m c P)) → (getD (h .counts) c 0 ≡ 0 → ⊥) → (r : Bool) →
               r ≡ ltb maxComponents (length (h .components) - 1 + staying b + length (opens P)) →
-              replyIs (roomReply b r) ≡ replyOf (answerTo h (act p))
+              replyIs (roomReply b r) ≡ replyOf (respondTo h (act p))
           go h p c P e j true told =
               let l = ltb-true maxComponents (length (h .components) - 1 + staying b + length (opens P)) (sym told) in
               let f = many-after h p b m c P e in
@@ -183,13 +185,13 @@ module _ (d s : List ℕ) (n m i : ℕ) (same : i ≡ m) where
           go h p c P e j false told =
               let l = ltb-false maxComponents (length (h .components) - 1 + staying b + length (opens P)) (sym told) in
               let f = many-after h p b m c P e in
-              sym (ap replyOf (take-accepted h p b m c P e j (omega arith)) ∙ ap moves.movedBy (take-number b c))
+              sym (ap replyOf (take-accepted h p b m c P e j (omega arith)) ∙ ap (λ k. moves.movedBy k enough) (take-number b c))
 
       module _ (more : ℕ) (stays : more ≡ staying (repeats kind)) (r : Bool) (told : ComponentLimitTested d k more n r) where
         pub crowded-looked : r ≡ true → TakeLooked d s n m (Refused 19)
         crowded-looked e = room-looked (repeats kind) refl true (rw (e, stays) at told)
 
-        pub take-looked : r ≡ false → (rule : ℕ) → rule ≡ takeNumber (repeats kind) → TakeLooked d s n m (Moved rule)
+        pub take-looked : r ≡ false → (rule : ℕ) → rule ≡ takeNumber (repeats kind) → TakeLooked d s n m (Moved rule Enough)
         take-looked e rule by = rw by (room-looked (repeats kind) refl false (rw (e, stays) at told))
 
 -- the room for what opens may be asked for
@@ -302,7 +304,7 @@ module _ (d s starts : List ℕ) (n p : ℕ) where
 
   module _ (x : CanTake d s starts n p) where
     taker-here : TakesHere (x .accepts .configuration) p (x .repeated)
-    taker-here = takes-there (x .accepts .configuration) p (x .repeated) (x .accepts .reply)
+    taker-here = takes-there (x .accepts .configuration) p (x .repeated) (x .accepts .by)
 
     pub take-position : p < maxComponents
     take-position = position-inside (x .accepts .holds) p _ (taker-here .there)
@@ -380,7 +382,7 @@ module _ (d s starts : List ℕ) (n p : ℕ) where
     module _ (x : CanTake d s starts n p) where
       token-there : (a < channels) × (0 < getD s a 0)
       token-there =
-          let y = x .accepts in take-token (y .holds) p (y .decoded) (x .repeated) (y .reply) term a refl at-first
+          let y = x .accepts in take-token (y .holds) p (y .decoded) (x .repeated) (y .by) term a refl at-first
 
       pub take-channel-inside : a < length s
       take-channel-inside =
@@ -394,7 +396,7 @@ module _ (d s starts : List ℕ) (n p : ℕ) where
           CanReplace (set s a (getD s a 0 - 1)) starts n p (take size bytes) (size / idleSize)
       can-replace-take bytes size w =
           let y = x .accepts in
-          replacement-can (take-link (y .holds) p (y .decoded) (x .repeated) (y .reply) term a refl at-first bytes size w)
+          replacement-can (take-link (y .holds) p (y .decoded) (x .repeated) (y .by) term a refl at-first bytes size w)
 
     pub token-taken : (bytes : List ℕ) (size : ℕ) → SuccessorsWritten d term bytes size → (s′ starts′ : List ℕ) (n′ : ℕ) →
         Replaced (set s a (getD s a 0 - 1)) starts n p (take size bytes) (size / idleSize) s′ starts′ n′ →

@@ -17,7 +17,7 @@ use Rattle.semantics.specs.Checks.AcceptedTables.{programNumber}
 use Rattle.semantics.specs.Definitions.Logs.{addToken, takeToken}
 use Rattle.semantics.specs.Definitions.Configuration.{Idle, taking, repeating, output, idle, Configuration}
 use Rattle.semantics.specs.Definitions.Stored.{componentBytes, ComponentOk}
-use Rattle.semantics.specs.Definitions.Moves.{act, moved, answerTo, movedBy, replyOf}
+use Rattle.semantics.specs.Definitions.Moves.{act, moved, answerOf, answerTo}
 use Rattle.theorems.proofs.Lists.{found-below}
 use Rattle.theorems.proofs.WellFormedKept.{count-byte, well-formed-step}
 use Rattle.records.specs.Shapes.{kindByte}
@@ -26,7 +26,7 @@ use Rattle.stored.specs.Layout.{channels, maxComponents, hallBytes, componentBo
 use Rattle.storedlaws.specs.Positions.{allBytes}
 use Rattle.storedlaws.proofs.Starts.{idle-size, idle-sizes}
 use Rattle.index.specs.Holds.{Holds, replacedAt, withCounts}
-use Rattle.index.specs.Choices.{afterwards}
+use Rattle.index.specs.Choices.{afterwards, AcceptedBy}
 use Rattle.index.proofs.Holding.{few-components, count-here, start-below-used, used-inside, position-below, component-ok, component-ends, body-here}
 use Rattle.index.proofs.Acting.{Replacement}
 use Rattle.index.proofs.Replacing.{idle-spaced}
@@ -113,7 +113,7 @@ module _ {ts : List Term} {h : Configuration} {s starts : List ℕ} {n : ℕ} (x
 
   -- ---- OUT
 
-  module _ (q : replyOf (answerTo h (act p)) ≡ movedBy 1) where
+  module _ (q : AcceptedBy h (act p) 1) where
     there : Puts h p
     there = puts-there h p q
 
@@ -134,7 +134,7 @@ module _ {ts : List Term} {h : Configuration} {s starts : List ℕ} {n : ℕ} (x
 
       -- the token goes to that channel, and the output goes
       pub out-link : Linked ts h (set s a (getD s a 0 + 1)) starts n p [] 0
-      unfolding addToken allBytes flatten
+      unfolding addToken allBytes flatten answerTo answerOf
       out-link =
           let l = out-below in
           let r = there .room in
@@ -145,7 +145,7 @@ module _ {ts : List Term} {h : Configuration} {s starts : List ℕ} {n : ℕ} (x
           rw (z, k)
           (stored-and-laid (there .channel) (suc (count (h .counts) (there .channel))) _ [] [] 0 l (omega arith)
           (position-below x p _ (there .there)) refl refl
-          (put-accepted h p (there .channel) (there .there) f r))
+          (ap answerOf (put-accepted h p (there .channel) (there .there) f r)))
 
   -- ---- IN and REP
 
@@ -170,7 +170,7 @@ module _ {ts : List Term} {h : Configuration} {s starts : List ℕ} {n : ℕ} (x
         by true e = body-here x p (idle (repeating m a P)) e
 
   -- by rule 2 or 3
-  module _ {d : List ℕ} (y : Decoded ts d) (b : Bool) (q : replyOf (answerTo h (act p)) ≡ movedBy (takeNumber b)) where
+  module _ {d : List ℕ} (y : Decoded ts d) (b : Bool) (q : AcceptedBy h (act p) (takeNumber b)) where
     pub taker : TakesHere h p b
     taker = takes-there h p b q
 
@@ -202,7 +202,7 @@ module _ {ts : List Term} {h : Configuration} {s starts : List ℕ} {n : ℕ} (x
       -- a token is taken from it, and what is laid down stands in the take's place
       pub take-link : (bytes : List ℕ) (size : ℕ) → SuccessorsWritten d m bytes size →
           Linked ts h (set s a (getD s a 0 - 1)) starts n p (take size bytes) (size / idleSize)
-      unfolding takeToken without
+      unfolding takeToken without answerTo answerOf
       take-link bytes size w =
           let l = take-in y b m (taker .channel) (taker .continuation) take-there .below in
           let laid = successors b m (taker .channel) (taker .continuation) in
@@ -212,17 +212,17 @@ module _ {ts : List Term} {h : Configuration} {s starts : List ℕ} {n : ℕ} (x
           rw (channel-here, count-here x (taker .channel) l)
           (stored-and-laid (taker .channel) (count (h .counts) (taker .channel) - 1) _ laid (take size bytes)
           (size / idleSize) l (omega arith) (position-below x p _ (taker .there)) (v .1) (omega (arith, v .0))
-          (take-accepted h p b m (taker .channel) (taker .continuation) (rw number-here (taker .there)) (taker .token)
-          (rw number-here (taker .few))))
+          (ap answerOf (take-accepted h p b m (taker .channel) (taker .continuation) (rw number-here (taker .there)) (taker .token)
+          (rw number-here (taker .few)))))
 
 -- rule 2, and rule 3
 module _ {ts : List Term} {h : Configuration} {d s starts : List ℕ} {n : ℕ} (y : Decoded ts d)
     (x : Holds ts h s starts n) (p m a : ℕ) (t : m ≡ getD s (getD starts p 0 + componentBody) 0)
     (f : a ≡ firstAt d m) (bytes : List ℕ) (size : ℕ) (w : SuccessorsWritten d m bytes size) where
-  pub in-link : replyOf (answerTo h (act p)) ≡ movedBy 2 →
+  pub in-link : AcceptedBy h (act p) 2 →
       Linked ts h (set s a (getD s a 0 - 1)) starts n p (take size bytes) (size / idleSize)
   in-link q = take-link x p y false q m a t f bytes size w
 
-  pub rep-link : replyOf (answerTo h (act p)) ≡ movedBy 3 →
+  pub rep-link : AcceptedBy h (act p) 3 →
       Linked ts h (set s a (getD s a 0 - 1)) starts n p (take size bytes) (size / idleSize)
   rep-link q = take-link x p y true q m a t f bytes size w

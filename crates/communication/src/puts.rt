@@ -4,6 +4,7 @@ use index::replace_component;
 use rules::FULL_CHANNEL;
 use rules::OUT;
 use rules::Reply;
+use rules::Shortage;
 use stored::COMPONENT_BODY;
 use stored::INDEX_SIZE;
 use stored::MAX_COUNT;
@@ -17,7 +18,7 @@ pub fn look_out(hall: &[u8], channel: u8) -> Reply
     if hall[wide(channel)] == MAX_COUNT {
         return Reply::Refused(FULL_CHANNEL);
     }
-    Reply::Moved(OUT)
+    Reply::Moved(OUT, Shortage::Enough)
 }
 
 // OUT at a position. The answer is how many components there are now.

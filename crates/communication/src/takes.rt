@@ -11,6 +11,7 @@ use rules::EMPTY_CHANNEL;
 use rules::IN;
 use rules::REP;
 use rules::Reply;
+use rules::Shortage;
 use rules::TOO_MANY_COMPONENTS;
 use stored::COMPONENT_BODY;
 use stored::IDLE_SIZE;
@@ -77,7 +78,7 @@ pub fn look_take(decoded: &[u8; DECODED], hall: &[u8], components: usize, term: 
     if is_crowded(decoded, continuation, staying, components) {
         return Reply::Refused(TOO_MANY_COMPONENTS);
     }
-    Reply::Moved(take_rule(kind))
+    Reply::Moved(take_rule(kind), Shortage::Enough)
 }
 
 // The bytes of what stands in the take's place afterwards: the answer is how many they are.

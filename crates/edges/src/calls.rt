@@ -2,7 +2,8 @@
 //
 //     H number place            checking the hall
 //     O number place            opening the table in it
-//     M number place rule       the first choice alone
+//     M number place rule tray by
+//                               the first choice alone; the tray that was short and by how many, 0 0 where none was
 //     R number place done       running the choices
 //     C commits failed retries  the tally then
 //     B byte ..                 the hall then, up to its last byte that is not 0
@@ -21,6 +22,7 @@ use engine::RunAnswer;
 use engine::StepAnswer;
 use engine::SuggestAnswer;
 use libc::STDOUT_FILENO;
+use rules::Shortage;
 use schedule::Entry;
 use schedule::KIND_ACT;
 use schedule::KIND_INSIDE;
@@ -53,6 +55,18 @@ fn print_three(letter: u8, a: usize, b: usize, c: usize) {
     end_line();
 }
 
+// A letter, a number, a place and three bytes, what is not said being 0.
+fn print_five(letter: u8, number: u8, place: usize, a: u8, b: u8, c: u8) {
+    let one = [letter];
+    io::write_all(STDOUT_FILENO, &one);
+    print_field(wide(number));
+    print_field(place);
+    print_field(wide(a));
+    print_field(wide(b));
+    print_field(wide(c));
+    end_line();
+}
+
 fn print_counters(counters: Counters) {
     print_three(
         b'C',
@@ -76,6 +90,13 @@ fn print_opening(table: &[u8], hall: &mut [u8]) {
     }
 }
 
+fn print_moved(rule: u8, shortage: Shortage, place: usize) {
+    match shortage {
+        Shortage::Enough => print_five(b'M', 0, place, rule, 0, 0),
+        Shortage::Short { channel, by } => print_five(b'M', 0, place, rule, channel, by),
+    }
+}
+
 fn print_step(table: &[u8], hall: &mut [u8], choices: &[u8], first: Counters) {
     let kind = byte_at(choices, 0);
     let position = byte_at(choices, 1);
@@ -83,10 +104,11 @@ fn print_step(table: &[u8], hall: &mut [u8], choices: &[u8], first: Counters) {
     match engine::step(table, hall, kind, position, node, first) {
         StepAnswer::Moved {
             rule,
+            shortage,
             place,
             counters: _,
-        } => print_three(b'M', 0, place, wide(rule)),
-        StepAnswer::Refused { number, place } => print_three(b'M', wide(number), place, 0),
+        } => print_moved(rule, shortage, place),
+        StepAnswer::Refused { number, place } => print_five(b'M', number, place, 0, 0, 0),
     }
 }
 
@@ -113,29 +135,18 @@ fn print_bytes(hall: &[u8]) {
     end_line();
 }
 
-// A number, a place and the bytes of a choice, what is not said being 0.
-fn print_suggest_line(number: u8, place: usize, kind: u8, position: u8, node: u8) {
-    io::write_all(STDOUT_FILENO, b"S");
-    print_field(wide(number));
-    print_field(place);
-    print_field(wide(kind));
-    print_field(wide(position));
-    print_field(wide(node));
-    end_line();
-}
-
 fn print_entry(entry: Entry) {
     match entry {
-        Entry::Act { position } => print_suggest_line(0, 0, KIND_ACT, position, 0),
-        Entry::Inside { position, node } => print_suggest_line(0, 0, KIND_INSIDE, position, node),
+        Entry::Act { position } => print_five(b'S', 0, 0, KIND_ACT, position, 0),
+        Entry::Inside { position, node } => print_five(b'S', 0, 0, KIND_INSIDE, position, node),
     }
 }
 
 fn print_suggestion(table: &[u8], hall: &[u8]) {
     match engine::suggest(table, hall) {
         SuggestAnswer::Suggested(entry) => print_entry(entry),
-        SuggestAnswer::Still => print_suggest_line(0, 0, 0, 0, 0),
-        SuggestAnswer::Refused { number, place } => print_suggest_line(number, place, 0, 0, 0),
+        SuggestAnswer::Still => print_five(b'S', 0, 0, 0, 0, 0),
+        SuggestAnswer::Refused { number, place } => print_five(b'S', number, place, 0, 0, 0),
     }
 }
 

@@ -5,6 +5,7 @@ use Prim.Native.Nat.{ℕ}
 use native.Mathlib.Omega.{arith}
 use mathlib.Core.Path.{_≡_, refl, ap}
 use mathlib.Core.List.{List}
+use Rattle.rules.proofs.Replies.{shortages-differ}
 use Rattle.counters.specs.declared.Counters.{Counters}
 use Rattle.counters.proofs.Rising.{counters-injective}
 use Rattle.schedule.specs.declared.Entry.{Entry}
@@ -42,19 +43,20 @@ opening-injective a b x y e = (answer-injective a b (ap (λ o. o .answer) e), ap
 module _ (t : Counters) (x y : List ℕ) where
   step-cases : (a b : StepAnswer) → StepCaseDecided a → StepCaseDecided b →
       stepCallOf a (buffersOf x t) ≡ stepCallOf b (buffersOf y t) → a ≡ b
-  step-cases (step.Moved r p c) (step.Moved s q d) l m e =
+  step-cases (step.Moved r v p c) (step.Moved s w q d) l m e =
       let rule : r ≡ s = ap (λ o. o .rule) e in
+      let lacks : v ≡ w = shortages-differ v w (ap (λ o. o .shortage) e) in
       let place : p ≡ q = ap (λ o. o .place) e in
-      rw (rule, place, counters-injective c d (ap (λ o. o .buffers .counters) e))
-  step-cases (step.Moved r p c) (step.Refused n q) l m e = absurd (let z : 0 ≡ n = ap (λ o. o .number) e in omega arith)
-  step-cases (step.Refused n p) (step.Moved r q c) l m e = absurd (let z : n ≡ 0 = ap (λ o. o .number) e in omega arith)
+      rw (rule, lacks, place, counters-injective c d (ap (λ o. o .buffers .counters) e))
+  step-cases (step.Moved r v p c) (step.Refused n q) l m e = absurd (let z : 0 ≡ n = ap (λ o. o .number) e in omega arith)
+  step-cases (step.Refused n p) (step.Moved r w q c) l m e = absurd (let z : n ≡ 0 = ap (λ o. o .number) e in omega arith)
   step-cases (step.Refused n p) (step.Refused k q) l m e =
       let number : n ≡ k = ap (λ o. o .number) e in let place : p ≡ q = ap (λ o. o .place) e in rw (number, place)
 
   step-hall : (a b : StepAnswer) → stepCallOf a (buffersOf x t) ≡ stepCallOf b (buffersOf y t) → x ≡ y
-  step-hall (step.Moved r p c) (step.Moved s q d) e = ap (λ o. o .buffers .hall) e
-  step-hall (step.Moved r p c) (step.Refused n q) e = ap (λ o. o .buffers .hall) e
-  step-hall (step.Refused n p) (step.Moved r q c) e = ap (λ o. o .buffers .hall) e
+  step-hall (step.Moved r v p c) (step.Moved s w q d) e = ap (λ o. o .buffers .hall) e
+  step-hall (step.Moved r v p c) (step.Refused n q) e = ap (λ o. o .buffers .hall) e
+  step-hall (step.Refused n p) (step.Moved r w q c) e = ap (λ o. o .buffers .hall) e
   step-hall (step.Refused n p) (step.Refused k q) e = ap (λ o. o .buffers .hall) e
 
   pub step-injective : (a b : StepAnswer) → StepCaseDecided a → StepCaseDecided b →

@@ -4,9 +4,10 @@ use Prim.Native.Nat.{ℕ, _<_}
 use mathlib.Core.Path.{_≡_}
 use mathlib.Core.List.{List, [], _∷_}
 use lib.ListN.{length}
+use Rattle.semantics.specs.Definitions.Shortage.{enough}
 use Rattle.semantics.specs.Definitions.Terms.{Term}
 use Rattle.semantics.specs.Definitions.Configuration.{Configuration}
-use Rattle.semantics.specs.Definitions.Moves.{Entry, answerTo}
+use Rattle.semantics.specs.Definitions.Moves.{Entry, respondTo}
 use Rattle.semantics.specs.Definitions.Run.{Counters, entry, schedule}
 use Rattle.semantics.specs.Definitions.Calls.{Verdict, ok, rejected, Opening, opened, notOpened, Buffers, StepCall}
 use Rattle.semantics.specs.Definitions.Suggestion.{suggested, still, notSuggested}
@@ -15,6 +16,7 @@ use Rattle.semantics.specs.Definitions.Calls as calls
 use Rattle.theorems.proofs.Steps.{answered}
 use Rattle.terms.specs.Decoded.{Decoded}
 use Rattle.index.specs.Holds.{Holds}
+use Rattle.rules.specs.Replies.{shortageIs}
 use Rattle.counters.specs.declared.Counters as counters
 use Rattle.counters.specs.Counted.{countersOf}
 use Rattle.schedule.specs.Entries.{entryOf}
@@ -54,15 +56,21 @@ buffersOf hall c = record { hall = hall; counters = countersOf c }
 -- ---- a step
 
 -- each case as the call of the definitions, with what was lent and the hall's bytes afterwards: number 0 where the
--- choice moved; rule 0 and the counters that were lent where it is refused
+-- choice moved; rule 0, nothing short and the counters that were lent where it is refused
 abbrev pub stepCallOf : StepAnswer → Buffers → StepCall
-stepCallOf (step.Moved r p c) l =
-    record { number = 0; place = p; rule = r; buffers = record { hall = l .hall; counters = countersOf c } }
-stepCallOf (step.Refused n p) l = record { number = n; place = p; rule = 0; buffers = l }
+stepCallOf (step.Moved r w p c) l =
+    record {
+      number = 0;
+      place = p;
+      rule = r;
+      shortage = shortageIs w;
+      buffers = record { hall = l .hall; counters = countersOf c };
+    }
+stepCallOf (step.Refused n p) l = record { number = n; place = p; rule = 0; shortage = enough; buffers = l }
 
 -- no refusal has number 0, so that the number tells the case
 abbrev pub StepCaseDecided : StepAnswer → Type 0
-StepCaseDecided (step.Moved r p c) = Unit {0}
+StepCaseDecided (step.Moved r w p c) = Unit {0}
 StepCaseDecided (step.Refused n p) = 0 < n
 
 -- these bytes are one entry
@@ -75,7 +83,7 @@ pub record Stepped (d s starts : List ℕ) (n : ℕ) (e : Entry) (size : ℕ) (t
     (s′ : List ℕ) : Type 0 where
   pub found : (ts : List Term) (h : Configuration) → Decoded ts d → Holds ts h s starts n →
       stepCallOf r (record { hall = s′; counters = t })
-      ≡ answered h (record { hall = s; counters = t }) size (answerTo h e)
+      ≡ answered h (record { hall = s; counters = t }) size (respondTo h e)
   pub decided : StepCaseDecided r
 
 -- ---- a suggestion

@@ -1,8 +1,10 @@
 // Making one choice on a stored hall.
 use admission::Admission;
 use counters::Counters;
+use rules::Shortage;
 use rules::UNKNOWN_KIND;
 use rules::rule_of;
+use rules::shortage_of;
 use runs::RunAnswer;
 use schedule::Entry;
 use schedule::KIND_ACT;
@@ -17,11 +19,12 @@ ghost use Rattle.index.specs.Holds.{Running};
 ghost use Rattle.schedule.specs.Entries.{entryOf};
 ghost use Rattle.engine.specs.Answers.{OneEntry, buffersOf, stepCallOf, StepCaseDecided, Stepped};
 
-// The rule by which a choice moved, the place behind it and the counters after it; or the refusal's number and place,
-// where the counters stay as they were.
+// The rule by which a choice moved and what it was short of, the place behind it and the counters after it; or the
+// refusal's number and place, where the counters stay as they were.
 pub enum StepAnswer {
     Moved {
         rule: u8,
+        shortage: Shortage,
         place: usize,
         counters: Counters,
     },
@@ -31,7 +34,8 @@ pub enum StepAnswer {
     },
 }
 
-// The choice that these bytes are, made on a configuration that is held: looked at, which tells its rule, and then run.
+// The choice that these bytes are, made on a configuration that is held: looked at, which tells its rule
+// and what is short, and then run.
 fn step_held(
     decoded: &[u8; DECODED],
     hall: &mut [u8],
@@ -54,6 +58,7 @@ fn step_held(
             counters: tally,
         } => StepAnswer::Moved {
             rule: rule_of(reply),
+            shortage: shortage_of(reply),
             place: bytes.len(),
             counters: tally,
         },
@@ -67,7 +72,7 @@ fn step_held(
 }
 
 // Makes the choice of this kind, at a position and, for kind 2, at a node: a run of that one choice, which tells the
-// rule besides.
+// rule and what was short besides.
 pub fn step(
     table: &[u8],
     hall: &mut [u8],

@@ -10,9 +10,10 @@ use lib.ListN.{length, getElem?}
 use Rattle.calculus.specs.Reduction.{Rule}
 use Rattle.semantics.specs.Definitions.Basics.{replaceAt}
 use Rattle.semantics.specs.Definitions.Layout.{maxComponents}
+use Rattle.semantics.specs.Definitions.Shortage.{Shortage}
 use Rattle.semantics.specs.Definitions.Terms.{Term}
 use Rattle.semantics.specs.Definitions.Configuration.{Component, Configuration}
-use Rattle.semantics.specs.Definitions.Moves.{Entry, act, acts, moves, Answer, moved, refused, answerTo, ruleNumber, movedBy, replyOf}
+use Rattle.semantics.specs.Definitions.Moves.{Entry, act, acts, moves, Response, does, refuses, respondTo, moved, answerOf, answerTo, ruleNumber, movedBy, replyOf}
 use Rattle.semantics.specs.Definitions.Stored.{WellFormed}
 use Rattle.theorems.proofs.Lists.{length-replaceAt}
 use Rattle.theorems.proofs.Moves.{positionOf, localMove, accepted-inverts}
@@ -20,24 +21,18 @@ use Rattle.theorems.proofs.WellFormedKept.{well-formed-step}
 use Rattle.stored.specs.Layout.{indexSize}
 use Rattle.storedlaws.specs.Positions.{allBytes}
 use Rattle.index.specs.Holds.{Holds, replacedAt, withCounts, Spaced, Replaces, CanReplace, Replaced}
-use Rattle.index.specs.Choices.{afterwards}
+use Rattle.index.specs.Choices.{afterwards, AcceptedBy}
 use Rattle.index.proofs.Holding.{few-components, position-below}
 
 -- ---- an entry that is accepted by a rule of number k
 
-pub record Numbered (h : Configuration) (e : Entry) (k : ℕ) : Type 0 where
-  pub rule : Rule
-  pub result : Configuration
-  pub answer : answerTo h e ≡ moved rule result
-  pub number : ruleNumber rule ≡ k
-
-pub by-number : (h : Configuration) (e : Entry) (k : ℕ) → replyOf (answerTo h e) ≡ movedBy k → Numbered h e k
-unfolding replyOf
-by-number h e k q = go (answerTo h e) refl q
+pub by-number : (h : Configuration) (e : Entry) (k : ℕ) (w : Shortage) → replyOf (respondTo h e) ≡ movedBy k w → AcceptedBy h e k
+unfolding replyOf answerTo answerOf
+by-number h e k w q = go (respondTo h e) refl q
   where
-    go : (a : Answer) → answerTo h e ≡ a → replyOf a ≡ movedBy k → Numbered h e k
-    go (moved r g) f same = record { rule = r; result = g; answer = f; number = cc }
-    go (refused n) f same = let z : _≡_ {A = ℕ} 0 1 = cc in absurd (omega arith)
+    go : (a : Response) → respondTo h e ≡ a → replyOf a ≡ movedBy k w → AcceptedBy h e k
+    go (does r v g) f same = record { rule = r; result = g; answer = ap answerOf f; numbered = cc }
+    go (refuses n) f same = let z : _≡_ {A = ℕ} 0 1 = cc in absurd (omega arith)
 
 -- an act: the component at its position, and the move of its own that it makes
 pub record Acted (h : Configuration) (p k : ℕ) : Type 0 where
@@ -48,23 +43,24 @@ pub record Acted (h : Configuration) (p k : ℕ) : Type 0 where
   pub component : Component
   pub found : getElem? (h .components) p ≡ some component
   pub laid : List Component
-  pub local : acts (h .counts) component ≡ moves rule (result .counts) laid
+  pub lacks : Shortage
+  pub local : acts (h .counts) component ≡ moves rule lacks (result .counts) laid
   pub placed : result .components ≡ replaceAt p laid (h .components)
   pub fits : length (result .components) ≤ maxComponents
 
-pub acted : (h : Configuration) (p k : ℕ) → replyOf (answerTo h (act p)) ≡ movedBy k → Acted h p k
+pub acted : (h : Configuration) (p k : ℕ) → AcceptedBy h (act p) k → Acted h p k
 unfolding positionOf localMove
-acted h p k q =
-    let n = by-number h (act p) k q in
+acted h p k n =
     let m = accepted-inverts h (act p) (n .rule) (n .result) (n .answer) in
     record {
       rule = n .rule;
       result = n .result;
       answer = n .answer;
-      number = n .number;
+      number = n .numbered;
       component = m .component;
       found = m .found;
       laid = m .laid;
+      lacks = m .lacks;
       local = m .local;
       placed = m .placed;
       fits = m .fits;

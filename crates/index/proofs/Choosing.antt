@@ -5,41 +5,48 @@ use native.Mathlib.Omega.{arith}
 use mathlib.Core.Path.{_≡_, refl, sym, ap, _∙_}
 use mathlib.Core.List.{List}
 use Rattle.semantics.specs.Definitions.Configuration.{Configuration}
-use Rattle.semantics.specs.Definitions.Moves.{Entry, Answer, moved, refused, refusedBy, answerTo, replyOf}
+use Rattle.semantics.specs.Definitions.Moves.{Entry, Response, does, refuses, respondTo, answerOf, answerTo, refusedBy, replyOf}
+use Rattle.rules.specs.declared.Shortage.{Shortage}
 use Rattle.rules.specs.declared.Reply.{Reply}
 use Rattle.rules.specs.declared.Reply.the-variants.{Moved, Refused}
-use Rattle.rules.specs.Replies.{replyIs}
+use Rattle.rules.specs.Replies.{shortageIs, replyIs}
 use Rattle.index.specs.Holds.{Running}
 use Rattle.index.specs.Choices.{afterwards, Looked, Accepts, Applied, Chosen}
+use Rattle.index.proofs.Acting.{by-number}
 
 -- a refusal leaves the configuration as it was
-refused-leaves : (a : Answer) (h : Configuration) (m : ℕ) → replyOf a ≡ refusedBy m → afterwards a h ≡ h
-unfolding replyOf afterwards
-refused-leaves (moved r g) h m e = let z : _≡_ {A = ℕ} 0 1 = cc in absurd (omega arith)
-refused-leaves (refused k) h m e = refl
+refused-leaves : (e : Entry) (h : Configuration) (m : ℕ) → replyOf (respondTo h e) ≡ refusedBy m → afterwards (answerTo h e) h ≡ h
+unfolding replyOf afterwards answerTo answerOf
+refused-leaves e h m q = go (respondTo h e) q
+  where
+    go : (a : Response) → replyOf a ≡ refusedBy m → afterwards (answerOf a) h ≡ h
+    go (does r w g) q = let z : _≡_ {A = ℕ} 0 1 = cc in absurd (omega arith)
+    go (refuses k) q = refl
 
 module _ {d s starts : List ℕ} {n : ℕ} where
   -- an entry whose look answers a rule may be made by it
-  pub looked-accepts : {e : Entry} {r : Reply} {rule : ℕ} → Running d s starts n → Looked d s starts n e r →
-      r ≡ Moved rule →
+  pub looked-accepts : {e : Entry} {r : Reply} {rule : ℕ} {w : Shortage} → Running d s starts n → Looked d s starts n e r →
+      r ≡ Moved rule w →
       Accepts d s starts n e rule
   unfolding replyIs
-  looked-accepts x l q = record {
+  looked-accepts {e} {rule = rule} {w} x l q = record {
     terms = x .terms;
     configuration = x .configuration;
     decoded = x .decoded;
     holds = x .holds;
-    reply = sym (l .found (x .terms) (x .configuration) (x .decoded) (x .holds)) ∙ ap replyIs q;
+    by =
+        by-number (x .configuration) e rule (shortageIs w)
+        (sym (l .found (x .terms) (x .configuration) (x .decoded) (x .holds)) ∙ ap replyIs q);
   }
 
   -- one that is made
-  pub chosen-moved : {e : Entry} {r : Reply} {rule : ℕ} {s′ starts′ : List ℕ} {n′ : ℕ} → Looked d s starts n e r →
-      r ≡ Moved rule →
-      Applied d s starts n e rule s′ starts′ n′ → Chosen d s starts n e (Moved rule) s′ starts′ n′
+  pub chosen-moved : {e : Entry} {r : Reply} {rule : ℕ} {w : Shortage} {s′ starts′ : List ℕ} {n′ : ℕ} → Looked d s starts n e r →
+      r ≡ Moved rule w →
+      Applied d s starts n e rule s′ starts′ n′ → Chosen d s starts n e (Moved rule w) s′ starts′ n′
   unfolding replyIs
-  chosen-moved l q a = record {
+  chosen-moved {e} {rule = rule} {w} l q a = record {
     looked = rw q at l;
-    found = λ ts h y x. a .found ts h y x (sym (l .found ts h y x) ∙ ap replyIs q);
+    found = λ ts h y x. a .found ts h y x (by-number h e rule (shortageIs w) (sym (l .found ts h y x) ∙ ap replyIs q));
   }
 
   -- and one that is refused
@@ -48,7 +55,7 @@ module _ {d s starts : List ℕ} {n : ℕ} where
   unfolding replyIs
   chosen-refused {e} {r} {m} l q = record {
     looked = rw q at l;
-    found = λ ts h y x. rw (refused-leaves (answerTo h e) h m (sym (l .found ts h y x) ∙ ap replyIs q)) x;
+    found = λ ts h y x. rw (refused-leaves e h m (sym (l .found ts h y x) ∙ ap replyIs q)) x;
   }
 
   -- what is held afterwards is a run's again

@@ -5,9 +5,10 @@
 use Prim.Native.Nat.{ℕ}
 use mathlib.Core.Path.{_≡_}
 use mathlib.Core.List.{List}
+use Rattle.calculus.specs.Reduction.{Rule}
 use Rattle.semantics.specs.Definitions.Terms.{Term}
 use Rattle.semantics.specs.Definitions.Configuration.{Configuration}
-use Rattle.semantics.specs.Definitions.Moves.{Entry, Answer, moved, refused, answerTo, movedBy, replyOf}
+use Rattle.semantics.specs.Definitions.Moves.{Entry, respondTo, Answer, moved, refused, answerTo, ruleNumber, replyOf}
 use Rattle.terms.specs.Decoded.{Decoded}
 use Rattle.rules.specs.declared.Reply.{Reply}
 use Rattle.rules.specs.Replies.{replyIs}
@@ -20,20 +21,28 @@ afterwards (refused n) h = h
 
 -- r is what the entry is answered, whichever configuration of whichever table is held
 pub record Looked (d s starts : List ℕ) (n : ℕ) (e : Entry) (r : Reply) : Type 0 where
-  pub found : (ts : List Term) (h : Configuration) → Decoded ts d → Holds ts h s starts n → replyIs r ≡ replyOf (answerTo h e)
+  pub found : (ts : List Term) (h : Configuration) → Decoded ts d → Holds ts h s starts n →
+      replyIs r ≡ replyOf (respondTo h e)
 
--- the entry is accepted, by the rule of this number
+-- an entry is accepted on a configuration, by a rule of this number
+pub record AcceptedBy (h : Configuration) (e : Entry) (number : ℕ) : Type 0 where
+  pub rule : Rule
+  pub result : Configuration
+  pub answer : answerTo h e ≡ moved rule result
+  pub numbered : ruleNumber rule ≡ number
+
+-- on some configuration that is held
 pub record Accepts (d s starts : List ℕ) (n : ℕ) (e : Entry) (rule : ℕ) : Type 0 where
   pub terms : List Term
   pub configuration : Configuration
   pub decoded : Decoded terms d
   pub holds : Holds terms configuration s starts n
-  pub reply : replyOf (answerTo configuration e) ≡ movedBy rule
+  pub by : AcceptedBy configuration e rule
 
 -- where the entry is accepted by the rule of this number, what it makes of the configuration is held now
 pub record Applied (d s starts : List ℕ) (n : ℕ) (e : Entry) (rule : ℕ) (s′ starts′ : List ℕ) (n′ : ℕ) : Type 0 where
   pub found : (ts : List Term) (h : Configuration) → Decoded ts d → Holds ts h s starts n →
-      replyOf (answerTo h e) ≡ movedBy rule → Holds ts (afterwards (answerTo h e) h) s′ starts′ n′
+      AcceptedBy h e rule → Holds ts (afterwards (answerTo h e) h) s′ starts′ n′
 
 -- an entry that is made: r is what a look would answer, and what the entry makes of the configuration is held now,
 -- accepted or refused

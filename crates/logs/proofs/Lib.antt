@@ -3,6 +3,7 @@ pub mod Padding
 pub mod Needing
 pub mod Counting
 pub mod Leaving
+pub mod Lacking
 pub mod Writing
 pub mod Copying
 pub mod StoredLogs

@@ -33,7 +33,7 @@ needs-snoc need [] b = refl
 needs-snoc need (c ∷ bs) b = needs-snoc (needing need c) bs b
 
 -- a read
-also-needed : (bs : List ℕ) (a : ℕ) → a < channels → alsoNeeded (needsOf bs) a ≡ needsOf (bs ++ (a ∷ []))
+pub also-needed : (bs : List ℕ) (a : ℕ) → a < channels → alsoNeeded (needsOf bs) a ≡ needsOf (bs ++ (a ∷ []))
 unfolding needsOf needing
 also-needed bs a h = rw (needs-snoc (replicate channels 0) bs a, lt-ltb a channels h)
 
@@ -113,7 +113,7 @@ unfolding occurrences
 occurrences-few a [] = omega arith
 occurrences-few a (b ∷ bs) = let p = occurrences-few a bs in let q = same-one a b in omega arith
 
-needs-few : (bs : List ℕ) (a : ℕ) → a < channels → getD (needsOf bs) a 0 ≤ length bs
+pub needs-few : (bs : List ℕ) (a : ℕ) → a < channels → getD (needsOf bs) a 0 ≤ length bs
 needs-few bs a h = let p = needs-count bs a h in let q = occurrences-few a bs in omega arith
 
 -- ---- turns: the first i bytes of a log of the given size were seen

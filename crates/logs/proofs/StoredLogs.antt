@@ -1,4 +1,4 @@
--- What the code finds in the bytes of a log is what the definitions say of the log: the test is `readable`, the counts
+-- What the code finds in the bytes of a log is what the definitions say of the log: the test is `shortage`, the counts
 -- fall by RD, the outputs are those of WT.
 -- Assumes nothing.
 use Prim.Native.Nat.{ℕ, _+_, _*_, _-_, _≤_, _<_}
@@ -17,7 +17,8 @@ use Rattle.calculus.proofs.States.{same-other, length-without, count-without}
 use Rattle.semantics.specs.Definitions.Basics.{padded, All}
 use mathlib.Core.List.{flatten}
 use Rattle.semantics.specs.Definitions.Layout.{channels, maxActions, writeOffset, outputKind}
-use Rattle.semantics.specs.Definitions.Logs.{readable}
+use Rattle.semantics.specs.Definitions.Logs.{shortage, readable}
+use Rattle.semantics.specs.Definitions.Shortage.{Shortage}
 use Rattle.semantics.specs.Definitions.Configuration.{idle, output}
 use Rattle.semantics.specs.Definitions.Stored.{actionByte, channelOf, componentBytes}
 use Rattle.theorems.proofs.Lists.{all-append}
@@ -25,7 +26,7 @@ use Rattle.theorems.proofs.Readable.{readable-included, included-readable}
 use Rattle.buffer.specs.Splice.{written}
 use Rattle.logs.specs.declared.Log as code
 use Rattle.logs.specs.declared.Outputs.{Outputs}
-use Rattle.logs.specs.Needs.{needsOf, withinAt, lowered}
+use Rattle.logs.specs.Needs.{readsOf, shortAt, needsOf, withinAt, lowered}
 use Rattle.logs.specs.Writes.{writesOf, outputBytes}
 use Rattle.logs.specs.Values.{LogIs, OutputsAre}
 use Rattle.logs.specs.Places.{LogAt, CountsAt}
@@ -98,6 +99,18 @@ module _ (s : List ℕ) (k : ℕ) (σ : State) (there : CountsAt s k σ) where
           let i = readable-included σ δ e in
           all-covered need s k (λ a h. let p = i a in let q = log-needs δ a h in let c = counts-at a h in omega arith)
 
+-- the bytes of a log read what the log reads
+reads-log : (δ : Log) → Named δ → readsOf (map actionByte δ) ≡ RD δ
+unfolding readsOf RD actionByte channelOf
+reads-log [] n = refl
+reads-log (rd a ∷ δ) n = rw (lt-ltb a writeOffset (n .0)) (ap (_∷_ a) (reads-log δ (n .1)))
+reads-log (wt a ∷ δ) n = rw (le-ltb (writeOffset + a) writeOffset (omega arith)) (reads-log δ (n .1))
+
+-- so they are short of the same
+short-log : (s : List ℕ) (k : ℕ) (σ : State) → CountsAt s k σ → (δ : Log) → Named δ → shortAt (map actionByte δ) s k ≡ shortage σ δ
+unfolding shortAt shortage
+short-log s k σ there δ n = rw (there .bytes, reads-log δ n)
+
 -- ---- taking what is needed
 
 lowered-without : (σ : State) (δ : Log) → length σ ≡ channels →
@@ -141,18 +154,22 @@ module _ (s : List ℕ) (at n : ℕ) (δ : Log) (stored : LogAt s at δ) (size :
       getD need a 0 ≡ occurrences a (RD δ)
   stored-needs need a e h = rw (e, stored-bytes) (log-needs δ a h)
 
-  -- rules 7 and 6: the log is readable at these counts
+  -- rule 7: the log is readable at these counts
   pub stored-readable : (k : ℕ) (σ : State) (need : List ℕ) (r : Bool) → CountsAt s k σ →
       need ≡ needsOf (take n (drop at s)) → r ≡ withinAt need s k → r ≡ readable σ δ
   stored-readable k σ need r c e f = f ∙ rw (e, stored-bytes) (within-log s k σ c δ (stored .named))
 
-  -- rules 8 and 9: the log with one more read is readable at these counts
-  pub stored-readable-with : (k : ℕ) (σ : State) (a : Name) (need : List ℕ) (r : Bool) → CountsAt s k σ → a < channels →
-      need ≡ needsOf (take n (drop at s) ++ (a ∷ [])) → r ≡ withinAt need s k → r ≡ readable σ (δ ++ (rd a ∷ []))
+  -- rules 6 and 7: what the log is short of at these counts
+  pub stored-shortage : (k : ℕ) (σ : State) (w : Shortage) → CountsAt s k σ → w ≡ shortAt (take n (drop at s)) s k → w ≡ shortage σ δ
+  stored-shortage k σ w c f = f ∙ rw stored-bytes (short-log s k σ c δ (stored .named))
+
+  -- rules 8 and 9: what the log with one more read is
+  pub stored-shortage-with : (k : ℕ) (σ : State) (a : Name) (w : Shortage) → CountsAt s k σ → a < channels →
+      w ≡ shortAt (take n (drop at s) ++ (a ∷ [])) s k → w ≡ shortage σ (δ ++ (rd a ∷ []))
   unfolding actionByte channelOf
-  stored-readable-with k σ a need r c h e f =
+  stored-shortage-with k σ a w c h f =
       let named = all-append _ δ (rd a ∷ []) (stored .named) (h, tt) in
-      f ∙ rw (e, stored-bytes, ← map-snoc δ (rd a)) (within-log s k σ c (δ ++ (rd a ∷ [])) named)
+      f ∙ rw (stored-bytes, ← map-snoc δ (rd a)) (short-log s k σ c (δ ++ (rd a ∷ [])) named)
 
   -- rule 7: the counts fall by the reads
   pub stored-taken : (σ : State) (need t : List ℕ) → CountsAt s 0 σ → need ≡ needsOf (take n (drop at s)) →

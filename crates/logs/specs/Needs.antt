@@ -1,11 +1,29 @@
--- What the bytes of a log need: how often each channel (tray) is read. And needs held against counts, by the one test.
+-- What the bytes of a log read: which channels (trays), and how often each is needed. And reads and needs held against
+-- counts.
 -- Assumes nothing.
 use Prim.Native.Nat.{ℕ, zero, suc, _+_, _-_}
 use mathlib.Core.Bool.{Bool, true, cond, _&&_}
 use mathlib.Core.List.{List, [], _∷_}
-use lib.ListN.{getD, set, replicate}
+use lib.ListN.{getD, set, take, drop, replicate}
 use lib.Dec.{leb, ltb}
 use Rattle.semantics.specs.Definitions.Layout.{channels, writeOffset}
+use Rattle.semantics.specs.Definitions.Shortage.{Shortage, shortageOf}
+
+-- ---- reads
+
+-- the channels that are read, in log order: a read's byte is its channel
+unfoldable pub readsOf : List ℕ → List ℕ
+readsOf [] = []
+readsOf (b ∷ bs) = cond (ltb b writeOffset) (b ∷ readsOf bs) (readsOf bs)
+
+-- the counts that stand from an offset on
+abbrev pub countsIn : (s : List ℕ) (at : ℕ) → List ℕ
+countsIn s at = take channels (drop at s)
+
+-- the one test: what the reads of these bytes are short of at those counts
+unfoldable pub shortAt : (bytes s : List ℕ) (at : ℕ) → Shortage
+unfolding shortageOf readsOf
+shortAt bytes s at = shortageOf (readsOf bytes) (countsIn s at)
 
 -- ---- needs, by channel
 
@@ -39,7 +57,7 @@ unfoldable pub withinFirst : (need s : List ℕ) → (at n : ℕ) → Bool
 withinFirst need s at zero = true
 withinFirst need s at (suc n) = withinFirst need s at n && leb (getD need n 0) (getD s (at + n) 0)
 
--- the one test of reads against counts
+-- the test's first half
 unfoldable pub withinAt : (need s : List ℕ) → (at : ℕ) → Bool
 unfolding withinFirst
 withinAt need s at = withinFirst need s at channels

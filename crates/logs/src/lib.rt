@@ -1,9 +1,11 @@
 // Logs (document 01, "The stored hall" and "Choices and moves"): as values, and what a stored log needs and writes.
 //
 // What the reads of a log come to is an array of needs, one for each channel (tray), which a commit takes from the
-// counts. Whether counts suffice is told by one test, `left_of`, which takes the reads one by one, whatever the counts
-// are: the hall's own or a snapshot. A stored log is read where it stands, at an offset of a hall's bytes.
+// counts. One test, `shortage`, tells what counts lack for the reads, whatever the counts are: the hall's own or a
+// snapshot. It takes the reads one by one from a copy of the counts (`left_of`), and only where these do not suffice
+// looks for the lowest channel that is short. A stored log is read where it stands, at an offset of a hall's bytes.
 use buffer::wide;
+use rules::Shortage;
 use stored::CHANNELS;
 use stored::IDLE_SIZE;
 use stored::KIND_OUTPUT;
@@ -16,9 +18,10 @@ ghost use Prim.Native.Nat.{_+_, _≤_, _<_};
 ghost use lib.ListN.{length, take, drop};
 ghost use Rattle.semantics.specs.Definitions.Layout.{maxByte, channels, maxActions};
 ghost use Rattle.semantics.specs.Definitions.Logs.{emptyLog};
-ghost use Rattle.logs.specs.Needs.{needsOf, takenBy, withinAt, lowered};
+ghost use Rattle.rules.specs.Replies.{shortageIs};
+ghost use Rattle.logs.specs.Needs.{needsOf, takenBy, withinAt, shortAt, lowered};
 ghost use Rattle.logs.specs.Writes.{writesOf};
-ghost use Rattle.logs.specs.Values.{LogIs, OutputsAre, LeftOf};
+ghost use Rattle.logs.specs.Values.{LogIs, OutputsAre, LowestOf, LeftOf};
 
 // The components that a log of writes alone becomes, in bytes.
 const OUTPUTS_SIZE: usize = IDLE_SIZE * LOG_SIZE;
@@ -99,9 +102,8 @@ fn taken_by(action: u8) -> u8
     if action < WRITE_OFFSET { 1 } else { 0 }
 }
 
-// The one test of reads against counts: the reads of the stored log of so many actions at an offset, taken one by one
-// from a copy of the counts that stand at another, up to the first that finds none. Reads and writes go the same way, so
-// that no branch has to be foreseen.
+// The reads of the stored log of so many actions at an offset, taken one by one from a copy of the counts that stand at
+// another, up to the first that finds none. Reads and writes go the same way, so that no branch has to be foreseen.
 fn left_of(s: &[u8], at: usize, size: usize, counts: usize) -> Left
     requires { ⌜ (size ≤ maxActions) × (at + size ≤ length (now s)) × (counts + channels ≤ length (now s)) ⌝ }
     ensures { λ r. ⌜ LeftOf r (now (s .entry)) counts (take size (drop at (now (s .entry)))) ⌝ }
@@ -128,17 +130,42 @@ fn left_of(s: &[u8], at: usize, size: usize, counts: usize) -> Left
     }
 }
 
-// Whether the counts that stand at an offset suffice for the reads of a stored log.
-pub fn readable(s: &[u8], at: usize, size: usize, counts: usize) -> bool
-    requires { ⌜ (size ≤ maxActions) × (at + size ≤ length (now s)) × (counts + channels ≤ length (now s)) ⌝ }
-    ensures { λ r. ⌜ r ≡ withinAt (needsOf (take size (drop at (now (s .entry))))) (now (s .entry)) counts ⌝ }
+// The lowest channel that is needed more often than the counts say that stand at an offset, and how many it lacks.
+fn lowest_short(s: &[u8], need: [u8; CHANNELS], counts: usize) -> Shortage
+    requires { ⌜ counts + channels ≤ length (now s) ⌝ }
+    ensures { λ r. ⌜ LowestOf r need (now (s .entry)) counts ⌝ }
 {
-    let left = left_of(s, at, size, counts);
-    left.enough
+    let mut channel: u8 = 0;
+    while wide(channel) < CHANNELS {
+        let i = wide(channel);
+        let count = s[counts + i];
+        let needed = need[i];
+        if count < needed {
+            return Shortage::Short {
+                channel,
+                by: needed - count,
+            };
+        }
+        channel += 1;
+    }
+    Shortage::Enough
 }
 
-// The same with a read of a channel at the log's end.
-pub fn readable_with(s: &[u8], at: usize, size: usize, channel: u8, counts: usize) -> bool
+// The one test of reads against counts: what the counts that stand at an offset lack for the reads of a stored log.
+pub fn shortage(s: &[u8], at: usize, size: usize, counts: usize) -> Shortage
+    requires { ⌜ (size ≤ maxActions) × (at + size ≤ length (now s)) × (counts + channels ≤ length (now s)) ⌝ }
+    ensures { λ r. ⌜ shortageIs r ≡ shortAt (take size (drop at (now (s .entry)))) (now (s .entry)) counts ⌝ }
+{
+    let left = left_of(s, at, size, counts);
+    if left.enough {
+        return Shortage::Enough;
+    }
+    let need = needs_of(s, at, size);
+    lowest_short(s, need, counts)
+}
+
+// Whether the counts suffice for the reads of a stored log with a read of a channel at its end.
+fn readable_with(s: &[u8], at: usize, size: usize, channel: u8, counts: usize) -> bool
     requires { ⌜ (size ≤ maxActions) × (at + size ≤ length (now s)) × (channel < channels)
         × (counts + channels ≤ length (now s)) ⌝ }
     ensures { λ r. ⌜ r ≡ withinAt (needsOf (take size (drop at (now (s .entry))) ++ (channel ∷ [])))
@@ -150,6 +177,31 @@ pub fn readable_with(s: &[u8], at: usize, size: usize, channel: u8, counts: usiz
         return 0 < counts_left[wide(channel)];
     }
     false
+}
+
+// What the reads of a stored log need, with a read of a channel at its end.
+fn needs_with(s: &[u8], at: usize, size: usize, channel: u8) -> [u8; CHANNELS]
+    requires { ⌜ (size ≤ maxActions) × (at + size ≤ length (now s)) × (channel < channels) ⌝ }
+    ensures { λ r. ⌜ r ≡ needsOf (take size (drop at (now (s .entry))) ++ (channel ∷ [])) ⌝ }
+{
+    let mut need = needs_of(s, at, size);
+    let i = wide(channel);
+    need[i] = one_more(need[i]);
+    need
+}
+
+// The same test with a read of a channel at the log's end.
+pub fn shortage_with(s: &[u8], at: usize, size: usize, channel: u8, counts: usize) -> Shortage
+    requires { ⌜ (size ≤ maxActions) × (at + size ≤ length (now s)) × (channel < channels)
+        × (counts + channels ≤ length (now s)) ⌝ }
+    ensures { λ r. ⌜ shortageIs r ≡ shortAt (take size (drop at (now (s .entry))) ++ (channel ∷ []))
+        (now (s .entry)) counts ⌝ }
+{
+    if readable_with(s, at, size, channel, counts) {
+        return Shortage::Enough;
+    }
+    let need = needs_with(s, at, size, channel);
+    lowest_short(s, need, counts)
 }
 
 // The counts of a hall, lowered by needs that they cover.

@@ -1,14 +1,22 @@
--- What the code answers to an entry: as the reply of the definitions, and the number in it.
+-- What the code answers to an entry: as the reply of the definitions, and what is in it.
 -- Assumes nothing.
 use Prim.Native.Nat.{ℕ}
 use mathlib.Core.Path.{_≡_}
+use Rattle.semantics.specs.Definitions.Shortage as test
 use Rattle.semantics.specs.Definitions.Moves as moves
+use Rattle.rules.specs.declared.Shortage.{Shortage}
+use Rattle.rules.specs.declared.Shortage.the-variants.{Enough, Short}
 use Rattle.rules.specs.declared.Reply.{Reply}
 use Rattle.rules.specs.declared.Reply.the-variants.{Moved, Refused}
 
--- each case with its number
+-- each case with its numbers
+unfoldable pub shortageIs : Shortage → test.Shortage
+shortageIs Enough = test.enough
+shortageIs (Short a k) = test.short a k
+
 unfoldable pub replyIs : Reply → moves.Reply
-replyIs (Moved r) = moves.movedBy r
+unfolding shortageIs
+replyIs (Moved r w) = moves.movedBy r (shortageIs w)
 replyIs (Refused n) = moves.refusedBy n
 
 -- no two answers of the code are one reply
@@ -17,10 +25,15 @@ RepliesDiffer = (a b : Reply) → replyIs a ≡ replyIs b → a ≡ b
 
 -- the rule of a move; 0 for a refusal
 abbrev pub ruleOf : Reply → ℕ
-ruleOf (Moved r) = r
+ruleOf (Moved r w) = r
 ruleOf (Refused n) = 0
+
+-- what a move found short; enough for a refusal
+abbrev pub shortageIn : Reply → Shortage
+shortageIn (Moved r w) = w
+shortageIn (Refused n) = Enough
 
 -- the number of a refusal; 0 for a move
 abbrev pub refusalOf : Reply → ℕ
-refusalOf (Moved r) = 0
+refusalOf (Moved r w) = 0
 refusalOf (Refused n) = n

@@ -4,7 +4,7 @@
 // The rules are those of the calculus, numbered as document 01 numbers them: 1 to 3 pass tokens, 4 to 7 begin and end a
 // transaction (attempt), 8 to 13 move inside one.
 ghost use mathlib.Core.Path.{_≡_};
-ghost use Rattle.rules.specs.Replies.{ruleOf, refusalOf};
+ghost use Rattle.rules.specs.Replies.{ruleOf, shortageIn, refusalOf};
 
 pub const OUT: u8 = 1;
 
@@ -54,9 +54,15 @@ pub const TOO_MANY_COMPONENTS: u8 = 19;
 
 pub const FULL_CHANNEL: u8 = 20;
 
-// Moved by the rule of this number, or refused with this number.
+// What the test of reads against counts found: enough, or the lowest channel (tray) that is short, and by how many.
+pub enum Shortage {
+    Enough,
+    Short { channel: u8, by: u8 },
+}
+
+// Moved by the rule of this number, with what its test found short; or refused with this number.
 pub enum Reply {
-    Moved(u8),
+    Moved(u8, Shortage),
     Refused(u8),
 }
 
@@ -65,8 +71,18 @@ pub fn rule_of(reply: Reply) -> u8
     ensures { λ r. ⌜ r ≡ ruleOf reply ⌝ }
 {
     match reply {
-        Reply::Moved(rule) => rule,
+        Reply::Moved(rule, _) => rule,
         Reply::Refused(_) => 0,
+    }
+}
+
+// What a move found short; enough for a refusal.
+pub fn shortage_of(reply: Reply) -> Shortage
+    ensures { λ r. ⌜ r ≡ shortageIn reply ⌝ }
+{
+    match reply {
+        Reply::Moved(_, shortage) => shortage,
+        Reply::Refused(_) => Shortage::Enough,
     }
 }
 
@@ -75,7 +91,7 @@ pub fn refusal_of(reply: Reply) -> u8
     ensures { λ r. ⌜ r ≡ refusalOf reply ⌝ }
 {
     match reply {
-        Reply::Moved(_) => 0,
+        Reply::Moved(_, _) => 0,
         Reply::Refused(number) => number,
     }
 }

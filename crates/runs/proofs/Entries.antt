@@ -8,13 +8,14 @@ use Rattle.calculus.specs.Reduction.{Rule}
 use Rattle.semantics.specs.Definitions.Basics.{All}
 use Rattle.semantics.specs.Definitions.Terms.{Term}
 use Rattle.semantics.specs.Definitions.Configuration.{Configuration}
-use Rattle.semantics.specs.Definitions.Moves.{Entry, Answer, moved, refused, answerTo, ruleNumber, refusedBy, replyOf}
+use Rattle.semantics.specs.Definitions.Moves.{Entry, Response, does, refuses, respondTo, Answer, moved, refused, answerOf, answerTo, ruleNumber, refusedBy, replyOf}
 use Rattle.semantics.specs.Definitions.Run.{ScheduleItem, malformed, schedule}
 use Rattle.theorems.proofs.CallsAsOne.{AnswerHigh, ItemHigh, schedule-high, choose-high}
 use Rattle.terms.specs.Decoded.{Decoded}
+use Rattle.rules.specs.declared.Shortage.{Shortage}
 use Rattle.rules.specs.declared.Reply.{Reply}
 use Rattle.rules.specs.declared.Reply.the-variants.{Moved, Refused}
-use Rattle.rules.specs.Replies.{replyIs}
+use Rattle.rules.specs.Replies.{shortageIs, replyIs}
 use Rattle.index.specs.Holds.{Holds}
 use Rattle.index.specs.Choices.{afterwards, Chosen}
 use Rattle.index.proofs.Acting.{by-number}
@@ -42,27 +43,27 @@ pub record MovedTo (ts : List Term) (h : Configuration) (e : Entry) (rule : ℕ)
 module _ {d s starts : List ℕ} {n : ℕ} {e : Entry} {r : Reply} {s′ starts′ : List ℕ} {n′ : ℕ}
     (c : Chosen d s starts n e r s′ starts′ n′) (ts : List Term) (h : Configuration) (y : Decoded ts d)
     (x : Holds ts h s starts n) where
-  reply : replyIs r ≡ replyOf (answerTo h e)
+  reply : replyIs r ≡ replyOf (respondTo h e)
   reply = c .looked .found ts h y x
 
-  pub made-moved : (rule : ℕ) → r ≡ Moved rule → MovedTo ts h e rule s′ starts′ n′
+  pub made-moved : (rule : ℕ) (w : Shortage) → r ≡ Moved rule w → MovedTo ts h e rule s′ starts′ n′
   unfolding replyIs afterwards
-  made-moved rule q =
-      let a = by-number h e rule (sym reply ∙ ap replyIs q) in
+  made-moved rule w q =
+      let a = by-number h e rule (shortageIs w) (sym reply ∙ ap replyIs q) in
       record {
         done = a .rule;
         result = a .result;
         answer = a .answer;
-        number = a .number;
+        number = a .numbered;
         holds = rw (a .answer) at (c .found ts h y x);
       }
 
   -- it was refused: with the number told, and the configuration is held as it was
   pub made-refused : (m : ℕ) → r ≡ Refused m → (answerTo h e ≡ refused m) × Holds ts h s′ starts′ n′
-  unfolding replyIs replyOf afterwards
-  made-refused m q = go (answerTo h e) refl (sym reply ∙ ap replyIs q) (c .found ts h y x)
+  unfolding replyIs replyOf afterwards answerTo answerOf
+  made-refused m q = go (respondTo h e) refl (sym reply ∙ ap replyIs q) (c .found ts h y x)
     where
-      go : (a : Answer) → answerTo h e ≡ a → replyOf a ≡ refusedBy m → Holds ts (afterwards a h) s′ starts′ n′ →
+      go : (a : Response) → respondTo h e ≡ a → replyOf a ≡ refusedBy m → Holds ts (afterwards (answerOf a) h) s′ starts′ n′ →
           (answerTo h e ≡ refused m) × Holds ts h s′ starts′ n′
-      go (moved done g) f k z = absurd (let z : _≡_ {A = ℕ} 0 1 = cc in omega arith)
-      go (refused j) f k z = (f ∙ ap refused (cc), z)
+      go (does done w g) f k z = absurd (let z : _≡_ {A = ℕ} 0 1 = cc in omega arith)
+      go (refuses j) f k z = (ap answerOf f ∙ ap refused (cc), z)

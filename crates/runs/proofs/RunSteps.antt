@@ -16,6 +16,7 @@ use Rattle.semantics.specs.Definitions.Moves.{Entry, moved, answerTo, ruleNumbe
 use Rattle.semantics.specs.Definitions.Run.{Counters, counted, ScheduleItem, entry, schedule, continueRun, runFrom, run}
 use Rattle.semantics.specs.Definitions.Calls.{runResult}
 use Rattle.terms.specs.Decoded.{Decoded}
+use Rattle.rules.specs.declared.Shortage.{Shortage}
 use Rattle.rules.specs.declared.Reply.{Reply}
 use Rattle.rules.specs.declared.Reply.the-variants as reply
 use Rattle.rules.specs.Replies.{refusalOf}
@@ -135,10 +136,10 @@ module _ {d s₀ starts₀ : List ℕ} {n₀ : ℕ} {choices : List ℕ} {t₀ :
       })
 
       -- it is done, and the run goes on behind it
-      pub run-goes-on : {rule : ℕ} → r ≡ reply.Moved rule → (u : code.Counters) →
+      pub run-goes-on : {rule : ℕ} {lacks : Shortage} → r ≡ reply.Moved rule lacks → (u : code.Counters) →
           ((by : Rule) → ruleNumber by ≡ rule → countersOf u ≡ counted by (countersOf t)) →
           Going d s₀ starts₀ n₀ choices t₀ s′ starts′ n′ behind (done + 1) (countersOf u)
-      run-goes-on {rule} z u counts = record {
+      run-goes-on {rule} {lacks} z u counts = record {
         running = chosen-running (g .running) c;
         first = g .first;
         follows = λ ts h y x. goes ts h (g .follows ts h y x) y;
@@ -150,7 +151,7 @@ module _ {d s₀ starts₀ : List ℕ} {n₀ : ℕ} {choices : List ℕ} {t₀ :
           goes : (ts : List Term) (h : Configuration) → Follows ts h choices t₀ s starts n at done (countersOf t) →
               Decoded ts d → Follows ts h choices t₀ s′ starts′ n′ behind (done + 1) (countersOf u)
           goes ts h w y =
-              let b = made-moved c ts (w .configuration) y (w .holds) rule z in
+              let b = made-moved c ts (w .configuration) y (w .holds) rule lacks z in
               let here = ap (λ l. runFrom (w .configuration) (countersOf t) at done l) (there .here) in
               let next = turn (w .configuration) (b .result) (entryOf e) (there .size) behind at done
               (schedule (drop behind choices)) (countersOf t) (countersOf u) (b .done) (b .answer)

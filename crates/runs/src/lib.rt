@@ -100,7 +100,7 @@ pub fn run_held(
             Parsed::Entry { entry, next } => {
                 let made = choices::make(decoded, hall, starts, held, entry);
                 let reply = made.reply;
-                let Reply::Moved(rule) = reply else {
+                let Reply::Moved(rule, _) = reply else {
                     return RunAnswer::Refused {
                         number: refusal_of(reply),
                         place: at,

@@ -5,6 +5,9 @@ use mathlib.Core.Path.{_≡_, refl, _∙_}
 use mathlib.Core.List.{List, [], _∷_}
 use Rattle.semantics.specs.Definitions.Calls.{runCall, stepCall}
 use Rattle.semantics.specs.Definitions.Suggestion.{suggestCall}
+use Rattle.rules.specs.declared.Shortage.{Shortage}
+use Rattle.rules.specs.declared.Shortage.the-variants.{Enough, Short}
+use Rattle.rules.specs.Replies.{shortageIs}
 use Rattle.counters.specs.declared.Counters.{Counters}
 use Rattle.counters.specs.Counted.{countersOf}
 use Rattle.schedule.specs.declared.Entry.{Entry}
@@ -19,7 +22,7 @@ use Rattle.engine.specs.declared.steps.StepAnswer.the-variants as step
 use Rattle.engine.specs.declared.suggests.SuggestAnswer.{SuggestAnswer}
 use Rattle.engine.specs.declared.suggests.SuggestAnswer.the-variants as suggest
 use Rattle.engine.specs.Answers.{buffersOf, stepCallOf, suggestAnswerOf}
-use Rattle.ruonfidd.specs.Answered.{tallyWords, countersIn, buffersIn, RunAnswered, StepAnswered, choiceWords, SuggestionAnswered}
+use Rattle.ruonfidd.specs.Answered.{tallyWords, countersIn, buffersIn, RunAnswered, shortageWords, StepAnswered, choiceWords, SuggestionAnswered}
 
 -- ---- a choice
 
@@ -28,6 +31,16 @@ act-words e p h = rw h refl
 
 pub inside-words : (e : Entry) (p k : ℕ) → e ≡ entry.Inside p k → 2 ∷ p ∷ k ∷ [] ≡ choiceWords (entryOf e)
 inside-words e p k h = rw h refl
+
+-- ---- a shortage
+
+pub enough-words : (s : Shortage) → s ≡ Enough → 0 ∷ 0 ∷ [] ≡ shortageWords (shortageIs s)
+unfolding shortageIs
+enough-words s h = rw h refl
+
+pub short-words : (s : Shortage) (a k : ℕ) → s ≡ Short a k → a ∷ k ∷ [] ≡ shortageWords (shortageIs s)
+unfolding shortageIs
+short-words s a k h = rw h refl
 
 -- ---- a run
 
@@ -51,17 +64,21 @@ module _ (table hall tally : List ℕ) (kind position node : ℕ) (c : Counters)
   stepped : stepCallOf a (buffersIn hall′ tally) ≡ stepCall table (buffersIn hall tally) kind position node
   stepped = rw l at e
 
-  pub step-moved : (by at : ℕ) (t : Counters) → a ≡ step.Moved by at t → w ≡ tallyWords (countersOf t) →
-      StepAnswered (stepCall table (buffersIn hall tally) kind position node) 0 at by hall′ w
-  step-moved by at t h q =
+  pub step-moved : (by at : ℕ) (lacks : Shortage) (t : Counters) → a ≡ step.Moved by lacks at t → (b : List ℕ) →
+      b ≡ shortageWords (shortageIs lacks) → w ≡ tallyWords (countersOf t) →
+      StepAnswered (stepCall table (buffersIn hall tally) kind position node) 0 at by b hall′ w
+  step-moved by at lacks t h b s q =
       rw (← stepped, h)
-      (record { numbers = record { number = refl; place = refl; rule = refl; tally = q }; bytes = refl })
+      (record { numbers = record { number = refl; place = refl; rule = refl; shortage = s; tally = q }; bytes = refl })
 
   pub step-refused : (m at : ℕ) → a ≡ step.Refused m at → w ≡ tallyWords (countersOf c) →
-      StepAnswered (stepCall table (buffersIn hall tally) kind position node) m at 0 hall′ w
+      StepAnswered (stepCall table (buffersIn hall tally) kind position node) m at 0 (0 ∷ 0 ∷ []) hall′ w
   step-refused m at h q =
       rw (← stepped, h)
-      (record { numbers = record { number = refl; place = refl; rule = refl; tally = rw l at q }; bytes = refl })
+      (record {
+        numbers = record { number = refl; place = refl; rule = refl; shortage = refl; tally = rw l at q };
+        bytes = refl;
+      })
 
 -- ---- a suggestion
 

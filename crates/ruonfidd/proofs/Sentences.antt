@@ -5,6 +5,7 @@ use mathlib.Core.Path.{_≡_, refl}
 use mathlib.Core.List.{List}
 use lib.ListN.{length}
 use borrow.Author.Tests.{ne-eqb}
+use Rattle.semantics.specs.Definitions.Shortage.{enough, short}
 use Rattle.semantics.specs.Definitions.Moves.{Reply, movedBy, refusedBy}
 use Rattle.semantics.specs.Definitions.Sentence.{sentence, sentenceCall}
 use Rattle.semantics.specs.Claims.Sentences.{AllBytes}
@@ -27,11 +28,13 @@ module _ (k p n : ℕ) (r : Reply) (buffer buffer′ : List ℕ) (a : SentenceAn
 
 -- ---- what a caller in C may rely on
 
-pub byte-0-refused : (number : ℕ) → replyFrom 0 number ≡ refusedBy number
-byte-0-refused number = refl
+pub byte-0-refused : (number tray by : ℕ) → replyFrom 0 number tray by ≡ refusedBy number
+byte-0-refused number tray by = refl
 
-pub other-byte-moved : (m number : ℕ) → ¬ (m ≡ 0) → replyFrom m number ≡ movedBy number
-other-byte-moved m number other = rw (ne-eqb m 0 other) refl
+-- by 0 no tray was short, by any other byte this one
+pub other-byte-moved : (m number tray by : ℕ) → ¬ (m ≡ 0) →
+    (replyFrom m number tray 0 ≡ movedBy number enough) × (¬ (by ≡ 0) → replyFrom m number tray by ≡ movedBy number (short tray by))
+other-byte-moved m number tray by other = (rw (ne-eqb m 0 other) refl, λ some. rw (ne-eqb m 0 other, ne-eqb by 0 some) refl)
 
 module _ (k p n : ℕ) (r : Reply) (buffer : List ℕ) (returned before after : ℕ) (buffer′ : List ℕ)
     (t : SentenceAnswered (sentenceCall k p n r buffer) returned before after buffer′) where

@@ -1,5 +1,5 @@
 -- How a call answers C: the returned number, and all else that was set. A tally is three numbers, a suggestion three
--- bytes.
+-- bytes, a shortage two.
 -- Assumes nothing.
 use Prim.Native.Nat.{ℕ}
 use mathlib.Core.Path.{_≡_}
@@ -7,12 +7,13 @@ use mathlib.Core.Bool.{not}
 use mathlib.Core.List.{List, [], _∷_}
 use lib.ListN.{getD}
 use lib.Dec.{eqb}
+use Rattle.semantics.specs.Definitions.Shortage.{Shortage, enough, short}
 use Rattle.semantics.specs.Definitions.Moves.{Entry, act, inside, Reply}
 use Rattle.semantics.specs.Definitions.Run.{Counters}
 use Rattle.semantics.specs.Definitions.Calls.{Verdict, verdictNumber, verdictPlace, Opening, openVerdict, Buffers, RunCall, StepCall}
 use Rattle.semantics.specs.Definitions.Suggestion.{SuggestAnswer, suggested, still, notSuggested}
 use Rattle.semantics.specs.Definitions.Sentence.{SentenceAnswer, told, notTold, SentenceCall}
-use Rattle.sentences.specs.Answers.{replyIn}
+use Rattle.sentences.specs.Answers.{shortageFrom, replyIn}
 
 -- these two numbers as they are
 pub record VerdictSet (n at : ℕ) (returned p : ℕ) : Type 0 where
@@ -55,14 +56,20 @@ pub record RunAnswered (c : RunCall) (returned p d : ℕ) (hall w : List ℕ) : 
 
 -- ---- a step
 
-pub record StepSet (n at by : ℕ) (t : Counters) (returned p r : ℕ) (w : List ℕ) : Type 0 where
+-- what was short as two bytes, a tray and by how many; 0 0 where nothing was
+abbrev pub shortageWords : Shortage → List ℕ
+shortageWords enough = 0 ∷ 0 ∷ []
+shortageWords (short a k) = a ∷ k ∷ []
+
+pub record StepSet (n at by : ℕ) (lacks : Shortage) (t : Counters) (returned p r : ℕ) (b w : List ℕ) : Type 0 where
   pub number : returned ≡ n
   pub place : p ≡ at
   pub rule : r ≡ by
+  pub shortage : b ≡ shortageWords lacks
   pub tally : w ≡ tallyWords t
 
-pub record StepAnswered (c : StepCall) (returned p r : ℕ) (hall w : List ℕ) : Type 0 where
-  pub numbers : StepSet (c .number) (c .place) (c .rule) (c .buffers .counters) returned p r w
+pub record StepAnswered (c : StepCall) (returned p r : ℕ) (b hall w : List ℕ) : Type 0 where
+  pub numbers : StepSet (c .number) (c .place) (c .rule) (c .shortage) (c .buffers .counters) returned p r b w
   pub bytes : hall ≡ c .buffers .hall
 
 -- ---- a suggestion
@@ -95,9 +102,10 @@ pub record SuggestionAnswered (a : SuggestAnswer) (returned p : ℕ) (w : List �
 
 -- ---- a sentence
 
--- a byte that tells whether the choice moved, 0 that it did not, and the number of the rule or of the refusal
-abbrev pub replyFrom : (moved number : ℕ) → Reply
-replyFrom m n = replyIn (not (eqb m 0)) n
+-- a byte that tells whether the choice moved, 0 that it did not, and the number of the rule or of the refusal; then a
+-- tray and by how many it was short, 0 that nothing was
+abbrev pub replyFrom : (moved number tray by : ℕ) → Reply
+replyFrom m n a k = replyIn (not (eqb m 0)) n (shortageFrom (not (eqb k 0)) a k)
 
 -- what is returned, and the lent length afterwards: as it was where nothing is told
 abbrev pub sentenceNumber : SentenceAnswer → ℕ

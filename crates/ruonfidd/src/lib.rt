@@ -4,13 +4,14 @@
 // A `&[u8]` is passed as a pointer and a length, a `&mut` of a number or of an array as a pointer to what the call
 // sets. An enum does not pass to C: a call returns the number, 0 for none, and sets the rest in every case. A tally is
 // three numbers: commits, failed, retries; runs and steps count on from what it holds. A suggestion is three bytes:
-// kind, position, node. Only a sentence that is refused sets nothing: its buffer and its length stay as they were.
+// kind, position, node; a shortage is two: a tray and by how many, 0 0 for none. Only a sentence that is refused sets nothing: its buffer and its length stay as they were.
 use counters::Counters;
 use engine::HallVerdict;
 use engine::OpenAnswer;
 use engine::StepAnswer;
 use engine::SuggestAnswer;
 use report::OUTPUT;
+use rules::Shortage;
 use runs::numbers_of;
 use schedule::Entry;
 use schedule::KIND_ACT;
@@ -26,10 +27,11 @@ ghost use Rattle.semantics.specs.Definitions.Suggestion.{suggestCall};
 ghost use Rattle.semantics.specs.Definitions.Report.{printedRun};
 ghost use Rattle.semantics.specs.Definitions.Sentence.{sentenceCall};
 ghost use Rattle.decimals.specs.Wrote.{Wrote};
+ghost use Rattle.rules.specs.Replies.{shortageIs};
 ghost use Rattle.counters.specs.Counted.{countersOf};
 ghost use Rattle.schedule.specs.Entries.{entryOf};
 ghost use Rattle.sections.specs.Limits.{linesMost};
-ghost use Rattle.ruonfidd.specs.Answered.{VerdictAnswered, OpeningAnswered, tallyWords, countersIn, buffersIn, RunAnswered, StepAnswered, choiceWords, SuggestionAnswered, replyFrom, SentenceAnswered};
+ghost use Rattle.ruonfidd.specs.Answered.{VerdictAnswered, OpeningAnswered, tallyWords, countersIn, buffersIn, RunAnswered, shortageWords, StepAnswered, choiceWords, SuggestionAnswered, replyFrom, SentenceAnswered};
 
 // Whether a table is accepted: 0, and place 0; or the number of the first refusal, and its place.
 #[no_mangle]
@@ -128,9 +130,19 @@ pub extern "C" fn ruonfidd_run(
     numbers.number
 }
 
-// Makes one choice: 0, with the rule by which it moved and the choice's length as the place; or the number of the
-// refusal and its place, with rule 0, and hall and tally as they were. Of a choice of kind 1 the node counts for
-// nothing.
+// What was short, as its tray and by how many; 0 0 where nothing was.
+fn shortage_bytes(shortage: Shortage) -> [u8; 2]
+    ensures { λ r. ⌜ r ≡ shortageWords (shortageIs shortage) ⌝ }
+{
+    match shortage {
+        Shortage::Enough => [0, 0],
+        Shortage::Short { channel, by } => [channel, by],
+    }
+}
+
+// Makes one choice: 0, with the rule by which it moved, what was short and the choice's length as the place; or the
+// number of the refusal and its place, with rule 0, nothing short, and hall and tally as they were. Of a choice of kind
+// 1 the node counts for nothing.
 #[no_mangle]
 pub extern "C" fn ruonfidd_step(
     table: &[u8],
@@ -140,27 +152,31 @@ pub extern "C" fn ruonfidd_step(
     node: u8,
     tally: &mut [u32; 3],
     rule: &mut u8,
+    shortage: &mut [u8; 2],
     place: &mut usize,
 ) -> u8
     ensures { λ r. ⌜ StepAnswered
         (stepCall (now (table .entry)) (buffersIn (now (hall .entry)) (now (tally .entry))) kind position node)
-        r (now (place .exit)) (now (rule .exit)) (now (hall .exit)) (now (tally .exit)) ⌝ }
+        r (now (place .exit)) (now (rule .exit)) (now (shortage .exit)) (now (hall .exit)) (now (tally .exit)) ⌝ }
 {
     let before = counters_in(tally);
     match engine::step(table, hall, kind, position, node, before) {
         StepAnswer::Moved {
             rule: by,
+            shortage: lacks,
             place: at,
             counters,
         } => {
             *place = at;
             *rule = by;
+            *shortage = shortage_bytes(lacks);
             *tally = tally_of(counters);
             0
         }
         StepAnswer::Refused { number, place: at } => {
             *place = at;
             *rule = 0;
+            *shortage = [0, 0];
             *tally = tally_of(before);
             number
         }
@@ -219,7 +235,8 @@ pub extern "C" fn ruonfidd_report(input: &[u8], output: &mut [u8; OUTPUT], lengt
 
 // Writes the sentence of a choice and its answer to the front of a buffer, whose other bytes are left: 0, and its
 // length. `moved` is 0 where the choice was refused with this number, and any other byte where it moved by the rule of
-// this number. Or 21, whose place is always 0: the buffer is too short, and neither it nor the length is written.
+// this number; then `by` says how many the tray lacked, and 0 that none was short. Or 21, whose place is always 0: the
+// buffer is too short, and neither it nor the length is written.
 #[no_mangle]
 pub extern "C" fn ruonfidd_sentence(
     kind: u8,
@@ -227,13 +244,26 @@ pub extern "C" fn ruonfidd_sentence(
     node: u8,
     moved: u8,
     number: u8,
+    tray: u8,
+    by: u8,
     buffer: &mut [u8],
     length: &mut usize,
 ) -> u8
-    ensures { λ r. ⌜ SentenceAnswered (sentenceCall kind position node (replyFrom moved number) (now (buffer .entry)))
+    ensures { λ r. ⌜ SentenceAnswered
+        (sentenceCall kind position node (replyFrom moved number tray by) (now (buffer .entry)))
         r (now (length .entry)) (now (length .exit)) (now (buffer .exit)) ⌝ }
 {
-    match sentences::sentence(kind, position, node, moved != 0, number, buffer) {
+    match sentences::sentence(
+        kind,
+        position,
+        node,
+        moved != 0,
+        number,
+        by != 0,
+        tray,
+        by,
+        buffer,
+    ) {
         SentenceAnswer::Told { length: bytes } => {
             *length = bytes;
             0

@@ -21,7 +21,7 @@ suggestion-reported n p k = (refl, refl, refl, refl)
 
 choice-reported : ChoiceReported
 unfolding ChoiceReported
-choice-reported r h n = (refl, refl)
+choice-reported r w h n = (refl, refl)
 
 pub answers-reported : AnswersReported
 unfolding AnswersReported

@@ -5,6 +5,7 @@ pub mod EdgeExamples
 pub mod GainExamples
 pub mod SuggestionExamples
 pub mod StepExamples
+pub mod ShortageExamples
 pub mod Sentences
 pub mod ConverseExamples
 pub mod DenotationExamples

@@ -1,11 +1,11 @@
 -- Each of the thirteen moves, worked out once by computation.
 -- Assumes nothing.
 use mathlib.Core.Path.{refl}
-use Rattle.semantics.specs.Definitions.Moves.{answerTo}
-use Rattle.semantics.specs.Checks.StatedMoves.{tried, both, Gives, GivesInside, MovesWorked}
+use Rattle.semantics.specs.Definitions.Moves.{respondTo}
+use Rattle.semantics.specs.Checks.StatedMoves.{tried, both, GivesShort, GivesInside, MovesWorked}
 
 pub moves-worked : MovesWorked
-unfolding Gives GivesInside tried both answerTo
+unfolding GivesShort GivesInside tried both respondTo
 moves-worked =
     record {
       OUT-1 = refl;

@@ -1,5 +1,5 @@
 -- The definitions compared with documents 01 and 02, piece by piece: tables, moves, refusals, answers, stored form,
--- printed run, sentences and worked examples. Assumes nothing.
+-- printed run, shortages, sentences and worked examples. Assumes nothing.
 pub mod StatedMoves
 pub mod AcceptedTables
 pub mod StoredForm
@@ -16,6 +16,7 @@ pub mod StatedSuggestions
 pub mod EdgeExamples
 pub mod SuggestionExamples
 pub mod StepExamples
+pub mod ShortageExamples
 pub mod ConverseExamples
 pub mod DenotationExamples
 pub mod Sentences

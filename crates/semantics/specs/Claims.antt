@@ -1,4 +1,4 @@
--- What is claimed of those definitions: demand 2, demand 3, the accounts, the sentences. Assumes nothing.
+-- What is claimed of those definitions: demand 2, demand 3, the shortages, the accounts, the sentences. Assumes nothing.
 pub mod Suggestions
 pub mod Denotation
 pub mod Correspondence
@@ -6,5 +6,6 @@ pub mod NumberedRun
 pub mod ConverseRuns
 pub mod Atomicity
 pub mod InnerMoves
+pub mod Shortages
 pub mod Accounts
 pub mod Sentences

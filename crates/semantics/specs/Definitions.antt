@@ -4,6 +4,7 @@ pub mod Layout
 pub mod Basics
 pub mod Terms
 pub mod Table
+pub mod Shortage
 pub mod Logs
 pub mod Configuration
 pub mod Stored

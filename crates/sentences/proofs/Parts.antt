@@ -5,15 +5,18 @@ use Prim.Native.String.{String}
 use native.Mathlib.Omega.{arith}
 use mathlib.Core.Path.{_≡_, refl, sym, ap, _∙_}
 use mathlib.Core.Bool.{Bool, true, false}
-use mathlib.Core.List.{List, [], _++_}
+use mathlib.Core.List.{List, [], _++_, append-nil}
 use lib.ListN.{length}
+use lib.Seq.{paste-zero}
 use borrow.Author.Tests.{eq-eqb, ne-eqb}
+use Rattle.semantics.specs.Definitions.Shortage.{Shortage, enough}
 use Rattle.semantics.specs.Definitions.Moves.{Reply, movedBy, refusedBy}
 use Rattle.semantics.specs.Definitions.Report.{decimal}
-use Rattle.semantics.specs.Definitions.Sentence.{ascii, ruleWords, refusalWords, wordsFor, named, nodeNamed, choiceNamed, replyNamed, sentence}
+use Rattle.semantics.specs.Definitions.Sentence.{ascii, ruleWords, refusalWords, wordsFor, named, nodeNamed, choiceNamed, shortNamed, replyNamed, sentence}
+use Rattle.buffer.specs.Splice.{written}
 use Rattle.decimals.specs.Wrote.{Wrote}
 use Rattle.decimals.proofs.Pieces.{first-fits, second-fits, both-written, Three, first-of-three-fits, second-of-three-fits, third-fits, three-written, third-empty}
-use Rattle.sentences.specs.Answers.{replyIn}
+use Rattle.sentences.specs.Answers.{shortageFrom, replyIn}
 use Rattle.sentences.specs.Words.{phrase}
 
 -- ---- a text and a number behind it
@@ -67,35 +70,80 @@ module _ (s : List ℕ) (k p n : ℕ) (room : length (choiceNamed k p n) ≤ len
 
 -- ---- what it was answered
 
--- the number behind its text, then its words
-pub record Answered (a : Reply) (text : String) (ws : List String) (n : ℕ) : Type 0 where
-  pub parts : replyNamed a ≡ named text n ++ wordsFor ws n
+-- the number behind its text, its words, and what was short
+pub record Answered (a : Reply) (text : String) (ws : List String) (n : ℕ) (w : Shortage) : Type 0 where
+  pub parts : replyNamed a ≡ (named text n ++ wordsFor ws n) ++ shortNamed w
 
-moved-parts : (n : ℕ) → Answered (movedBy n) " moved by rule " ruleWords n
+moved-parts : (n : ℕ) (w : Shortage) → Answered (movedBy n w) " moved by rule " ruleWords n w
 unfolding replyNamed
-moved-parts n = record { parts = refl }
+moved-parts n w = record { parts = refl }
 
-refused-parts : (n : ℕ) → Answered (refusedBy n) " met refusal " refusalWords n
-unfolding replyNamed
-refused-parts n = record { parts = refl }
+refused-parts : (n : ℕ) → Answered (refusedBy n) " met refusal " refusalWords n enough
+unfolding replyNamed shortNamed
+refused-parts n = record { parts = sym (append-nil (named " met refusal " n ++ wordsFor refusalWords n)) }
 
-pub moved : (b : Bool) (n : ℕ) → b ≡ true → Answered (replyIn b n) " moved by rule " ruleWords n
-moved b n e = rw e (moved-parts n)
+pub moved : (b : Bool) (n : ℕ) (w : Shortage) → b ≡ true → Answered (replyIn b n w) " moved by rule " ruleWords n w
+moved b n w e = rw e (moved-parts n w)
 
-pub refused : (b : Bool) (n : ℕ) → b ≡ false → Answered (replyIn b n) " met refusal " refusalWords n
-refused b n e = rw e (refused-parts n)
+pub refused : (b : Bool) (n : ℕ) (w : Shortage) → b ≡ false → Answered (replyIn b n w) " met refusal " refusalWords n enough
+refused b n w e = rw e (refused-parts n)
 
-module _ (a : Reply) (text : String) (ws : List String) (n : ℕ) (t : Answered a text ws n) (entry : ℕ)
-    (is : phrase entry ≡ wordsFor ws n) (at : ℕ) where
-  described : replyNamed a ≡ named text n ++ phrase entry
-  described = t .parts ∙ ap (λ w. named text n ++ w) (sym is)
+module _ (a : Reply) (text : String) (ws : List String) (n : ℕ) (w : Shortage) (t : Answered a text ws n w) (entry : ℕ)
+    (is : phrase entry ≡ wordsFor ws n) (at most : ℕ) (room : at + length (replyNamed a) ≤ most) where
+  described : replyNamed a ≡ (named text n ++ phrase entry) ++ shortNamed w
+  described = t .parts ∙ ap (λ v. (named text n ++ v) ++ shortNamed w) (sym is)
 
-  pub described-fits : (room : ℕ) → at + length (replyNamed a) ≤ room → at + length (named text n ++ phrase entry) ≤ room
-  described-fits room fits = rw described at fits
+  whole-fits : at + length ((named text n ++ phrase entry) ++ shortNamed w) ≤ most
+  whole-fits = rw described at room
 
-  pub described-written : (s s₁ : List ℕ) (r : ℕ) → Wrote s at (named text n ++ phrase entry) s₁ r →
-      Wrote s at (replyNamed a) s₁ r
-  described-written s s₁ r w = rw described w
+  pub described-fits : at + length (named text n ++ phrase entry) ≤ most
+  described-fits = first-fits most at (named text n ++ phrase entry) (shortNamed w) whole-fits
+
+  module _ (s s₁ : List ℕ) (i : ℕ) (all : most ≡ length s) (x : Wrote s at (named text n ++ phrase entry) s₁ i) where
+    pub short-fits : i + length (shortNamed w) ≤ length s₁
+    short-fits = second-fits s at (named text n ++ phrase entry) (shortNamed w) s₁ i (rw all at whole-fits) x
+
+    pub short-written : (s₂ : List ℕ) (r : ℕ) → Wrote s₁ i (shortNamed w) s₂ r → Wrote s at (replyNamed a) s₂ r
+    short-written s₂ r y =
+        rw described (both-written s at (named text n ++ phrase entry) (shortNamed w) s₁ i (rw all at whole-fits) x s₂ r y)
+
+-- where nothing was short that is all
+pub described-written : (a : Reply) (text : String) (ws : List String) (n : ℕ) → Answered a text ws n enough → (entry : ℕ) →
+    phrase entry ≡ wordsFor ws n → (s : List ℕ) (at : ℕ) (s₁ : List ℕ) (r : ℕ) → Wrote s at (named text n ++ phrase entry) s₁ r →
+    Wrote s at (replyNamed a) s₁ r
+unfolding shortNamed
+described-written a text ws n t entry is s at s₁ r x =
+    rw (t .parts, append-nil (named text n ++ wordsFor ws n), ← is) x
+
+-- ---- what was short
+
+wrote-nothing : (s : List ℕ) (at : ℕ) → Wrote s at [] s at
+unfolding written
+wrote-nothing s at = record { end = omega arith; bytes = paste-zero s at [] }
+
+module _ (s : List ℕ) (at : ℕ) (b : Bool) (a k : ℕ) (room : at + length (shortNamed (shortageFrom b a k)) ≤ length s) where
+  module _ (e : b ≡ true) where
+    named-short : shortNamed (shortageFrom b a k) ≡ named ", tray " a ++ named " short by " k
+    unfolding shortNamed
+    named-short = rw e
+
+    both-fit : at + length (named ", tray " a ++ named " short by " k) ≤ length s
+    both-fit = rw named-short at room
+
+    pub tray-fits : at + length (named ", tray " a) ≤ length s
+    tray-fits = first-fits (length s) at (named ", tray " a) (named " short by " k) both-fit
+
+    module _ (s₁ : List ℕ) (i : ℕ) (x : Wrote s at (named ", tray " a) s₁ i) where
+      pub by-fits : i + length (named " short by " k) ≤ length s₁
+      by-fits = second-fits s at (named ", tray " a) (named " short by " k) s₁ i both-fit x
+
+      pub tray-written : (s₂ : List ℕ) (r : ℕ) → Wrote s₁ i (named " short by " k) s₂ r →
+          Wrote s at (shortNamed (shortageFrom b a k)) s₂ r
+      tray-written s₂ r y = rw named-short (both-written s at (named ", tray " a) (named " short by " k) s₁ i both-fit x s₂ r y)
+
+  pub none-written : b ≡ false → Wrote s at (shortNamed (shortageFrom b a k)) s at
+  unfolding shortNamed
+  none-written e = rw e (wrote-nothing s at)
 
 -- ---- the sentence
 

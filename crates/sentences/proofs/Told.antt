@@ -20,7 +20,7 @@ use Rattle.buffer.specs.Splice.{written}
 use Rattle.decimals.specs.Wrote.{Wrote}
 use Rattle.sentences.specs.declared.SentenceAnswer.{SentenceAnswer}
 use Rattle.sentences.specs.declared.SentenceAnswer.the-variants as answer
-use Rattle.sentences.specs.Answers.{replyIn, answerOf, sentenceCallOf}
+use Rattle.sentences.specs.Answers.{shortageFrom, replyIn, answerOf, sentenceCallOf}
 
 -- a text that stands at the front, and how it is answered
 toldAs : (v s : List ℕ) → SentenceCall
@@ -43,14 +43,16 @@ module _ (k p n : ℕ) (a : Reply) (s : List ℕ) where
       sentenceCallOf (answer.Told r) s₁ ≡ sentenceCall k p n a s
   sentence-told room s₁ r w = as-told (sentence k p n a) s s₁ r w ∙ sym (has-room room)
 
-module _ (k p n m : ℕ) (fk : Fits w8 k) (fp : Fits w8 p) (fn : Fits w8 n) (fm : Fits w8 m) where
-  all-bytes : (b : Bool) → AllBytes k p n (replyIn b m)
-  all-bytes true = omega (arith, fk .fits, fp .fits, fn .fits, fm .fits)
-  all-bytes false = omega (arith, fk .fits, fp .fits, fn .fits, fm .fits)
+module _ (k p n m a j : ℕ) (fk : Fits w8 k) (fp : Fits w8 p) (fn : Fits w8 n) (fm : Fits w8 m) (fa : Fits w8 a) (fj : Fits w8 j) where
+  all-bytes : (b c : Bool) → AllBytes k p n (replyIn b m (shortageFrom c a j))
+  all-bytes true true = omega (arith, fk .fits, fp .fits, fn .fits, fm .fits, fa .fits, fj .fits)
+  all-bytes true false = omega (arith, fk .fits, fp .fits, fn .fits, fm .fits)
+  all-bytes false c = omega (arith, fk .fits, fp .fits, fn .fits, fm .fits)
 
-  pub sentence-fits : (b : Bool) (s : List ℕ) → 96 ≤ length s → length (sentence k p n (replyIn b m)) ≤ length s
+  pub sentence-fits : (b c : Bool) (s : List ℕ) → 96 ≤ length s →
+      length (sentence k p n (replyIn b m (shortageFrom c a j))) ≤ length s
   unfolding SentencesAreShort
-  sentence-fits b s room = let l = sentences-are-short k p n (replyIn b m) (all-bytes b) in omega arith
+  sentence-fits b c s room = let l = sentences-are-short k p n (replyIn b m (shortageFrom c a j)) (all-bytes b c) in omega arith
 
 -- ---- the cases are kept apart
 

@@ -3,16 +3,22 @@
 use Prim.Native.Nat.{ℕ}
 use mathlib.Core.Bool.{Bool, true, false}
 use mathlib.Core.List.{List}
+use Rattle.semantics.specs.Definitions.Shortage.{Shortage, enough, short}
 use Rattle.semantics.specs.Definitions.Moves.{Reply, movedBy, refusedBy}
 use Rattle.semantics.specs.Definitions.Sentence.{SentenceCall, told, notTold}
 use Rattle.semantics.specs.Definitions.Sentence as definitions
 use Rattle.sentences.specs.declared.SentenceAnswer.{SentenceAnswer}
 use Rattle.sentences.specs.declared.SentenceAnswer.the-variants as answer
 
--- whether a choice moved, and the number of its rule or of its refusal
-abbrev pub replyIn : (moved : Bool) (number : ℕ) → Reply
-replyIn true n = movedBy n
-replyIn false n = refusedBy n
+-- whether something was short, which tray and by how many
+abbrev pub shortageFrom : (short : Bool) (tray by : ℕ) → Shortage
+shortageFrom true a k = short a k
+shortageFrom false a k = enough
+
+-- whether a choice moved, the number of its rule or of its refusal, and what it was short of where it moved
+abbrev pub replyIn : (moved : Bool) (number : ℕ) → Shortage → Reply
+replyIn true n w = movedBy n w
+replyIn false n w = refusedBy n
 
 abbrev pub answerOf : SentenceAnswer → definitions.SentenceAnswer
 answerOf (answer.Told n) = told n

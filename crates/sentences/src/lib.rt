@@ -1,4 +1,4 @@
-// A choice and its answer as one English sentence (document 02, Q-1), written into lent bytes.
+// A choice and its answer as one English sentence (document 02, Q-1 and Q-3), written into lent bytes.
 mod texts;
 mod words;
 
@@ -11,9 +11,9 @@ use words::write_described;
 ghost use mathlib.Core.Path.{_≡_};
 ghost use Prim.Native.Nat.{_+_, _≤_};
 ghost use lib.ListN.{length};
-ghost use Rattle.semantics.specs.Definitions.Sentence.{choiceNamed, replyNamed, sentence as Sentence·sentence, sentenceCall};
+ghost use Rattle.semantics.specs.Definitions.Sentence.{choiceNamed, shortNamed, replyNamed, sentence as Sentence·sentence, sentenceCall};
 ghost use Rattle.decimals.specs.Wrote.{Wrote};
-ghost use Rattle.sentences.specs.Answers.{replyIn, sentenceCallOf};
+ghost use Rattle.sentences.specs.Answers.{shortageFrom, replyIn, sentenceCallOf};
 
 // The bytes that a buffer must have. No sentence is longer.
 pub const SENTENCE_BYTES: usize = 96;
@@ -40,13 +40,36 @@ fn write_choice(out: &mut [u8], kind: u8, position: u8, node: u8) -> usize
     write_named(out, end, b", node ", node)
 }
 
-// What it was answered: that it moved, by the rule of this number; or that it was refused with it.
-fn write_reply(out: &mut [u8], at: usize, moved: bool, number: u8) -> usize
-    requires { ⌜ at + length (replyNamed (replyIn moved number)) ≤ length (now out) ⌝ }
-    ensures { λ r. ⌜ Wrote (now (out .entry)) at (replyNamed (replyIn moved number)) (now (out .exit)) r ⌝ }
+// What was short, where something was.
+fn write_short(out: &mut [u8], at: usize, short: bool, tray: u8, by: u8) -> usize
+    requires { ⌜ at + length (shortNamed (shortageFrom short tray by)) ≤ length (now out) ⌝ }
+    ensures { λ r. ⌜ Wrote (now (out .entry)) at (shortNamed (shortageFrom short tray by)) (now (out .exit)) r ⌝ }
+{
+    if short {
+        let end = write_named(out, at, b", tray ", tray);
+        return write_named(out, end, b" short by ", by);
+    }
+    at
+}
+
+// What it was answered: that it moved, by the rule of this number, and what was short then; or that it was refused with
+// this number.
+fn write_reply(
+    out: &mut [u8],
+    at: usize,
+    moved: bool,
+    number: u8,
+    short: bool,
+    tray: u8,
+    by: u8,
+) -> usize
+    requires { ⌜ at + length (replyNamed (replyIn moved number (shortageFrom short tray by))) ≤ length (now out) ⌝ }
+    ensures { λ r. ⌜ Wrote (now (out .entry)) at (replyNamed (replyIn moved number (shortageFrom short tray by)))
+        (now (out .exit)) r ⌝ }
 {
     if moved {
-        return write_described(out, at, b" moved by rule ", number, rule_entry(number));
+        let end = write_described(out, at, b" moved by rule ", number, rule_entry(number));
+        return write_short(out, end, short, tray, by);
     }
     write_described(out, at, b" met refusal ", number, refusal_entry(number))
 }
@@ -59,29 +82,36 @@ fn write_sentence(
     node: u8,
     moved: bool,
     number: u8,
+    short: bool,
+    tray: u8,
+    by: u8,
 ) -> usize
-    requires { ⌜ length (Sentence·sentence kind position node (replyIn moved number)) ≤ length (now out) ⌝ }
-    ensures { λ r. ⌜ Wrote (now (out .entry)) 0 (Sentence·sentence kind position node (replyIn moved number))
-        (now (out .exit)) r ⌝ }
+    requires { ⌜ length (Sentence·sentence kind position node (replyIn moved number (shortageFrom short tray by)))
+        ≤ length (now out) ⌝ }
+    ensures { λ r. ⌜ Wrote (now (out .entry)) 0
+        (Sentence·sentence kind position node (replyIn moved number (shortageFrom short tray by))) (now (out .exit)) r ⌝ }
 {
     let named = write_choice(out, kind, position, node);
-    let answered = write_reply(out, named, moved, number);
+    let answered = write_reply(out, named, moved, number, short, tray, by);
     write_text(out, answered, b".")
 }
 
 // Writes the sentence of a choice and its answer to the front of a buffer, whose other bytes are left: that the choice
-// moved, by the rule of this number; or that it was refused with it. A buffer that has no room for every sentence is
-// refused before all else.
+// moved, by the rule of this number, and which tray was short then and by how many, where one was; or that it was
+// refused with this number. A buffer that has no room for every sentence is refused before all else.
 pub fn sentence(
     kind: u8,
     position: u8,
     node: u8,
     moved: bool,
     number: u8,
+    short: bool,
+    tray: u8,
+    by: u8,
     buffer: &mut [u8],
 ) -> SentenceAnswer
     ensures { λ r. ⌜ sentenceCallOf r (now (buffer .exit)) ≡
-        sentenceCall kind position node (replyIn moved number) (now (buffer .entry)) ⌝ }
+        sentenceCall kind position node (replyIn moved number (shortageFrom short tray by)) (now (buffer .entry)) ⌝ }
 {
     if buffer.len() < SENTENCE_BYTES {
         return SentenceAnswer::Refused {
@@ -89,6 +119,6 @@ pub fn sentence(
             place: 0,
         };
     }
-    let length = write_sentence(buffer, kind, position, node, moved, number);
+    let length = write_sentence(buffer, kind, position, node, moved, number, short, tray, by);
     SentenceAnswer::Told { length }
 }

@@ -10,6 +10,7 @@ use lib.ListN.{length, getD, drop, length-append, length-map}
 use borrow.Author.Tests.{ne-eqb}
 use Rattle.calculus.specs.Syntax.{rd, Log, State}
 use Rattle.calculus.specs.Reduction.{Rule}
+use Rattle.semantics.specs.Definitions.Shortage.{Shortage}
 use Rattle.semantics.specs.Definitions.Terms.{Expression, endT, retryT, rdT, wtT, orElseT, Term}
 use Rattle.semantics.specs.Definitions.Logs.{readable}
 use Rattle.semantics.specs.Definitions.Configuration.{Tree, leaf, fork, branchesOf, nodes}
@@ -182,7 +183,7 @@ plug-branches (rightOf l c) t = let h = plug-branches c t in omega arith
 
 -- a tree always has a node number 0
 Here : Inner → Type 0
-Here (evolves r t) = Unit {0}
+Here (evolves r w t) = Unit {0}
 Here noRule = Unit {0}
 Here (outOfRange k) = _≡_ {A = ℕ} 0 1
 
@@ -217,19 +218,19 @@ unfolding around plug
 around-here s t = go (inner s t 0)
   where
     go : (I : Inner) → I ≡ around top I
-    go (evolves r u) = refl
+    go (evolves r w u) = refl
     go noRule = refl
     go (outOfRange k) = refl
 
 around-right : (l : Tree) (c : Context) (I : Inner) → inRight l (around c I) ≡ around (rightOf l c) I
 unfolding inRight around plug
-around-right l c (evolves r t) = refl
+around-right l c (evolves r w t) = refl
 around-right l c noRule = refl
 around-right l c (outOfRange k) = refl
 
 around-left : (r : Tree) (c : Context) (I : Inner) (right : ℕ → Inner) → Here I → inLeft r (around c I) right ≡ around (leftOf c r) I
 unfolding inLeft around plug Here
-around-left r c (evolves e t) right h = refl
+around-left r c (evolves e w t) right h = refl
 around-left r c noRule right h = refl
 around-left r c (outOfRange k) right h = absurd (omega arith)
 
@@ -264,26 +265,27 @@ unfolding innerAt
 inner-past s t k j e = inner-at s t k ∙ ap (innerAt s) e
 
 -- what a move makes of a tree: the tree with what the move makes of the subtree at the node
-pub record Evolved (s : State) (t : Tree) (k : ℕ) (r : Rule) (u : Tree) : Type 0 where
+pub record Evolved (s : State) (t : Tree) (k : ℕ) (r : Rule) (lacks : Shortage) (u : Tree) : Type 0 where
   pub context : Context
   pub subtree : Tree
   pub makes : Tree
   pub there : subtreeAt t k ≡ node context subtree
-  pub move : inner s subtree 0 ≡ evolves r makes
+  pub move : inner s subtree 0 ≡ evolves r lacks makes
   pub whole : u ≡ withNode t k makes
 
-pub inner-evolves : (s : State) (t : Tree) (k : ℕ) (r : Rule) (u : Tree) → inner s t k ≡ evolves r u → Evolved s t k r u
+pub inner-evolves : (s : State) (t : Tree) (k : ℕ) (r : Rule) (lacks : Shortage) (u : Tree) → inner s t k ≡ evolves r lacks u → Evolved s t k r lacks u
 unfolding around
-inner-evolves s t k r u e = go (subtreeAt t k) refl
+inner-evolves s t k r lacks u e = go (subtreeAt t k) refl
   where
-    atNode : (c : Context) (w : Tree) → subtreeAt t k ≡ node c w → (I : Inner) → inner s w 0 ≡ I → around c I ≡ evolves r u → Evolved s t k r u
-    atNode c w p (evolves q v) m h =
+    atNode : (c : Context) (w : Tree) → subtreeAt t k ≡ node c w → (I : Inner) → inner s w 0 ≡ I → around c I ≡ evolves r lacks u → Evolved s t k r lacks u
+    atNode c w p (evolves q told v) m h =
         let z : plug c v ≡ u = cc in
         let y : q ≡ r = cc in
-        record { context = c; subtree = w; makes = v; there = p; move = m ∙ ap (λ x. evolves x v) y; whole = sym z ∙ sym (with-node t k c w v p) }
+        let x : told ≡ lacks = cc in
+        record { context = c; subtree = w; makes = v; there = p; move = m ∙ rw (y, x); whole = sym z ∙ sym (with-node t k c w v p) }
     atNode c w p noRule m h = let z : _≡_ {A = ℕ} 0 1 = cc in absurd (omega arith)
     atNode c w p (outOfRange j) m h = let z : _≡_ {A = ℕ} 0 1 = cc in absurd (omega arith)
 
-    go : (N : Node) → subtreeAt t k ≡ N → Evolved s t k r u
+    go : (N : Node) → subtreeAt t k ≡ N → Evolved s t k r lacks u
     go (node c w) p = atNode c w p (inner s w 0) refl (sym (inner-node s t k c w p) ∙ e)
     go (beyond j) p = let q = sym (inner-past s t k j p) ∙ e in let z : _≡_ {A = ℕ} 0 1 = cc in absurd (omega arith)

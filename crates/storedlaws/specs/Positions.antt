@@ -106,7 +106,7 @@ withNode t k v = filled (subtreeAt t k) t v
 -- a move of the subtree at a node, as a move of the whole tree
 unfoldable pub around : Context → Inner → Inner
 unfolding plug
-around c (evolves r t) = evolves r (plug c t)
+around c (evolves r w t) = evolves r w (plug c t)
 around c noRule = noRule
 around c (outOfRange k) = outOfRange k
 

@@ -12,7 +12,8 @@ use Rattle.semantics.specs.Definitions.Basics.{countUp}
 use Rattle.semantics.specs.Definitions.Terms.{Term}
 use Rattle.semantics.specs.Definitions.Configuration.{Component, idle, transaction, Configuration, nodes}
 use Rattle.semantics.specs.Definitions.Moves as moves
-use Rattle.semantics.specs.Definitions.Moves.{act, inside, innerLocal, actsInside, Answer, moved, refused, movedBy, refusedBy, applyAt, atPosition, answerTo, replyOf, isMoved, isAccepted}
+use Rattle.semantics.specs.Definitions.Shortage as test
+use Rattle.semantics.specs.Definitions.Moves.{act, inside, innerLocal, actsInside, Response, does, refuses, movedBy, refusedBy, applyAt, atPosition, respondTo, answerOf, answerTo, replyOf, isMoved, isAccepted}
 use Rattle.semantics.specs.Definitions.Stored.{ComponentOk}
 use Rattle.semantics.specs.Definitions.Suggestion.{entriesBelow, firstAccepted}
 use Rattle.theorems.proofs.First.{passes-alone, fails-alone, none-yet, next-decides, next-found, none-kept, none-below}
@@ -20,8 +21,9 @@ use Rattle.theorems.proofs.Suggestions.{nodes-grow, positions-grow, act-found, 
 use Rattle.stored.specs.Layout.{transactionKind, maxNodes}
 use Rattle.storedlaws.proofs.Nodes.{few-nodes, beyond-nodes, inner-past}
 use Rattle.rules.specs.declared.Reply.{Reply}
+use Rattle.rules.specs.declared.Shortage.{Shortage}
 use Rattle.rules.specs.declared.Reply.the-variants.{Moved, Refused}
-use Rattle.rules.specs.Replies.{replyIs}
+use Rattle.rules.specs.Replies.{shortageIs, replyIs}
 use Rattle.index.specs.Holds.{Holds, Running}
 use Rattle.index.specs.Choices.{Looked}
 use Rattle.index.proofs.Holding.{component-ok}
@@ -37,31 +39,31 @@ use Rattle.suggestions.specs.Suggestions.{Always, firstIn, Suggests, Sug
 
 -- ---- a look and its answer
 
-reply-moved : (a : Answer) (rule : ℕ) → replyOf a ≡ movedBy rule → isMoved a ≡ true
-unfolding replyOf isMoved
-reply-moved (moved r g) rule e = refl
-reply-moved (refused m) rule e = let z : _≡_ {A = ℕ} 0 1 = cc in absurd (omega arith)
+reply-moved : (a : Response) (rule : ℕ) (w : test.Shortage) → replyOf a ≡ movedBy rule w → isMoved (answerOf a) ≡ true
+unfolding replyOf isMoved answerOf
+reply-moved (does r v g) rule w e = refl
+reply-moved (refuses m) rule w e = let z : _≡_ {A = ℕ} 0 1 = cc in absurd (omega arith)
 
-reply-refused : (a : Answer) (m : ℕ) → replyOf a ≡ refusedBy m → isMoved a ≡ false
-unfolding replyOf isMoved
-reply-refused (moved r g) m e = let z : _≡_ {A = ℕ} 0 1 = cc in absurd (omega arith)
-reply-refused (refused k) m e = refl
+reply-refused : (a : Response) (m : ℕ) → replyOf a ≡ refusedBy m → isMoved (answerOf a) ≡ false
+unfolding replyOf isMoved answerOf
+reply-refused (does r w g) m e = let z : _≡_ {A = ℕ} 0 1 = cc in absurd (omega arith)
+reply-refused (refuses k) m e = refl
 
 module _ {d s starts : List ℕ} {n : ℕ} {e : moves.Entry} {r : Reply} (l : Looked d s starts n e r) where
-  looked-moved : (rule : ℕ) → r ≡ Moved rule → Always d s starts n (λ h. isAccepted h e ≡ true)
-  unfolding replyIs isAccepted
-  looked-moved rule q ts h y x = reply-moved (answerTo h e) rule (sym (l .found ts h y x) ∙ ap replyIs q)
+  looked-moved : (rule : ℕ) (w : Shortage) → r ≡ Moved rule w → Always d s starts n (λ h. isAccepted h e ≡ true)
+  unfolding replyIs isAccepted answerTo
+  looked-moved rule w q ts h y x = reply-moved (respondTo h e) rule (shortageIs w) (sym (l .found ts h y x) ∙ ap replyIs q)
 
   looked-refused : (m : ℕ) → r ≡ Refused m → Always d s starts n (λ h. isAccepted h e ≡ false)
-  unfolding replyIs isAccepted
-  looked-refused m q ts h y x = reply-refused (answerTo h e) m (sym (l .found ts h y x) ∙ ap replyIs q)
+  unfolding replyIs isAccepted answerTo
+  looked-refused m q ts h y x = reply-refused (respondTo h e) m (sym (l .found ts h y x) ∙ ap replyIs q)
 
 -- ---- entries that need no look
 
 -- of kind 2, past the last node that a tree of so few branches has
 refused-beyond : {ts : List Term} {h : Configuration} {s starts : List ℕ} {n : ℕ} → Holds ts h s starts n → (p k : ℕ) →
     maxNodes ≤ k → isAccepted h (inside p k) ≡ false
-unfolding isAccepted isMoved answerTo atPosition applyAt actsInside innerLocal ComponentOk
+unfolding isAccepted isMoved answerTo answerOf respondTo atPosition applyAt actsInside innerLocal ComponentOk
 refused-beyond {h = h} x p k l = go (getElem? (h .components) p) refl
   where
     go : (o : Option Component) → getElem? (h .components) p ≡ o → isAccepted h (inside p k) ≡ false
@@ -114,12 +116,12 @@ module _ {d s starts : List ℕ} {n p : ℕ} where
         (fails-alone (isAccepted h) (inside p k) (looked-refused l m q ts h y x)));
   }
 
-  pub inside-suggested : {k rule : ℕ} {r : Reply} → NoneBelow d s starts n p k → Looked d s starts n (inside p k) r →
-      r ≡ Moved rule → k ≤ maxNodes → SuggestsInside d s starts n p (Accepted (entry.Inside p k))
-  inside-suggested {k} {rule} b l q c = record {
+  pub inside-suggested : {k rule : ℕ} {w : Shortage} {r : Reply} → NoneBelow d s starts n p k → Looked d s starts n (inside p k) r →
+      r ≡ Moved rule w → k ≤ maxNodes → SuggestsInside d s starts n p (Accepted (entry.Inside p k))
+  inside-suggested {k} {rule} {w} b l q c = record {
     found = λ ts h y x.
         next-found (isAccepted h) (nodes-grow p) k (suc maxByte) (inside p k) (omega arith) (b .found ts h y x)
-        (passes-alone (isAccepted h) (inside p k) (looked-moved l rule q ts h y x));
+        (passes-alone (isAccepted h) (inside p k) (looked-moved l rule w q ts h y x));
   }
 
   pub nodes-quiet : {k : ℕ} → NoneBelow d s starts n p k → k ≤ maxNodes → maxNodes ≤ k → SuggestsInside d s starts n p Still
@@ -136,9 +138,9 @@ pub kind-inside-at : {d s starts : List ℕ} {n i p : ℕ} → Running d s start
 kind-inside-at x l e = kind-inside x (rw e l)
 
 module _ {d s starts : List ℕ} {n p : ℕ} {r : Reply} (l : Looked d s starts n (act p) r) where
-  pub act-suggested : {rule : ℕ} → r ≡ Moved rule → SuggestsAt d s starts n p (Accepted (entry.Act p))
-  act-suggested {rule} q = record {
-    found = λ ts h y x. act-found h (suc maxByte) p (looked-moved l rule q ts h y x);
+  pub act-suggested : {rule : ℕ} {w : Shortage} → r ≡ Moved rule w → SuggestsAt d s starts n p (Accepted (entry.Act p))
+  act-suggested {rule} {w} q = record {
+    found = λ ts h y x. act-found h (suc maxByte) p (looked-moved l rule w q ts h y x);
   }
 
   pub inside-at : {m : ℕ} {a : Suggestion} → SuggestsInside d s starts n p a → r ≡ Refused m → SuggestsAt d s starts n p a

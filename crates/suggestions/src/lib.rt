@@ -33,7 +33,7 @@ fn first_inside(
 {
     let mut node: u8 = 0;
     while node < MAX_NODES {
-        if let Reply::Moved(_) = look_inside(decoded, hall, starts, components, position, node) {
+        if let Reply::Moved(_, _) = look_inside(decoded, hall, starts, components, position, node) {
             return Suggestion::Accepted(Entry::Inside { position, node });
         }
         node += 1;
@@ -53,7 +53,7 @@ fn first_at(
     ensures { λ r. ⌜ SuggestsAt (now (decoded .entry)) (now (hall .entry)) (now (starts .entry)) components position
         r ⌝ }
 {
-    if let Reply::Moved(_) = look_act(decoded, hall, starts, components, position) {
+    if let Reply::Moved(_, _) = look_act(decoded, hall, starts, components, position) {
         return Suggestion::Accepted(Entry::Act { position });
     }
     let begin = starts[wide(position)];

@@ -24,6 +24,7 @@ use Rattle.calculus.proofs.States.{same-self, same-other}
 use Rattle.semantics.specs.Definitions.Basics.{All, replaceAt}
 use mathlib.Core.Option.{bind}
 use Rattle.semantics.specs.Definitions.Table.{Table}
+use Rattle.semantics.specs.Definitions.Shortage.{Shortage}
 use Rattle.semantics.specs.Definitions.Configuration.{Idle, repeating, block, output, Component, idle, transaction, Configuration, opens, opening}
 use Rattle.semantics.specs.Definitions.Moves.{Entry, act, inside, moved, answerTo, moves, ruleNumber}
 use Rattle.semantics.specs.Definitions.Run.{Counters, counted, Step, steps}
@@ -44,9 +45,9 @@ attempt j (tries i n M s u) = i
 -- choices done from number j on, with the component that each changes and what it lays down
 data Trace : ℕ → Configuration → List Live → List Member → Configuration → List Live → Type 0 where
   ended : {j : ℕ} {h : Configuration} {zs : List Live} → h .components ≡ map component zs → Trace j h zs [] h zs
-  next : {j : ℕ} {h f g : Configuration} {zs ws : List Live} {ms : List Member} (e : Entry) (r : Rule) (z : Live) (laid : List Live) →
+  next : {j : ℕ} {h f g : Configuration} {zs ws : List Live} {ms : List Member} (e : Entry) (r : Rule) (w : Shortage) (z : Live) (laid : List Live) →
       getElem? zs (positionOf e) ≡ some z → Stepped (h .counts) j z e r (f .counts) laid →
-      localMove (h .counts) (component z) e ≡ moves r (f .counts) (map component laid) →
+      localMove (h .counts) (component z) e ≡ moves r w (f .counts) (map component laid) →
       length (replaceAt (positionOf e) laid zs) ≤ 64 →
       Trace (suc j) f (replaceAt (positionOf e) laid zs) ms g ws →
       Trace j h zs (record { step = record { chosen = e; rule = r; before = h; result = f }; attempt = attempt j z } ∷ ms) g ws
@@ -72,7 +73,7 @@ trace (ran {h = h} {f = f} {e = e} r q x) a zs pace =
     let s = paced-step h a zs e r f pace q in
     let rest = trace x (numberedStep a e) (replaceAt (positionOf e) (s .laid) zs) (s .paced) in
     let here : attemptOf a e ≡ attempt (a .next) (s .one) = attempt-of a e (s .one) (s .station) in
-    (rest .0, rw (q, here) (next e r (s .one) (s .laid) (s .found) (s .stepped) (s .local) (s .fits) (rest .1)))
+    (rest .0, rw (q, here) (next e r (s .lacks) (s .one) (s .laid) (s .found) (s .stepped) (s .local) (s .fits) (rest .1)))
 
 -- ---- each attempt ends at most once
 
@@ -192,7 +193,7 @@ absent : {j : ℕ} {h g : Configuration} {zs ws : List Live} {ms : List Member} 
     All (λ m. ¬ (m .attempt ≡ i)) ms × (times i ws ≡ 0)
 unfolding occurrences
 absent (ended all) i l k = (tt, k)
-absent {j} {zs = zs} (next e r z laid found s local few rest) i l k =
+absent {j} {zs = zs} (next e r w z laid found s local few rest) i l k =
     let gone = times-replace i (positionOf e) [] zs z found in
     let after = times-replace i (positionOf e) laid zs z found in
     let new = stepped-times s i in
@@ -253,15 +254,15 @@ stepped-skipped L (evolved p k i n M s u w x m late) q quiet = (_, refl, rw q, r
 module _ (L : List ℕ) (h f : Configuration) (zs : List Live) (e : Entry) (r : Rule) (z : Live) (laid : List Live)
     (found : getElem? zs (positionOf e) ≡ some z) where
   -- so it is accepted without them too
-  choose-kept : localMove (h .counts) (component z) e ≡ moves r (f .counts) (map component laid) →
+  choose-kept : (w : Shortage) → localMove (h .counts) (component z) e ≡ moves r w (f .counts) (map component laid) →
       length (replaceAt (positionOf e) laid zs) ≤ 64 →
       (clear L z ≡ component z) × (map (clear L) laid ≡ map component laid) →
       answerTo (cleared L h zs) e ≡ moved r (cleared L f (replaceAt (positionOf e) laid zs))
-  choose-kept local fits k =
+  choose-kept w local fits k =
       let p : ℕ = positionOf e in
       let both = map-replaceAt (clear L) zs laid p in
       let few : length (replaceAt p (map (clear L) laid) (map (clear L) zs)) ≤ 64 = rw (← both, length-map) fits in
-      accepted-made (cleared L h zs) e r (f .counts) (clear L z) (map (clear L) laid) (found-map (clear L) zs p z found)
+      accepted-made (cleared L h zs) e r {w = w} (f .counts) (clear L z) (map (clear L) laid) (found-map (clear L) zs p z found)
       (rw (k .0, k .1) local) few
       ∙ λ i. moved r (record { counts = f .counts; components = sym both i })
 
@@ -364,7 +365,7 @@ kept-trace {h = h} {zs = zs} (ended all) L fits rests-open =
       none-abandoned = tt;
       counters = λ c d e. λ i. record { commits = e i; failed = c .failed; retries = c .retries };
     })
-kept-trace {j} {h} {zs = zs} (next {f = f} {g = g} {ms = ms} e r z laid found s local few rest) L fits rests-open =
+kept-trace {j} {h} {zs = zs} (next {f = f} {g = g} {ms = ms} e r w z laid found s local few rest) L fits rests-open =
     go (spared L (attempt j z)) refl (kept-trace rest L (fits .1) rests-open)
   where
     m : Member
@@ -375,7 +376,7 @@ kept-trace {j} {h} {zs = zs} (next {f = f} {g = g} {ms = ms} e r z laid found s 
         KeptFrom (cleared L h zs) (keptBy L (m ∷ ms)) g (m .step ∷ map (λ m. m .step) ms)
     go true q k =
         let spares = fails (aborts r) (λ a. true≢false (sym q ∙ fits .0 .0 a)) in
-        rw q (kept-on (cleared L h zs) _ e r _ g h f _ (choose-kept L h f zs e r z laid found local few (stepped-kept L s q)) spares k)
+        rw q (kept-on (cleared L h zs) _ e r _ g h f _ (choose-kept L h f zs e r z laid found w local few (stepped-kept L s q)) spares k)
     go false q k =
         let quiet = fails (acting r) (λ a. true≢false (sym (fits .0 .1 a) ∙ q)) in
         rw (q, same-skipped L h f zs e r z laid found (stepped-skipped L s q quiet)) (kept-skip _ e r _ g h f _ quiet k)
@@ -425,7 +426,7 @@ abandoned-fits {ws = ws} (ended all) k = (tt, go ws)
     go [] = tt
     go (rests c ∷ ws) = (tt, go ws)
     go (tries i n M s u ∷ ws) = (refl, go ws)
-abandoned-fits {j} {zs = zs} {ws = ws} (next {h = h} {f = f} {ms = ms} e r z laid found s local few rest) k =
+abandoned-fits {j} {zs = zs} {ws = ws} (next {h = h} {f = f} {ms = ms} e r w z laid found s local few rest) k =
     go (stepped-kind s) (abandoned-fits rest (numbers-step (positionOf e) zs s found k))
   where
     a : ℕ

@@ -18,10 +18,11 @@ use Rattle.calculus.specs.Reduction.{Rule, OUT, ATFAIL, ATOK}
 use Rattle.semantics.specs.Definitions.Basics.{All, replaceAt}
 use Rattle.semantics.specs.Definitions.Terms.{Expression, endT, retryT, rdT, wtT, orElseT}
 use Rattle.semantics.specs.Definitions.Table.{Table, accepted, readTable}
-use Rattle.semantics.specs.Definitions.Logs.{readable, addToken, takeToken}
+use Rattle.semantics.specs.Definitions.Shortage.{enough}
+use Rattle.semantics.specs.Definitions.Logs.{shortage, readable, addToken, takeToken}
 use Rattle.semantics.specs.Definitions.Configuration.{Idle, taking, repeating, block, output, Tree, leaf, fork, Component, idle, transaction, Configuration, opening, opens}
 use Rattle.semantics.specs.Definitions.Stored.{WellFormed, hallBytes, bytesOf}
-use Rattle.semantics.specs.Definitions.Moves.{Entry, act, inside, Answer, moved, refused, applyAt, atPosition, answerTo, LocalAnswer, moves, blocked, takes, puts, ends, acts, actsInside, Inner, evolves, noRule, outOfRange, inner, innerLocal}
+use Rattle.semantics.specs.Definitions.Moves.{Entry, act, inside, Answer, moved, refused, Response, does, refuses, applyAt, atPosition, answerOf, answerTo, LocalAnswer, moves, blocked, takes, puts, ends, acts, actsInside, Inner, evolves, noRule, outOfRange, inner, innerLocal}
 use Rattle.semantics.specs.Definitions.Run.{ScheduleItem, entry, malformed, schedule, entries, Counters, counted, RunAnswer, continueRun, runFrom, run, steps}
 use Rattle.semantics.specs.Definitions.Calls.{admitted, formTested, sizeTested, tableTested, admission, openSized, openTested, openHall, Buffers, RunCall, runResult, runAdmitted, runCall, Call, callBytes, callAnswer, afterCalls, callEntries, entriesDone}
 use Rattle.semantics.specs.Claims.Correspondence.{AcceptsTable}
@@ -36,13 +37,16 @@ use Rattle.theorems.proofs.Runs.{Runs, rested, ran, runs-append, runs-k
 
 -- a refusal by a component's move is 12 or above
 abbrev pub LocalHigh : LocalAnswer → Type 0
-LocalHigh (moves r σ cs) = Unit {0}
+LocalHigh (moves r w σ cs) = Unit {0}
 LocalHigh (blocked n) = 12 ≤ n
 
 -- a refusal of a choice
 abbrev pub AnswerHigh : Answer → Type 0
 AnswerHigh (moved r g) = Unit {0}
 AnswerHigh (refused n) = 12 ≤ n
+
+abbrev ResponseHigh : Response → Type 0
+ResponseHigh x = AnswerHigh (answerOf x)
 
 -- a refusal of a schedule's bytes
 abbrev pub ItemHigh : ScheduleItem → Type 0
@@ -54,7 +58,7 @@ takes-high : (σ : State) (a : Name) (r : Rule) (cs : List Idle) → LocalHigh (
 unfolding takes
 takes-high σ a r cs = go (eqb (count σ a) 0)
   where
-    go : (b : Bool) → LocalHigh (cond b (blocked 18) (moves r (takeToken σ a) (map idle cs)))
+    go : (b : Bool) → LocalHigh (cond b (blocked 18) (moves r enough (takeToken σ a) (map idle cs)))
     go true = omega arith
     go false = tt
 
@@ -63,7 +67,7 @@ puts-high : (σ : State) (a : Name) → LocalHigh (puts σ a)
 unfolding puts
 puts-high σ a = go (leb 255 (count σ a))
   where
-    go : (b : Bool) → LocalHigh (cond b (blocked 20) (moves (OUT a) (addToken σ a) []))
+    go : (b : Bool) → LocalHigh (cond b (blocked 20) (moves (OUT a) enough (addToken σ a) []))
     go true = omega arith
     go false = tt
 
@@ -73,7 +77,7 @@ unfolding ends
 ends-high σ n M (leaf (endT e) δ) = go (readable σ δ)
   where
     go : (b : Bool) → LocalHigh
-        (cond b (moves (ATOK δ) (without σ (RD δ)) (map (λ a. idle (output a)) (WT δ))) (moves ATFAIL σ (idle (block n M) ∷ [])))
+        (cond b (moves (ATOK δ) enough (without σ (RD δ)) (map (λ a. idle (output a)) (WT δ))) (moves ATFAIL (shortage σ δ) σ (idle (block n M) ∷ [])))
     go true = tt
     go false = tt
 ends-high σ n M (leaf (retryT e) δ) = tt
@@ -98,31 +102,31 @@ inside-high σ (idle c) k = omega arith
 inside-high σ (transaction n M s t) k = go (inner s t k)
   where
     go : (i : Inner) → LocalHigh (innerLocal σ n M s i)
-    go (evolves r u) = tt
+    go (evolves r w u) = tt
     go noRule = omega arith
     go (outOfRange j) = omega arith
 
 -- at a position
-settles-high : (p : ℕ) (l : LocalAnswer) (h : Configuration) → LocalHigh l → AnswerHigh (applyAt p l h)
-unfolding applyAt
+settles-high : (p : ℕ) (l : LocalAnswer) (h : Configuration) → LocalHigh l → ResponseHigh (applyAt p l h)
+unfolding applyAt answerOf
 settles-high p (blocked n) h i = i
-settles-high p (moves r σ cs) h i = go (leb (length (replaceAt p cs (h .components))) 64)
+settles-high p (moves r w σ cs) h i = go (leb (length (replaceAt p cs (h .components))) 64)
   where
-    go : (b : Bool) → AnswerHigh (cond b (moved r (record { counts = σ; components = replaceAt p cs (h .components) })) (refused 19))
+    go : (b : Bool) → ResponseHigh (cond b (does r w (record { counts = σ; components = replaceAt p cs (h .components) })) (refuses 19))
     go true = tt
     go false = omega arith
 
 -- of any choice
 pub choose-high : (h : Configuration) (e : Entry) → AnswerHigh (answerTo h e)
-unfolding answerTo
+unfolding answerTo answerOf
 choose-high h (act p) = go (getElem? (h .components) p)
   where
-    go : (o : Option Component) → AnswerHigh (atPosition o (λ c. applyAt p (acts (h .counts) c) h))
+    go : (o : Option Component) → ResponseHigh (atPosition o (λ c. applyAt p (acts (h .counts) c) h))
     go none = omega arith
     go (some c) = settles-high p (acts (h .counts) c) h (acts-high (h .counts) c)
 choose-high h (inside p k) = go (getElem? (h .components) p)
   where
-    go : (o : Option Component) → AnswerHigh (atPosition o (λ c. applyAt p (actsInside (h .counts) c k) h))
+    go : (o : Option Component) → ResponseHigh (atPosition o (λ c. applyAt p (actsInside (h .counts) c k) h))
     go none = omega arith
     go (some c) = settles-high p (actsInside (h .counts) c k) h (inside-high (h .counts) c k)
 

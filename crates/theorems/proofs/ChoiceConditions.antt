@@ -18,9 +18,10 @@ use Rattle.calculus.specs.Log.{RD, WT}
 use Rattle.calculus.specs.Reduction.{Rule, OUT, IN, REP, ATST, ATRE, ATFAIL, ATOK, ARDOK, ARDF}
 use Rattle.semantics.specs.Definitions.Basics.{replaceAt}
 use Rattle.semantics.specs.Definitions.Terms.{Expression, endT, retryT, rdT, wtT, orElseT}
-use Rattle.semantics.specs.Definitions.Logs.{emptyLog, readable, takeToken, addToken}
+use Rattle.semantics.specs.Definitions.Shortage.{Shortage, enough}
+use Rattle.semantics.specs.Definitions.Logs.{emptyLog, shortage, readable, takeToken, addToken}
 use Rattle.semantics.specs.Definitions.Configuration.{Idle, taking, repeating, block, output, Tree, leaf, fork, Component, idle, transaction, Configuration, opens, nodes}
-use Rattle.semantics.specs.Definitions.Moves.{Entry, act, inside, moves, blocked, takes, puts, commits, ends, acts, Inner, evolves, noRule, outOfRange, reads, atLeaf, atFork, inLeft, inRight, inner, innerLocal, actsInside, Answer, moved, refused, applyAt, atPosition, answerTo, isMoved, isAccepted}
+use Rattle.semantics.specs.Definitions.Moves.{Entry, act, inside, moves, blocked, takes, puts, commits, ends, acts, Inner, evolves, noRule, outOfRange, reads, atLeaf, atFork, inLeft, inRight, inner, innerLocal, actsInside, Response, does, refuses, Answer, moved, refused, applyAt, atPosition, respondTo, answerOf, answerTo, isMoved, isAccepted}
 use Rattle.semantics.specs.Claims.ConverseRuns.{EmptyChannel, TooManyComponents, FullChannel}
 use Rattle.semantics.specs.Claims.InnerMoves.{Settled}
 use Rattle.semantics.specs.Checks.Conditions.{FirstCondition, preorder, NoRuleAtNode, ChoiceCondition, no-station, no-station-inside, unsettled, no-attempt, no-node, no-rule-there, in-empty, rep-empty, in-many, rep-many, commit-many, out-full, ChoiceNumbers}
@@ -40,6 +41,16 @@ module _ (C : ℕ → Type 0) where
   Reason (moved r h) = (n : ℕ) → C n → ⊥
   Reason (refused n) = FirstCondition C n
 
+  -- the same of a response
+  abbrev pub Because : Response → Type 0
+  Because (does r w h) = (n : ℕ) → C n → ⊥
+  Because (refuses n) = FirstCondition C n
+
+  answer-because : (x : Response) → Because x → Reason (answerOf x)
+  unfolding answerOf
+  answer-because (does r w h) f = f
+  answer-because (refuses n) f = f
+
   -- an answer with its reason is decided by the conditions
   decided : (a : Answer) → Reason a → ((n : ℕ) → (a ≡ refused n) ↔ FirstCondition C n) × ((isMoved a ≡ true) ↔ ((n : ℕ) → C n → ⊥))
   unfolding isMoved
@@ -57,32 +68,32 @@ same-component e f = cc
 
 module _ (C : ℕ → Type 0) (h : Configuration) (p : ℕ) (few : length (h .components) ≤ 64) where
   -- a move that keeps within 64 components is done, one past them is refused 19
-  room-reason : (r : Rule) (σ : State) (cs : List Component) → ((length (replaceAt p cs (h .components)) ≤ 64) → (n : ℕ) → C n → ⊥) →
-      (TooManyComponents (length (replaceAt p cs (h .components))) → FirstCondition C 19) → Reason C (applyAt p (moves r σ cs) h)
+  room-reason : (r : Rule) (w : Shortage) (σ : State) (cs : List Component) → ((length (replaceAt p cs (h .components)) ≤ 64) → (n : ℕ) → C n → ⊥) →
+      (TooManyComponents (length (replaceAt p cs (h .components))) → FirstCondition C 19) → Because C (applyAt p (moves r w σ cs) h)
   unfolding applyAt
-  room-reason r σ cs fits over =
+  room-reason r w σ cs fits over =
       let left = replaceAt p cs (h .components) in
-      by-cases (Reason C) (leb (length left) 64) (moved r (record { counts = σ; components = left })) (refused 19)
+      by-cases (Because C) (leb (length left) 64) (does r w (record { counts = σ; components = left })) (refuses 19)
       (λ e. fits (leb-true (length left) 64 e)) (λ e. over (leb-false (length left) 64 e))
 
   -- a component that gives way to at most one is never refused 19
-  kept-reason : (r : Rule) (σ : State) (cs : List Component) → length cs ≤ 1 → p < length (h .components) → ((n : ℕ) → C n → ⊥) →
-      Reason C (applyAt p (moves r σ cs) h)
-  kept-reason r σ cs one below clear =
+  kept-reason : (r : Rule) (w : Shortage) (σ : State) (cs : List Component) → length cs ≤ 1 → p < length (h .components) → ((n : ℕ) → C n → ⊥) →
+      Because C (applyAt p (moves r w σ cs) h)
+  kept-reason r w σ cs one below clear =
       let l = length-replaceAt (h .components) cs p below in
-      room-reason r σ cs (λ _. clear) (λ over. absurd (omega arith))
+      room-reason r w σ cs (λ _. clear) (λ over. absurd (omega arith))
 
   -- an IN or a REP: 18 where the channel is empty, else 19 where too many would be left
   takes-reason : (a : Name) (r : Rule) (cs : List Idle) → (EmptyChannel (h .counts) a → C 18) →
       (TooManyComponents (length (replaceAt p (map idle cs) (h .components))) → C 19) →
       ((m : ℕ) → C m → ((m ≡ 18) × EmptyChannel (h .counts) a) ⊎ ((m ≡ 19) × TooManyComponents (length (replaceAt p (map idle cs) (h .components))))) →
-      Reason C (applyAt p (takes (h .counts) a r cs) h)
+      Because C (applyAt p (takes (h .counts) a r cs) h)
   unfolding takes applyAt
   takes-reason a r cs empty many only =
-      by-cases (λ l. Reason C (applyAt p l h)) (eqb (count (h .counts) a) 0) (blocked 18) (moves r (takeToken (h .counts) a) (map idle cs))
+      by-cases (λ l. Because C (applyAt p l h)) (eqb (count (h .counts) a) 0) (blocked 18) (moves r enough (takeToken (h .counts) a) (map idle cs))
       (λ e. (empty (eqb-true (count (h .counts) a) 0 e), λ m l k. elim (only m k) [ inl q ↦ omega arith | inr q ↦ omega arith ]))
       (λ e. let filled = eqb-false (count (h .counts) a) 0 e in
-      room-reason r (takeToken (h .counts) a) (map idle cs) (λ fits m k. elim (only m k) [ inl q ↦ filled (q .1) | inr q ↦ omega arith ])
+      room-reason r enough (takeToken (h .counts) a) (map idle cs) (λ fits m k. elim (only m k) [ inl q ↦ filled (q .1) | inr q ↦ omega arith ])
       (λ over. (many over, λ m l k. elim (only m k) [ inl q ↦ filled (q .1) | inr q ↦ omega arith ])))
 
 -- ---- kind 1
@@ -128,26 +139,26 @@ module _ (h : Configuration) (p : ℕ) where
   module _ (few : length (h .components) ≤ 64) where
     -- an OUT: 20 where the channel is full
     puts-reason : (a : Name) → getElem? (h .components) p ≡ some (idle (output a)) →
-        Reason Acting (applyAt p (puts (h .counts) a) h)
+        Because Acting (applyAt p (puts (h .counts) a) h)
     unfolding puts applyAt
     puts-reason a e =
-        by-cases (λ l. Reason Acting (applyAt p l h)) (leb 255 (count (h .counts) a)) (blocked 20) (moves (OUT a) (addToken (h .counts) a) [])
+        by-cases (λ l. Because Acting (applyAt p l h)) (leb 255 (count (h .counts) a)) (blocked 20) (moves (OUT a) enough (addToken (h .counts) a) [])
         (λ f. (out-full a e (leb-true 255 (count (h .counts) a) f), λ m l k. let q = barred (idle (output a)) e m k in omega arith))
-        (λ f. kept-reason Acting h p few (OUT a) (addToken (h .counts) a) [] (omega arith) (found-below (h .components) p (idle (output a)) e)
+        (λ f. kept-reason Acting h p few (OUT a) enough (addToken (h .counts) a) [] (omega arith) (found-below (h .components) p (idle (output a)) e)
         (λ m k. let q = barred (idle (output a)) e m k in let g = leb-false 255 (count (h .counts) a) f in omega arith))
 
     -- at a single end leaf: an ATOK is refused 19 where too many would be left, an ATFAIL never is
     commits-reason : (n : ℕ) (M : Expression) (s : State) (i : ℕ) (δ : Log) → getElem? (h .components) p ≡ some (transaction n M s (leaf (endT i) δ)) →
-        Reason Acting (applyAt p (commits (h .counts) n M δ) h)
+        Because Acting (applyAt p (commits (h .counts) n M δ) h)
     unfolding commits applyAt
     commits-reason n M s i δ e =
         let only = barred (transaction n M s (leaf (endT i) δ)) e in
         let laid = map (λ a. idle (output a)) (WT δ) in
-        by-cases (λ l. Reason Acting (applyAt p l h)) (readable (h .counts) δ) (moves (ATOK δ) (without (h .counts) (RD δ)) laid)
-        (moves ATFAIL (h .counts) (idle (block n M) ∷ []))
-        (λ f. room-reason Acting h p few (ATOK δ) (without (h .counts) (RD δ)) laid (λ fits m k. let q = only m k in omega arith)
+        by-cases (λ l. Because Acting (applyAt p l h)) (readable (h .counts) δ) (moves (ATOK δ) enough (without (h .counts) (RD δ)) laid)
+        (moves ATFAIL (shortage (h .counts) δ) (h .counts) (idle (block n M) ∷ []))
+        (λ f. room-reason Acting h p few (ATOK δ) enough (without (h .counts) (RD δ)) laid (λ fits m k. let q = only m k in omega arith)
         (λ over. (commit-many n M s i δ e (readable-included (h .counts) δ f) over, λ m l k. let q = only m k in omega arith)))
-        (λ f. kept-reason Acting h p few ATFAIL (h .counts) (idle (block n M) ∷ []) (omega arith)
+        (λ f. kept-reason Acting h p few ATFAIL (shortage (h .counts) δ) (h .counts) (idle (block n M) ∷ []) (omega arith)
         (found-below (h .components) p (transaction n M s (leaf (endT i) δ)) e) (λ m k. unreadable-not-included (h .counts) δ f (only m k .1)))
 
     -- an attempt that is no single end or retry leaf: 15, and nothing comes before
@@ -157,11 +168,11 @@ module _ (h : Configuration) (p : ℕ) where
 
     -- at an attempt
     ends-reason : (n : ℕ) (M : Expression) (s : State) (t : Tree) → getElem? (h .components) p ≡ some (transaction n M s t) →
-        Reason Acting (applyAt p (ends (h .counts) n M t) h)
+        Because Acting (applyAt p (ends (h .counts) n M t) h)
     unfolding ends applyAt
     ends-reason n M s (leaf (endT i) δ) e = commits-reason n M s i δ e
     ends-reason n M s (leaf (retryT i) δ) e =
-        kept-reason Acting h p few ATRE (h .counts) (idle (block n M) ∷ []) (omega arith) (found-below (h .components) p (transaction n M s (leaf (retryT i) δ)) e)
+        kept-reason Acting h p few ATRE enough (h .counts) (idle (block n M) ∷ []) (omega arith) (found-below (h .components) p (transaction n M s (leaf (retryT i) δ)) e)
         (λ m k. barred (transaction n M s (leaf (retryT i) δ)) e m k)
     ends-reason n M s (leaf (rdT i a N) δ) e = unsettled-first n M s (leaf (rdT i a N) δ) e (λ z. z) (λ m q. q)
     ends-reason n M s (leaf (wtT i a N) δ) e = unsettled-first n M s (leaf (wtT i a N) δ) e (λ z. z) (λ m q. q)
@@ -169,7 +180,7 @@ module _ (h : Configuration) (p : ℕ) where
     ends-reason n M s (fork l r) e = unsettled-first n M s (fork l r) e (λ z. z) (λ m q. q)
 
     -- kind 1 at a component
-    acts-reason : (c : Component) → getElem? (h .components) p ≡ some c → Reason Acting (applyAt p (acts (h .counts) c) h)
+    acts-reason : (c : Component) → getElem? (h .components) p ≡ some c → Because Acting (applyAt p (acts (h .counts) c) h)
     unfolding acts applyAt
     acts-reason (idle (taking n a P)) e =
         takes-reason Acting h p few a (IN a) (opens P) (in-empty n a P e) (in-many n a P e) (λ m k. barred (idle (taking n a P)) e m k)
@@ -177,7 +188,7 @@ module _ (h : Configuration) (p : ℕ) where
         takes-reason Acting h p few a (REP a) (opens P ++ (repeating n a P ∷ [])) (rep-empty n a P e) (rep-many n a P e)
         (λ m k. barred (idle (repeating n a P)) e m k)
     acts-reason (idle (block n M)) e =
-        kept-reason Acting h p few ATST (h .counts) (transaction n M (h .counts) (leaf M emptyLog) ∷ []) (omega arith)
+        kept-reason Acting h p few ATST enough (h .counts) (transaction n M (h .counts) (leaf M emptyLog) ∷ []) (omega arith)
         (found-below (h .components) p (idle (block n M)) e) (λ m k. barred (idle (block n M)) e m k)
     acts-reason (idle (output a)) e = puts-reason a e
     acts-reason (transaction n M s t) e = ends-reason n M s t e
@@ -185,14 +196,14 @@ module _ (h : Configuration) (p : ℕ) where
 -- ---- kind 2
 
 -- as many nodes in preorder as in the tree
-length-preorder : (t : Tree) → length (preorder t) ≡ nodes t
+pub length-preorder : (t : Tree) → length (preorder t) ≡ nodes t
 unfolding preorder nodes
 length-preorder (leaf M δ) = refl
 length-preorder (fork l r) = let a = length-preorder l in let b = length-preorder r in let c = length-append (preorder l) (preorder r) in omega arith
 
 -- where a move inside goes: past the tree, at a node at rest, or at one that is not
 abbrev InnerReason : Tree → ℕ → Inner → Type 0
-InnerReason t k (evolves r v) = (k < nodes t) × ((u : Tree) → getElem? (preorder t) k ≡ some u → ¬ NoRuleAtNode u)
+InnerReason t k (evolves r w v) = (k < nodes t) × ((u : Tree) → getElem? (preorder t) k ≡ some u → ¬ NoRuleAtNode u)
 InnerReason t k noRule = (u : Tree) × (getElem? (preorder t) k ≡ some u) × NoRuleAtNode u
 InnerReason t k (outOfRange j) = k ≡ nodes t + j
 
@@ -206,9 +217,9 @@ unfolding atLeaf preorder nodes reads
 leaf-reason s (endT n) δ = (leaf (endT n) δ, refl, tt)
 leaf-reason s (retryT n) δ = (leaf (retryT n) δ, refl, tt)
 leaf-reason s (rdT n a M) δ =
-    let moves : (r : Rule) (v : Tree) → InnerReason (leaf (rdT n a M) δ) 0 (evolves r v) = λ r v. (omega arith, λ u e h. first-node (leaf (rdT n a M) δ) u h (cc)) in
-    by-cases (InnerReason (leaf (rdT n a M) δ) 0) (readable s (δ ++ (rd a ∷ []))) (evolves ARDOK (leaf M (δ ++ (rd a ∷ [])))) (evolves ARDF (leaf (retryT 255) δ))
-    (λ _. moves ARDOK (leaf M (δ ++ (rd a ∷ [])))) (λ _. moves ARDF (leaf (retryT 255) δ))
+    let moves : (r : Rule) (w : Shortage) (v : Tree) → InnerReason (leaf (rdT n a M) δ) 0 (evolves r w v) = λ r w v. (omega arith, λ u e h. first-node (leaf (rdT n a M) δ) u h (cc)) in
+    by-cases (InnerReason (leaf (rdT n a M) δ) 0) (readable s (δ ++ (rd a ∷ []))) (evolves ARDOK enough (leaf M (δ ++ (rd a ∷ [])))) (evolves ARDF (shortage s (δ ++ (rd a ∷ []))) (leaf (retryT 255) δ))
+    (λ _. moves ARDOK enough (leaf M (δ ++ (rd a ∷ [])))) (λ _. moves ARDF (shortage s (δ ++ (rd a ∷ []))) (leaf (retryT 255) δ))
 leaf-reason s (wtT n a M) δ = (omega arith, λ u e h. first-node (leaf (wtT n a M) δ) u h (cc))
 leaf-reason s (orElseT n M N) δ = (omega arith, λ u e h. first-node (leaf (orElseT n M N) δ) u h (cc))
 
@@ -222,16 +233,16 @@ fork-reason (leaf (orElseT n M N) δ) r = (fork (leaf (orElseT n M N) δ) r, ref
 fork-reason (fork l m) r = (fork (fork l m) r, refl, λ z. z)
 
 -- a node of a fork's left side, and one of its right side
-node-left : (l r : Tree) (k : ℕ) → k < nodes l → getElem? (preorder l ++ preorder r) k ≡ getElem? (preorder l) k
+pub node-left : (l r : Tree) (k : ℕ) → k < nodes l → getElem? (preorder l ++ preorder r) k ≡ getElem? (preorder l) k
 node-left l r k h = found-left (preorder l) (preorder r) k (rw length-preorder h)
 
-node-right : (l r : Tree) (j : ℕ) → getElem? (preorder l ++ preorder r) (nodes l + j) ≡ getElem? (preorder r) j
+pub node-right : (l r : Tree) (j : ℕ) → getElem? (preorder l ++ preorder r) (nodes l + j) ≡ getElem? (preorder r) j
 node-right l r j = rw (← (length-preorder l)) (found-right (preorder l) (preorder r) j)
 
 -- a move in the right side of a fork
 right-reason : (l r : Tree) (j : ℕ) (i : Inner) → InnerReason r j i → InnerReason (fork l r) (suc (nodes l + j)) (inRight l i)
 unfolding inRight preorder nodes
-right-reason l r j (evolves e v) h = (omega arith, λ u f. h .1 u (sym (node-right l r j) ∙ f))
+right-reason l r j (evolves e w v) h = (omega arith, λ u f. h .1 u (sym (node-right l r j) ∙ f))
 right-reason l r j noRule h = (h .0, node-right l r j ∙ h .1, h .2)
 right-reason l r j (outOfRange m) h = omega arith
 
@@ -239,7 +250,7 @@ right-reason l r j (outOfRange m) h = omega arith
 left-reason : (l r : Tree) (k : ℕ) (i : Inner) (right : ℕ → Inner) → InnerReason l k i → ((j : ℕ) → InnerReason r j (right j)) →
     InnerReason (fork l r) (suc k) (inLeft r i (λ j. inRight l (right j)))
 unfolding inLeft preorder nodes
-left-reason l r k (evolves e v) right h g = (omega arith, λ u f. h .1 u (sym (node-left l r k (h .0)) ∙ f))
+left-reason l r k (evolves e w v) right h g = (omega arith, λ u f. h .1 u (sym (node-left l r k (h .0)) ∙ f))
 left-reason l r k noRule right h g =
     (h .0, node-left l r k (rw length-preorder at (found-below (preorder l) k (h .0) (h .1))) ∙ h .1, h .2)
 left-reason l r k (outOfRange j) right h g = rw h (right-reason l r j (right j) (g j))
@@ -272,10 +283,10 @@ module _ (h : Configuration) (p k : ℕ) where
   module _ (few : length (h .components) ≤ 64) where
     -- at an attempt: past its nodes 16, at a node at rest 17, else a move
     inner-local-reason : (n : ℕ) (M : Expression) (s : State) (t : Tree) → getElem? (h .components) p ≡ some (transaction n M s t) → (i : Inner) →
-        InnerReason t k i → Reason Inward (applyAt p (innerLocal (h .counts) n M s i) h)
+        InnerReason t k i → Because Inward (applyAt p (innerLocal (h .counts) n M s i) h)
     unfolding innerLocal applyAt
-    inner-local-reason n M s t e (evolves r v) q =
-        kept-reason Inward h p few r (h .counts) (transaction n M s v ∷ []) (omega arith)
+    inner-local-reason n M s t e (evolves r w v) q =
+        kept-reason Inward h p few r w (h .counts) (transaction n M s v ∷ []) (omega arith)
         (found-below (h .components) p (transaction n M s t) e)
         (λ m c. elim (barred-inside (transaction n M s t) e m c) [ inl b ↦ omega arith | inr b ↦ q .1 (b .1 .0) (b .1 .1) (b .1 .2) ])
     inner-local-reason n M s t e noRule q =
@@ -289,7 +300,7 @@ module _ (h : Configuration) (p k : ℕ) where
 
     -- kind 2 at a component
     acts-inside-reason : (c : Component) → getElem? (h .components) p ≡ some c →
-        Reason Inward (applyAt p (actsInside (h .counts) c k) h)
+        Because Inward (applyAt p (actsInside (h .counts) c k) h)
     unfolding actsInside applyAt
     acts-inside-reason (idle c) e = (no-attempt c e, λ m l z. let q = barred-inside (idle c) e m z in omega arith)
     acts-inside-reason (transaction n M s t) e = inner-local-reason n M s t e (inner s t k) (inner-reason s t k)
@@ -319,20 +330,24 @@ no-station-inside-first h p k z = (no-station-inside z, λ m l c. before m l c)
     before m l (no-node n M s t f y) = omega arith
     before m l (no-rule-there n M s t u f g y) = omega arith
 
--- every answer to a choice has its reason
-pub choice-reason : (h : Configuration) → length (h .components) ≤ 64 → (e : Entry) → Reason (λ m. ChoiceCondition h m e) (answerTo h e)
-unfolding answerTo atPosition
-choice-reason h few (act p) = go (getElem? (h .components) p) refl
+-- every response to a choice, and so every answer, has its reason
+response-reason : (h : Configuration) → length (h .components) ≤ 64 → (e : Entry) → Because (λ m. ChoiceCondition h m e) (respondTo h e)
+unfolding respondTo atPosition
+response-reason h few (act p) = go (getElem? (h .components) p) refl
   where
-    go : (o : Option Component) → getElem? (h .components) p ≡ o → Reason (λ m. ChoiceCondition h m (act p)) (atPosition o (λ c. applyAt p (acts (h .counts) c) h))
+    go : (o : Option Component) → getElem? (h .components) p ≡ o → Because (λ m. ChoiceCondition h m (act p)) (atPosition o (λ c. applyAt p (acts (h .counts) c) h))
     go none e = no-station-first h p (none-past (h .components) p e)
     go (some c) e = acts-reason h p few c e
-choice-reason h few (inside p k) = go (getElem? (h .components) p) refl
+response-reason h few (inside p k) = go (getElem? (h .components) p) refl
   where
     go : (o : Option Component) → getElem? (h .components) p ≡ o →
-        Reason (λ m. ChoiceCondition h m (inside p k)) (atPosition o (λ c. applyAt p (actsInside (h .counts) c k) h))
+        Because (λ m. ChoiceCondition h m (inside p k)) (atPosition o (λ c. applyAt p (actsInside (h .counts) c k) h))
     go none e = no-station-inside-first h p k (none-past (h .components) p e)
     go (some c) e = acts-inside-reason h p k few c e
+
+pub choice-reason : (h : Configuration) → length (h .components) ≤ 64 → (e : Entry) → Reason (λ m. ChoiceCondition h m e) (answerTo h e)
+unfolding answerTo
+choice-reason h few e = answer-because (λ m. ChoiceCondition h m e) (respondTo h e) (response-reason h few e)
 
 pub choice-numbers : ChoiceNumbers
 unfolding ChoiceNumbers isAccepted

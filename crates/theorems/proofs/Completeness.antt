@@ -21,7 +21,8 @@ use Rattle.semantics.specs.Definitions.Run.{InBytes}
 use Rattle.semantics.specs.Definitions.Basics.{replaceAt, All}
 use Rattle.semantics.specs.Definitions.Terms.{Expression, endT, retryT, rdT, wtT, orElseT, Program, Term}
 use Rattle.semantics.specs.Definitions.Table.{Table}
-use Rattle.semantics.specs.Definitions.Logs.{emptyLog, addToken, takeToken}
+use Rattle.semantics.specs.Definitions.Shortage.{Shortage, enough}
+use Rattle.semantics.specs.Definitions.Logs.{emptyLog, shortage, addToken, takeToken}
 use Rattle.semantics.specs.Definitions.Configuration.{Idle, taking, repeating, block, output, Tree, leaf, fork, Component, idle, transaction, Configuration, branchesOf, nodes, opens}
 use Rattle.semantics.specs.Definitions.Stored.{ComponentOk, WellFormed}
 use Rattle.semantics.specs.Definitions.Moves.{Entry, act, inside, moves, takes, puts, acts, evolves, outOfRange, inner}
@@ -106,7 +107,8 @@ record InnerMove (s : State) (t : Tree) (r : Rule) (A : Ongoing) : Type 0 where
   node : ℕ
   result : Tree
   counted : node < nodes t
-  made : inner s t node ≡ evolves r result
+  lacks : Shortage
+  made : inner s t node ≡ evolves r lacks result
   image : A ≡ ongoingOf s result
 
 -- each reduction of Table 3 is the move of a node
@@ -116,43 +118,43 @@ inner-move (ardok {a} {M} {σ} {δ} i) s t e =
     let (K, shape, under, state) = of-ongoing s (running (prefix (rd a) M) σ δ) t e in
     let (n, N, kind, rest) = of-expr (prefix (rd a) M) K under in
     let z = included-readable s (δ ++ (rd a ∷ [])) (rw state at i) in
-    rw (shape, kind) (record { node = 0; result = leaf N (δ ++ (rd a ∷ [])); counted = omega arith; made = rw z; image = cc })
+    rw (shape, kind) (record { node = 0; result = leaf N (δ ++ (rd a ∷ [])); counted = omega arith; lacks = enough; made = rw z; image = cc })
 inner-move (ardf {a} {M} {σ} {δ} i) s t e =
     let (K, shape, under, state) = of-ongoing s (running (prefix (rd a) M) σ δ) t e in
     let (n, N, kind, rest) = of-expr (prefix (rd a) M) K under in
     let z = not-included-unreadable s (δ ++ (rd a ∷ [])) (rw state at i) in
-    rw (shape, kind) (record { node = 0; result = leaf (retryT 255) δ; counted = omega arith; made = rw z; image = cc })
+    rw (shape, kind) (record { node = 0; result = leaf (retryT 255) δ; counted = omega arith; lacks = shortage s (δ ++ (rd a ∷ [])); made = rw z; image = cc })
 inner-move (awr {a} {M} {σ} {δ}) s t e =
     let (K, shape, under, state) = of-ongoing s (running (prefix (wt a) M) σ δ) t e in
     let (n, N, kind, rest) = of-expr (prefix (wt a) M) K under in
-    rw (shape, kind) (record { node = 0; result = leaf N (δ ++ (wt a ∷ [])); counted = omega arith; made = refl; image = cc })
+    rw (shape, kind) (record { node = 0; result = leaf N (δ ++ (wt a ∷ [])); counted = omega arith; lacks = enough; made = refl; image = cc })
 inner-move (aoi {M} {N} {σ} {δ}) s t e =
     let (K, shape, under, state) = of-ongoing s (running (orElse M N) σ δ) t e in
     let (n, L, R, kind, left, right) = of-expr (orElse M N) K under in
-    rw (shape, kind) (record { node = 0; result = fork (leaf L δ) (leaf R δ); counted = omega arith; made = refl; image = cc })
+    rw (shape, kind) (record { node = 0; result = fork (leaf L δ) (leaf R δ); counted = omega arith; lacks = enough; made = refl; image = cc })
 inner-move (aof {σ} {δ} {B}) s t e =
     let (l, r, shape, left, right) = of-ongoing s (orElse′ (running retry σ δ) B) t e in
     let (K, leaf-shape, under, state) = of-ongoing s (running retry σ δ) l left in
     let (n, kind) = of-expr retry K under in
-    rw (shape, leaf-shape, kind) (record { node = 0; result = r; counted = omega arith; made = refl; image = right })
+    rw (shape, leaf-shape, kind) (record { node = 0; result = r; counted = omega arith; lacks = enough; made = refl; image = right })
 inner-move (aoe {σ} {δ} {B}) s t e =
     let (l, r, shape, left, right) = of-ongoing s (orElse′ (running end σ δ) B) t e in
     let (K, leaf-shape, under, state) = of-ongoing s (running end σ δ) l left in
     let (n, kind) = of-expr end K under in
-    rw (shape, leaf-shape, kind) (record { node = 0; result = leaf (endT n) δ; counted = omega arith; made = refl; image = cc })
+    rw (shape, leaf-shape, kind) (record { node = 0; result = leaf (endT n) δ; counted = omega arith; lacks = enough; made = refl; image = cc })
 inner-move (aol {A = A} {B = B} d) s t e =
     let (l, r, shape, left, right) = of-ongoing s (orElse′ A B) t e in
     let m = inner-move d s l left in
     let k = m .counted in
     let z = m .made in
-    rw shape (record { node = suc (m .node); result = fork (m .result) r; counted = omega arith; made = rw z; image = cc (m .image) })
+    rw shape (record { node = suc (m .node); result = fork (m .result) r; counted = omega arith; lacks = m .lacks; made = rw z; image = cc (m .image) })
 inner-move (aor {A = A} {B = B} d) s t e =
     let (l, r, shape, left, right) = of-ongoing s (orElse′ A B) t e in
     let m = inner-move d s r right in
     let k = m .counted in
     let z = m .made in
     let on = out-of-range s l (m .node) in
-    rw shape (record { node = suc (nodes l + m .node); result = fork l (m .result); counted = omega arith; made = rw (on, z); image = cc (m .image) })
+    rw shape (record { node = suc (nodes l + m .node); result = fork l (m .result); counted = omega arith; lacks = m .lacks; made = rw (on, z); image = cc (m .image) })
 
 -- ---- what stands for a process
 
@@ -191,15 +193,16 @@ record Redex (σ : State) (cs : List Component) (r : Rule) (P : Process) (σ′ 
   mover : Component
   laid : List Component
   found : getElem? cs (positionOf entry) ≡ some mover
-  made : localMove σ mover entry ≡ moves r σ′ laid
+  lacks : Shortage
+  made : localMove σ mover entry ≡ moves r lacks σ′ laid
   node : NodeOf entry mover
   stands : Denotes P (replaceAt (positionOf entry) laid cs)
 
 -- by kind 1, of a component that stands alone and is d
-acting : {σ : State} {c d : Component} {r : Rule} {P : Process} {σ′ : State} {ds : List Component} → c ≡ d → acts σ d ≡ moves r σ′ ds → Denotes P ds →
+acting : {σ : State} {c d : Component} {r : Rule} {w : Shortage} {P : Process} {σ′ : State} {ds : List Component} → c ≡ d → acts σ d ≡ moves r w σ′ ds → Denotes P ds →
     Redex σ (c ∷ []) r P σ′
 unfolding replaceAt positionOf localMove
-acting {d = d} {ds = ds} e m s = rw e (record { entry = act 0; mover = d; laid = ds; found = refl; made = m; node = tt; stands = rw append-nil s })
+acting {d = d} {w = w} {ds = ds} e m s = rw e (record { entry = act 0; mover = d; laid = ds; found = refl; lacks = w; made = m; node = tt; stands = rw append-nil s })
 
 -- with more components behind it
 on-the-left : {σ : State} {cs ds : List Component} {r : Rule} {P Q : Process} {σ′ : State} →
@@ -211,6 +214,7 @@ on-the-left {cs = cs} {ds} m q =
       mover = m .mover;
       laid = m .laid;
       found = found-left cs ds (positionOf (m .entry)) below ∙ m .found;
+      lacks = m .lacks;
       made = m .made;
       node = m .node;
       stands = rw (replaceAt-left cs ds (m .laid) (positionOf (m .entry)) below) (beside (m .stands) q);
@@ -231,6 +235,7 @@ on-the-right {σ} {cs} {ds} p m =
       mover = m .mover;
       laid = m .laid;
       found = rw (moved-on e) (found-right cs ds (positionOf e)) ∙ m .found;
+      lacks = m .lacks;
       made = same-move e ∙ m .made;
       node = same-node e (m .mover) (m .node);
       stands = rw (moved-on e, replaceAt-right cs ds (m .laid) (positionOf e)) (beside p (m .stands));
@@ -258,17 +263,17 @@ spent-back σ a σ′ p =
     rw g (rw (p .added) (set-set σ′ a (suc (count σ′ a)) (count σ′ a) ∙ set-getD σ′ a 0))
 
 -- IN and REP take a token that is there
-takes-made : (σ : State) (a : Name) (σ′ : State) (r : Rule) (cs : List Idle) → Plus σ′ a σ → takes σ a r cs ≡ moves r σ′ (map idle cs)
+takes-made : (σ : State) (a : Name) (σ′ : State) (r : Rule) (cs : List Idle) → Plus σ′ a σ → takes σ a r cs ≡ moves r enough σ′ (map idle cs)
 unfolding takes
-takes-made σ a σ′ r cs p = rw (ne-eqb (count σ a) 0 (λ e. let z = grown σ′ a σ p in omega arith)) (ap (λ x. moves r x (map idle cs)) (spent-back σ a σ′ p))
+takes-made σ a σ′ r cs p = rw (ne-eqb (count σ a) 0 (λ e. let z = grown σ′ a σ p in omega arith)) (ap (λ x. moves r enough x (map idle cs)) (spent-back σ a σ′ p))
 
 -- OUT puts a token where the count stays a byte
-puts-made : (σ : State) (a : Name) (σ′ : State) → Plus σ a σ′ → All (λ c. c ≤ 255) σ′ → puts σ a ≡ moves (OUT a) σ′ []
+puts-made : (σ : State) (a : Name) (σ′ : State) → Plus σ a σ′ → All (λ c. c ≤ 255) σ′ → puts σ a ≡ moves (OUT a) enough σ′ []
 unfolding puts
 puts-made σ a σ′ p h =
     let below = all-getD (λ c. c ≤ 255) σ′ a 0 h (omega arith) in
     let test : leb 255 (count σ a) ≡ false = lt-leb 255 (count σ a) (let z = grown σ a σ′ p in omega arith) in
-    rw test (ap (λ x. moves (OUT a) x []) (sym (p .added)))
+    rw test (ap (λ x. moves (OUT a) enough x []) (sym (p .added)))
 
 -- ---- one rule
 
@@ -303,6 +308,7 @@ redex (ATPASS {r} {A} {A′} {M} {σ} d) (alone c e) h =
       mover = transaction n N s t;
       laid = after ∷ [];
       found = refl;
+      lacks = m .lacks;
       made = rw made;
       node = m .counted;
       stands = alone after image;
@@ -317,13 +323,13 @@ redex (ATFAILr {M} {σ} {σ′} {δ} d) (alone c e) h =
     let (k, kind) = of-expr end K under in
     let whole : c ≡ transaction n N s (leaf (endT k) δ) = cc in
     let unread = not-included-unreadable σ δ d in
-    acting whole (rw unread) (alone (idle (block n N)) (ap atom body))
+    acting {w = shortage σ δ} whole (rw unread) (alone (idle (block n N)) (ap atom body))
 redex (ATOKr {M} {σ} {σ′} {δ} {bs} d o) (alone c e) h =
     let (n, N, s, K, shape, under, body) = of-leaf c e in
     let (k, kind) = of-expr end K under in
     let whole : c ≡ transaction n N s (leaf (endT k) δ) = cc in
     let read = included-readable σ δ d in
-    acting whole (rw read) (as-well (ap outputs (sym o)) (outputs-stand (WT δ)))
+    acting {w = enough} whole (rw read) (as-well (ap outputs (sym o)) (outputs-stand (WT δ)))
 
 -- ---- one choice
 

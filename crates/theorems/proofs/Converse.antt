@@ -18,6 +18,7 @@ use Rattle.calculus.specs.Reduction.{Rule, OUT, IN, REP, ATST, ATOK}
 use Rattle.semantics.specs.Definitions.Basics.{replaceAt, firstOf, All, Bytes}
 use Rattle.semantics.specs.Definitions.Terms.{Expression, endT, atomT, Term, process, expression, number, branches}
 use Rattle.semantics.specs.Definitions.Table.{Table}
+use Rattle.semantics.specs.Definitions.Shortage.{Shortage, enough}
 use Rattle.semantics.specs.Definitions.Logs.{emptyLog, readable, paths, firstReadable, addToken, takeToken}
 use Rattle.semantics.specs.Definitions.Configuration.{Idle, taking, repeating, block, output, Tree, leaf, Component, idle, transaction, Configuration, opens, opening}
 use Rattle.semantics.specs.Definitions.Moves.{Entry, act, inside, moves, takes, puts, commits, ends, acts, evolves, inner, innerLocal, actsInside, moved, answerTo, ruleNumber}
@@ -40,8 +41,8 @@ use Rattle.theorems.proofs.Drive.{nodesFor, Driven, arrived, driven, dr
 -- ---- one step at a position
 
 -- a component that moves by itself and leaves idle ones
-idle-moves : (u : PlainState) (p : ℕ) (c : Idle) (r : Rule) (σ : State) (cs : List Idle) → getElem? (u .stations) p ≡ some c →
-    acts (u .counts) (idle c) ≡ moves r σ (map idle cs) → length (replaceAt p cs (u .stations)) ≤ 64 →
+idle-moves : {w : Shortage} (u : PlainState) (p : ℕ) (c : Idle) (r : Rule) (σ : State) (cs : List Idle) → getElem? (u .stations) p ≡ some c →
+    acts (u .counts) (idle c) ≡ moves r w σ (map idle cs) → length (replaceAt p cs (u .stations)) ≤ 64 →
     answerTo (idleConfiguration u) (act p) ≡ moved r (idleConfiguration (replacing u p σ cs))
 unfolding idleConfiguration replacing positionOf localMove
 idle-moves u p c r σ cs found move few =
@@ -51,11 +52,11 @@ idle-moves u p c r σ cs found move few =
     ∙ λ i. moved r (record { counts = σ; components = sym same i })
 
 -- a take where the channel is not empty, an output where it is not full
-taken : (σ : State) (a : Name) (r : Rule) (cs : List Idle) → ¬ (count σ a ≡ 0) → takes σ a r cs ≡ moves r (takeToken σ a) (map idle cs)
+taken : (σ : State) (a : Name) (r : Rule) (cs : List Idle) → ¬ (count σ a ≡ 0) → takes σ a r cs ≡ moves r enough (takeToken σ a) (map idle cs)
 unfolding takes
 taken σ a r cs some-there = rw (ne-eqb (count σ a) 0 some-there)
 
-put-down : (σ : State) (a : Name) → ¬ (255 ≤ count σ a) → puts σ a ≡ moves (OUT a) (addToken σ a) []
+put-down : (σ : State) (a : Name) → ¬ (255 ≤ count σ a) → puts σ a ≡ moves (OUT a) enough (addToken σ a) []
 unfolding puts
 put-down σ a room = rw (lt-leb 255 (count σ a) (omega arith))
 
@@ -98,8 +99,8 @@ module _ (u : PlainState) (p n : ℕ) (M : Expression) (found : getElem? (u .sta
       (length-attempting (transaction n M (u .counts) (leaf M emptyLog)))
 
   -- a choice at the attempt
-  moved-there : (e : Entry) → positionOf e ≡ p → (t : Tree) (r : Rule) (σ : State) (cs : List Component) →
-      localMove (u .counts) (transaction n M (u .counts) t) e ≡ moves r σ cs → length (replaceAt p cs (map idle (u .stations))) ≤ 64 →
+  moved-there : (e : Entry) → positionOf e ≡ p → (t : Tree) (r : Rule) {w : Shortage} (σ : State) (cs : List Component) →
+      localMove (u .counts) (transaction n M (u .counts) t) e ≡ moves r w σ cs → length (replaceAt p cs (map idle (u .stations))) ≤ 64 →
       answerTo (attempting u p n M t) e ≡ moved r (record { counts = σ; components = replaceAt p cs (map idle (u .stations)) })
   unfolding attempting
   moved-there e at t r σ cs move fits =
@@ -110,10 +111,10 @@ module _ (u : PlainState) (p n : ℕ) (M : Expression) (found : getElem? (u .sta
       ∙ rw at (λ i. moved r (record { counts = σ; components = twice i }))
 
   -- it moves inside, at one node and at a list of nodes
-  evolved : (t v : Tree) (k : ℕ) (r : Rule) → inner (u .counts) t k ≡ evolves r v → answerTo (attempting u p n M t) (inside p k) ≡ moved r (attempting u p n M v)
+  evolved : (t v : Tree) (k : ℕ) (r : Rule) {w : Shortage} → inner (u .counts) t k ≡ evolves r w v → answerTo (attempting u p n M t) (inside p k) ≡ moved r (attempting u p n M v)
   unfolding attempting positionOf localMove actsInside innerLocal
-  evolved t v k r e =
-      let c : Component = transaction n M (u .counts) v in moved-there (inside p k) refl t r (u .counts) (c ∷ []) (rw e) (length-attempting c)
+  evolved t v k r {w} e =
+      let c : Component = transaction n M (u .counts) v in moved-there (inside p k) refl t r {w = w} (u .counts) (c ∷ []) (rw e) (length-attempting c)
 
   drive-runs : {t v : Tree} {ks : List ℕ} → Driven (u .counts) t ks v → Runs (attempting u p n M t) (map (inside p) ks) (attempting u p n M v)
   drive-runs arrived = rested
@@ -132,6 +133,7 @@ module _ (u : PlainState) (p n : ℕ) (M : Expression) (found : getElem? (u .sta
       refl
       (leaf (endT e) δ)
       (ATOK δ)
+      {w = enough}
       (without (u .counts) (RD δ))
       (map idle (map output (WT δ)))
       (rw (there, laid))

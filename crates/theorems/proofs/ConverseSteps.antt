@@ -17,7 +17,8 @@ use Rattle.calculus.specs.Log.{RD, WT}
 use Rattle.calculus.specs.Reduction.{Rule, OUT, IN, REP, ATST, ATFAIL, ATOK}
 use Rattle.semantics.specs.Definitions.Basics.{replaceAt, firstOf, All}
 use Rattle.semantics.specs.Definitions.Terms.{Expression, endT, retryT, rdT, wtT, orElseT}
-use Rattle.semantics.specs.Definitions.Logs.{emptyLog, readable, paths, firstReadable, addToken, takeToken}
+use Rattle.semantics.specs.Definitions.Shortage.{Shortage, enough}
+use Rattle.semantics.specs.Definitions.Logs.{emptyLog, shortage, readable, paths, firstReadable, addToken, takeToken}
 use Rattle.semantics.specs.Definitions.Configuration.{Idle, taking, repeating, block, output, Tree, leaf, fork, Component, idle, transaction, Configuration, opens}
 use Rattle.semantics.specs.Definitions.Moves.{act, inside, LocalAnswer, moves, blocked, takes, puts, commits, ends, acts, actsInside, moved, answerTo, ruleNumber}
 use Rattle.semantics.specs.Claims.InnerMoves.{Moves, unmoved, MovesSettleFirstPath}
@@ -65,32 +66,32 @@ OwnMove s p r g =
 -- the same of its answer, where what it lays down fits
 abbrev OwnLocal : PlainState → ℕ → LocalAnswer → Type 0
 OwnLocal s p (blocked n) = Unit {0}
-OwnLocal s p (moves r σ cs) =
+OwnLocal s p (moves r w σ cs) =
     (g : Configuration) → g .counts ≡ σ → g .components ≡ replaceAt p cs ((idleConfiguration s) .components) → length (g .components) ≤ 64 → OwnMove s p r g
 
 -- by the rules 1 to 3
-own-step : (s : PlainState) (p : ℕ) (r : Rule) (σ : State) (cs : List Idle) → ruleNumber r ≤ 3 →
-    (length (replaceAt p cs (s .stations)) ≤ 64 → ConverseStep s p (replacing s p σ cs)) → OwnLocal s p (moves r σ (map idle cs))
+own-step : (w : Shortage) (s : PlainState) (p : ℕ) (r : Rule) (σ : State) (cs : List Idle) → ruleNumber r ≤ 3 →
+    (length (replaceAt p cs (s .stations)) ≤ 64 → ConverseStep s p (replacing s p σ cs)) → OwnLocal s p (moves r w σ (map idle cs))
 unfolding OwnMove replacing
-own-step s p r σ cs low step g e f few =
+own-step w s p r σ cs low step g e f few =
     let same = left-idle s p σ cs g e f in inl (low, (replacing s p σ cs, same, step (few-left (replacing s p σ cs) g same few)))
 
 -- kind 1 at a station
 own-move : (s : PlainState) (p : ℕ) (c : Idle) → getElem? (s .stations) p ≡ some c → OwnLocal s p (acts (s .counts) (idle c))
 unfolding acts takes puts ruleNumber OwnMove attempting idleConfiguration
 own-move s p (taking n a P) found =
-    by-cases (OwnLocal s p) (eqb (count (s .counts) a) 0) (blocked 18) (moves (IN a) (takeToken (s .counts) a) (map idle (opens P))) (λ e. tt)
-    (λ e. own-step s p (IN a) (takeToken (s .counts) a) (opens P) (omega arith)
+    by-cases (OwnLocal s p) (eqb (count (s .counts) a) 0) (blocked 18) (moves (IN a) enough (takeToken (s .counts) a) (map idle (opens P))) (λ e. tt)
+    (λ e. own-step enough s p (IN a) (takeToken (s .counts) a) (opens P) (omega arith)
     (λ fits. stepIn n a P found (eqb-false (count (s .counts) a) 0 e) (λ many. omega arith)))
 own-move s p (repeating n a P) found =
     let cs : List Idle = opens P ++ (repeating n a P ∷ []) in
-    by-cases (OwnLocal s p) (eqb (count (s .counts) a) 0) (blocked 18) (moves (REP a) (takeToken (s .counts) a) (map idle cs)) (λ e. tt)
-    (λ e. own-step s p (REP a) (takeToken (s .counts) a) cs (omega arith)
+    by-cases (OwnLocal s p) (eqb (count (s .counts) a) 0) (blocked 18) (moves (REP a) enough (takeToken (s .counts) a) (map idle cs)) (λ e. tt)
+    (λ e. own-step enough s p (REP a) (takeToken (s .counts) a) cs (omega arith)
     (λ fits. stepRep n a P found (eqb-false (count (s .counts) a) 0 e) (λ many. omega arith)))
 own-move s p (output a) found =
-    by-cases (OwnLocal s p) (leb 255 (count (s .counts) a)) (blocked 20) (moves (OUT a) (addToken (s .counts) a) []) (λ e. tt)
+    by-cases (OwnLocal s p) (leb 255 (count (s .counts) a)) (blocked 20) (moves (OUT a) enough (addToken (s .counts) a) []) (λ e. tt)
     (λ e. let room = leb-false 255 (count (s .counts) a) e in
-    own-step s p (OUT a) (addToken (s .counts) a) [] (omega arith) (λ fits. stepOut a found (λ full. omega arith)))
+    own-step enough s p (OUT a) (addToken (s .counts) a) [] (omega arith) (λ fits. stepOut a found (λ full. omega arith)))
 own-move s p (block n M) found = λ g e f few. inr (refl, (n, M, found, λ i. record { counts = sym e i; components = sym f i }))
 
 -- an accepted act
@@ -99,8 +100,8 @@ unfolding positionOf localMove idleConfiguration
 acted s p r g q =
     let m = accepted-inverts (idleConfiguration s) (act p) r g q in
     let c = station-at s p (m .component) (m .found) in
-    let own : acts (s .counts) (idle (c .0)) ≡ moves r (g .counts) (m .laid) = rw (c .2) (m .local) in
-    let can : OwnLocal s p (moves r (g .counts) (m .laid)) = rw own at (own-move s p (c .0) (c .1)) in
+    let own : acts (s .counts) (idle (c .0)) ≡ moves r (m .lacks) (g .counts) (m .laid) = rw (c .2) (m .local) in
+    let can : OwnLocal s p (moves r (m .lacks) (g .counts) (m .laid)) = rw own at (own-move s p (c .0) (c .1)) in
     can g refl (m .placed) (m .fits)
 
 -- a move inside is never accepted there
@@ -109,7 +110,7 @@ unfolding positionOf localMove actsInside
 no-inside s p k r g q =
     let m = accepted-inverts (idleConfiguration s) (inside p k) r g q in
     let c = station-at s p (m .component) (m .found) in
-    let own : blocked 15 ≡ moves r (g .counts) (m .laid) = rw (← (c .2)) at (m .local) in
+    let own : blocked 15 ≡ moves r (m .lacks) (g .counts) (m .laid) = rw (← (c .2)) at (m .local) in
     let z : _≡_ {A = ℕ} 0 1 = cc in omega arith
 
 -- nor is a commit
@@ -121,24 +122,24 @@ no-commit s p δ g q =
 -- ---- an attempt undisturbed
 
 -- what commits is a single end leaf with the log that is committed
-commits-with : (σ : State) (n : ℕ) (M : Expression) (t : Tree) (δ : Log) (σ′ : State) (cs : List Component) → ends σ n M t ≡ moves (ATOK δ) σ′ cs →
+commits-with : (σ : State) (n : ℕ) (M : Expression) (t : Tree) (δ : Log) (w : Shortage) (σ′ : State) (cs : List Component) → ends σ n M t ≡ moves (ATOK δ) w σ′ cs →
     (e : ℕ) × (t ≡ leaf (endT e) δ) × (σ′ ≡ without σ (RD δ)) × (cs ≡ map idle (map output (WT δ)))
 unfolding ends commits
-commits-with σ n M (leaf (endT e) π) δ σ′ cs q = go (readable σ π) refl
+commits-with σ n M (leaf (endT e) π) δ w σ′ cs q = go (readable σ π) refl
   where
     go : (b : Bool) → readable σ π ≡ b →
         (d : ℕ) × (leaf (endT e) π ≡ leaf (endT d) δ) × (σ′ ≡ without σ (RD δ)) × (cs ≡ map idle (map output (WT δ)))
     go true r =
-        let k : moves (ATOK π) (without σ (RD π)) (map (λ a. idle (output a)) (WT π)) ≡ moves (ATOK δ) σ′ cs = rw r at q in
+        let k : moves (ATOK π) enough (without σ (RD π)) (map (λ a. idle (output a)) (WT π)) ≡ moves (ATOK δ) w σ′ cs = rw r at q in
         let same : π ≡ δ = cc in
         (e, ap (leaf (endT e)) same, rw (← same) (cc), rw (map-map idle output, ← same) (cc))
     go false r =
-        let k : moves ATFAIL σ (idle (block n M) ∷ []) ≡ moves (ATOK δ) σ′ cs = rw r at q in absurd (let z : _≡_ {A = ℕ} 0 1 = cc in omega arith)
-commits-with σ n M (leaf (retryT e) π) δ σ′ cs q = absurd (let z : _≡_ {A = ℕ} 0 1 = cc in omega arith)
-commits-with σ n M (leaf (rdT e a N) π) δ σ′ cs q = absurd (let z : _≡_ {A = ℕ} 0 1 = cc in omega arith)
-commits-with σ n M (leaf (wtT e a N) π) δ σ′ cs q = absurd (let z : _≡_ {A = ℕ} 0 1 = cc in omega arith)
-commits-with σ n M (leaf (orElseT e N N′) π) δ σ′ cs q = absurd (let z : _≡_ {A = ℕ} 0 1 = cc in omega arith)
-commits-with σ n M (fork l r) δ σ′ cs q = absurd (let z : _≡_ {A = ℕ} 0 1 = cc in omega arith)
+        let k : moves ATFAIL (shortage σ π) σ (idle (block n M) ∷ []) ≡ moves (ATOK δ) w σ′ cs = rw r at q in absurd (let z : _≡_ {A = ℕ} 0 1 = cc in omega arith)
+commits-with σ n M (leaf (retryT e) π) δ w σ′ cs q = absurd (let z : _≡_ {A = ℕ} 0 1 = cc in omega arith)
+commits-with σ n M (leaf (rdT e a N) π) δ w σ′ cs q = absurd (let z : _≡_ {A = ℕ} 0 1 = cc in omega arith)
+commits-with σ n M (leaf (wtT e a N) π) δ w σ′ cs q = absurd (let z : _≡_ {A = ℕ} 0 1 = cc in omega arith)
+commits-with σ n M (leaf (orElseT e N N′) π) δ w σ′ cs q = absurd (let z : _≡_ {A = ℕ} 0 1 = cc in omega arith)
+commits-with σ n M (fork l r) δ w σ′ cs q = absurd (let z : _≡_ {A = ℕ} 0 1 = cc in omega arith)
 
 module _ (s : PlainState) (p n : ℕ) (M : Expression) (found : getElem? (s .stations) p ≡ some (block n M)) where
   -- the attempt stands where its block stood
@@ -165,7 +166,7 @@ module _ (s : PlainState) (p n : ℕ) (M : Expression) (found : getElem? (s .sta
   moves-inside [] t f m rested = (t, m, refl)
   moves-inside (k ∷ ks) t f m (ran {f = g} r q rest) =
       let i = inside-alone (attempting s p n M t) p k n M (s .counts) t (there t) r g q in
-      moves-inside ks (i .0) f (moves-snoc k r m (i .1)) (rw (with-nodes t (i .0) g (i .2) (i .3)) rest)
+      moves-inside ks (i .1) f (moves-snoc k r m (i .2)) (rw (with-nodes t (i .1) g (i .3) (i .4)) rest)
 
   -- and its commit is a step, by the first readable path
   commit-step : (ks : List ℕ) (f : Configuration) (δ : Log) (g : Configuration) → Runs (attempting s p n M (leaf M emptyLog)) (map (inside p) ks) f →
@@ -176,8 +177,8 @@ module _ (s : PlainState) (p n : ℕ) (M : Expression) (found : getElem? (s .sta
       let h = attempting s p n M (i .0) in
       let m = accepted-inverts h (act p) (ATOK δ) g (rw (i .2) q) in
       let same : transaction n M (s .counts) (i .0) ≡ m .component = let e = there (i .0) in let d = m .found in cc in
-      let own : ends (s .counts) n M (i .0) ≡ moves (ATOK δ) (g .counts) (m .laid) = rw (← same) at (m .local) in
-      let c = commits-with (s .counts) n M (i .0) δ (g .counts) (m .laid) own in
+      let own : ends (s .counts) n M (i .0) ≡ moves (ATOK δ) (m .lacks) (g .counts) (m .laid) = rw (← same) at (m .local) in
+      let c = commits-with (s .counts) n M (i .0) δ (m .lacks) (g .counts) (m .laid) own in
       let first = moves-settle-first-path (s .counts) M (c .0) δ .0 (rw (← (c .1)) (i .1)) in
       let left = left-idle s p (without (s .counts) (RD δ)) (map output (WT δ)) g (c .2) (m .placed ∙ in-place (i .0) (m .laid) ∙ rw (c .3)) in
       let fits : length (replaceAt p (map output (WT δ)) (s .stations)) ≤ 64 =

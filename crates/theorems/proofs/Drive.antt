@@ -13,7 +13,8 @@ use Rattle.calculus.specs.Syntax.{Name, rd, wt, Log, State}
 use Rattle.calculus.specs.Reduction.{Rule, ARDOK, ARDF, AWR, AOI, AOF, AOE}
 use Rattle.semantics.specs.Definitions.Basics.{All}
 use Rattle.semantics.specs.Definitions.Terms.{Expression, endT, retryT, rdT, wtT, orElseT, branches}
-use Rattle.semantics.specs.Definitions.Logs.{emptyLog, readable, firstReadable}
+use Rattle.semantics.specs.Definitions.Shortage.{Shortage, enough}
+use Rattle.semantics.specs.Definitions.Logs.{emptyLog, shortage, readable, firstReadable}
 use Rattle.semantics.specs.Definitions.Configuration.{Tree, leaf, fork}
 use Rattle.semantics.specs.Definitions.Moves.{evolves, inner, inLeft, atLeaf, reads, atFork}
 use Rattle.theorems.proofs.Measures.{branches-positive}
@@ -37,7 +38,7 @@ nodesFor s (orElseT n M N) δ k = k ∷ (nodesFor s M δ (suc k) ++ (k ∷ unles
 -- moves inside at a list of nodes, one after another
 pub data Driven (s : State) : Tree → List ℕ → Tree → Type 0 where
   arrived : {t : Tree} → Driven s t [] t
-  driven : {t u v : Tree} {k : ℕ} {ks : List ℕ} (r : Rule) → inner s t k ≡ evolves r u → Driven s u ks v → Driven s t (k ∷ ks) v
+  driven : {t u v : Tree} {w : Shortage} {k : ℕ} {ks : List ℕ} (r : Rule) → inner s t k ≡ evolves r w u → Driven s u ks v → Driven s t (k ∷ ks) v
 
 -- one list of nodes after another
 driven-append : {s : State} {t u v : Tree} {ks js : List ℕ} → Driven s t ks u → Driven s u js v → Driven s t (ks ++ js) v
@@ -50,15 +51,15 @@ beside [] t = t
 beside (r ∷ rs) t = beside rs (fork t r)
 
 -- a move in it
-beside-moves : (s : State) (rs : List Tree) (t u : Tree) (k : ℕ) (r : Rule) → inner s t k ≡ evolves r u →
-    inner s (beside rs t) (length rs + k) ≡ evolves r (beside rs u)
+beside-moves : {w : Shortage} (s : State) (rs : List Tree) (t u : Tree) (k : ℕ) (r : Rule) → inner s t k ≡ evolves r w u →
+    inner s (beside rs t) (length rs + k) ≡ evolves r w (beside rs u)
 unfolding beside inner inLeft
 beside-moves s [] t u k r e = let z : 0 + k ≡ k = omega arith in rw z e
 beside-moves s (x ∷ rs) t u k r e =
     let z : suc (length rs) + k ≡ length rs + suc k = omega arith in rw z (beside-moves s rs (fork t x) (fork u x) (suc k) r (rw e))
 
 -- at its root
-beside-root : (s : State) (rs : List Tree) (t u : Tree) (r : Rule) → inner s t 0 ≡ evolves r u → inner s (beside rs t) (length rs) ≡ evolves r (beside rs u)
+beside-root : {w : Shortage} (s : State) (rs : List Tree) (t u : Tree) (r : Rule) → inner s t 0 ≡ evolves r w u → inner s (beside rs t) (length rs) ≡ evolves r w (beside rs u)
 beside-root s rs t u r e = let z : length rs + 0 ≡ length rs = omega arith in rw z at (beside-moves s rs t u 0 r e)
 
 -- a tree settled with an outcome: an end leaf with this log, or a retry leaf
@@ -106,15 +107,15 @@ drives-orElse : (s : State) (n : ℕ) (M N : Expression) (δ : Log) (rs : List T
 unfolding beside inner atLeaf atFork orElseOf
 drives-orElse s n M N δ rs first second = go (firstFrom s M δ) refl (first .settled)
   where
-    begun : inner s (beside rs (leaf (orElseT n M N) δ)) (length rs) ≡ evolves AOI (beside rs (fork (leaf M δ) (leaf N δ)))
+    begun : inner s (beside rs (leaf (orElseT n M N) δ)) (length rs) ≡ evolves AOI enough (beside rs (fork (leaf M δ) (leaf N δ)))
     begun = beside-root s rs (leaf (orElseT n M N) δ) (fork (leaf M δ) (leaf N δ)) AOI refl
 
     ended : (m : ℕ) (π : Log) → first .result ≡ leaf (endT m) π →
-        inner s (beside rs (fork (first .result) (leaf N δ))) (length rs) ≡ evolves AOE (beside rs (leaf (endT m) π))
+        inner s (beside rs (fork (first .result) (leaf N δ))) (length rs) ≡ evolves AOE enough (beside rs (leaf (endT m) π))
     ended m π r = rw r (beside-root s rs (fork (leaf (endT m) π) (leaf N δ)) (leaf (endT m) π) AOE refl)
 
     retried : (m : ℕ) (π : Log) → first .result ≡ leaf (retryT m) π →
-        inner s (beside rs (fork (first .result) (leaf N δ))) (length rs) ≡ evolves AOF (beside rs (leaf N δ))
+        inner s (beside rs (fork (first .result) (leaf N δ))) (length rs) ≡ evolves AOF enough (beside rs (leaf N δ))
     retried m π r = rw r (beside-root s rs (fork (leaf (retryT m) π) (leaf N δ)) (leaf N δ) AOF refl)
 
     go : (o : Option Log) → firstFrom s M δ ≡ o → SettledAt o (first .result) → Drives s (orElseT n M N) δ rs
@@ -145,13 +146,13 @@ drives s (rdT n a M) δ h rs = go (readable s (δ ++ (rd a ∷ []))) refl (λ e.
         let d = next e in
         record {
           result = d .result;
-          made = rw (nodes-rd, e) (driven ARDOK (beside-root s rs (leaf (rdT n a M) δ) (leaf M (δ ++ (rd a ∷ []))) ARDOK (rw e)) (d .made));
+          made = rw (nodes-rd, e) (driven {w = enough} ARDOK (beside-root s rs (leaf (rdT n a M) δ) (leaf M (δ ++ (rd a ∷ []))) ARDOK (rw e)) (d .made));
           settled = rw first-from-rd (d .settled);
         }
     go false e next =
         record {
           result = leaf (retryT 255) δ;
-          made = rw (nodes-rd, e) (driven ARDF (beside-root s rs (leaf (rdT n a M) δ) (leaf (retryT 255) δ) ARDF (rw e)) arrived);
+          made = rw (nodes-rd, e) (driven {w = shortage s (δ ++ (rd a ∷ []))} ARDF (beside-root s rs (leaf (rdT n a M) δ) (leaf (retryT 255) δ) ARDF (rw e)) arrived);
           settled = rw (first-from-rd, first-from-unreadable s M (δ ++ (rd a ∷ [])) e) (255, δ, refl);
         }
 drives s (wtT n a M) δ h rs =

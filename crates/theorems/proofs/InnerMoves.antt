@@ -13,7 +13,8 @@ use Rattle.calculus.specs.Reduction.{Rule, ARDOK, ARDF, AWR, AOI, AOF, AOE}
 use Rattle.semantics.specs.Definitions.Run.{InBytes}
 use Rattle.semantics.specs.Definitions.Basics.{replaceAt}
 use Rattle.semantics.specs.Definitions.Terms.{Expression, endT, retryT, rdT, wtT, orElseT}
-use Rattle.semantics.specs.Definitions.Logs.{readable}
+use Rattle.semantics.specs.Definitions.Shortage.{Shortage, enough}
+use Rattle.semantics.specs.Definitions.Logs.{shortage, readable}
 use Rattle.semantics.specs.Definitions.Configuration.{Tree, leaf, fork, Component, transaction, Configuration, branchesOf}
 use Rattle.semantics.specs.Definitions.Stored.{ComponentOk}
 use Rattle.semantics.specs.Definitions.Moves.{inside, moved, moves, answerTo, Inner, evolves, noRule, outOfRange, inner, innerLocal, ruleNumber}
@@ -43,7 +44,7 @@ inner-lowers s = inner-induction (record {
 
 -- a node at which the tree moves, of at most as many as it has branches
 abbrev pub Mover : State → Tree → Type 0
-Mover s t = (k : ℕ) × (r : Rule) × (u : Tree) × (inner s t k ≡ evolves r u) × (k < branchesOf t)
+Mover s t = (k : ℕ) × (r : Rule) × (w : Shortage) × (u : Tree) × (inner s t k ≡ evolves r w u) × (k < branchesOf t)
 
 -- a read moves, by ARDOK or by ARDF
 read-mover : (s : State) (n : ℕ) (a : Name) (M : Expression) (δ : Log) → Mover s (leaf (rdT n a M) δ)
@@ -51,13 +52,13 @@ unfolding inner
 read-mover s n a M δ = go (readable s (δ ++ (rd a ∷ []))) refl
   where
     go : (b : Bool) → readable s (δ ++ (rd a ∷ [])) ≡ b → Mover s (leaf (rdT n a M) δ)
-    go true e = (0, ARDOK, leaf M (δ ++ (rd a ∷ [])), rw e, tree-branches-positive (leaf (rdT n a M) δ))
-    go false e = (0, ARDF, leaf (retryT 255) δ, rw e, tree-branches-positive (leaf (rdT n a M) δ))
+    go true e = (0, ARDOK, enough, leaf M (δ ++ (rd a ∷ [])), rw e, tree-branches-positive (leaf (rdT n a M) δ))
+    go false e = (0, ARDF, shortage s (δ ++ (rd a ∷ [])), leaf (retryT 255) δ, rw e, tree-branches-positive (leaf (rdT n a M) δ))
 
 -- a move in the left side of a fork is a move of the fork
 left-mover : (s : State) (l r : Tree) → Mover s l → Mover s (fork l r)
 unfolding inner branchesOf
-left-mover s l r (k, e, u, q, h) = let g = tree-branches-positive r in (suc k, e, fork u r, rw q, omega arith)
+left-mover s l r (k, e, w, u, q, h) = let g = tree-branches-positive r in (suc k, e, w, fork u r, rw q, omega arith)
 
 -- there is such a node in every tree that is not settled
 pub mover : (s : State) (t : Tree) → ¬ Settled t → Mover s t
@@ -65,10 +66,10 @@ unfolding inner
 mover s (leaf (endT n) δ) h = absurd (h tt)
 mover s (leaf (retryT n) δ) h = absurd (h tt)
 mover s (leaf (rdT n a M) δ) h = read-mover s n a M δ
-mover s (leaf (wtT n a M) δ) h = (0, AWR, leaf M (δ ++ (wt a ∷ [])), refl, tree-branches-positive (leaf (wtT n a M) δ))
-mover s (leaf (orElseT n M N) δ) h = (0, AOI, fork (leaf M δ) (leaf N δ), refl, tree-branches-positive (leaf (orElseT n M N) δ))
-mover s (fork (leaf (endT n) δ) r) h = (0, AOE, leaf (endT n) δ, refl, tree-branches-positive (fork (leaf (endT n) δ) r))
-mover s (fork (leaf (retryT n) δ) r) h = (0, AOF, r, refl, tree-branches-positive (fork (leaf (retryT n) δ) r))
+mover s (leaf (wtT n a M) δ) h = (0, AWR, enough, leaf M (δ ++ (wt a ∷ [])), refl, tree-branches-positive (leaf (wtT n a M) δ))
+mover s (leaf (orElseT n M N) δ) h = (0, AOI, enough, fork (leaf M δ) (leaf N δ), refl, tree-branches-positive (leaf (orElseT n M N) δ))
+mover s (fork (leaf (endT n) δ) r) h = (0, AOE, enough, leaf (endT n) δ, refl, tree-branches-positive (fork (leaf (endT n) δ) r))
+mover s (fork (leaf (retryT n) δ) r) h = (0, AOF, enough, r, refl, tree-branches-positive (fork (leaf (retryT n) δ) r))
 mover s (fork (leaf (rdT n a M) δ) r) h = left-mover s (leaf (rdT n a M) δ) r (mover s (leaf (rdT n a M) δ) (λ x. x))
 mover s (fork (leaf (wtT n a M) δ) r) h = left-mover s (leaf (wtT n a M) δ) r (mover s (leaf (wtT n a M) δ) (λ x. x))
 mover s (fork (leaf (orElseT n M N) δ) r) h = left-mover s (leaf (orElseT n M N) δ) r (mover s (leaf (orElseT n M N) δ) (λ x. x))
@@ -77,14 +78,14 @@ mover s (fork (fork l m) r) h = left-mover s (fork l m) r (mover s (fork l m) (�
 -- and a single end or retry leaf has none
 pub settled-has-no-rule : SettledHasNoRule
 unfolding SettledHasNoRule inner
-settled-has-no-rule s (leaf (endT n) δ) h zero r v e = let z : _≡_ {A = ℕ} 0 1 = cc in omega arith
-settled-has-no-rule s (leaf (endT n) δ) h (suc k) r v e = let z : _≡_ {A = ℕ} 0 1 = cc in omega arith
-settled-has-no-rule s (leaf (retryT n) δ) h zero r v e = let z : _≡_ {A = ℕ} 0 1 = cc in omega arith
-settled-has-no-rule s (leaf (retryT n) δ) h (suc k) r v e = let z : _≡_ {A = ℕ} 0 1 = cc in omega arith
-settled-has-no-rule s (leaf (rdT n a M) δ) h k r v e = h
-settled-has-no-rule s (leaf (wtT n a M) δ) h k r v e = h
-settled-has-no-rule s (leaf (orElseT n M N) δ) h k r v e = h
-settled-has-no-rule s (fork l m) h k r v e = h
+settled-has-no-rule s (leaf (endT n) δ) h zero r w v e = let z : _≡_ {A = ℕ} 0 1 = cc in omega arith
+settled-has-no-rule s (leaf (endT n) δ) h (suc k) r w v e = let z : _≡_ {A = ℕ} 0 1 = cc in omega arith
+settled-has-no-rule s (leaf (retryT n) δ) h zero r w v e = let z : _≡_ {A = ℕ} 0 1 = cc in omega arith
+settled-has-no-rule s (leaf (retryT n) δ) h (suc k) r w v e = let z : _≡_ {A = ℕ} 0 1 = cc in omega arith
+settled-has-no-rule s (leaf (rdT n a M) δ) h k r w v e = h
+settled-has-no-rule s (leaf (wtT n a M) δ) h k r w v e = h
+settled-has-no-rule s (leaf (orElseT n M N) δ) h k r w v e = h
+settled-has-no-rule s (fork l m) h k r w v e = h
 
 -- ---- the one end
 
@@ -151,11 +152,11 @@ one-outcome s u v w m h n k =
 -- some moves inside keep a tree true to its block
 moves-keep : (s : State) (M : Expression) {t u : Tree} → Moves s t u → Faithful s M t → Faithful s M u
 moves-keep s M unmoved f = f
-moves-keep s M (movedOn {t = t} {u = u} k r e m) f =
-    let one : StaysFaithful s M (evolves r u) = rw e at (faithful-move s M t k f) in moves-keep s M m one
+moves-keep s M (movedOn {t = t} {u = u} {w = w} k r e m) f =
+    let one : StaysFaithful s M (evolves r w u) = rw e at (faithful-move s M t k f) in moves-keep s M m one
 
 -- one move more, at the end
-pub moves-snoc : {s : State} {t u v : Tree} (k : ℕ) (r : Rule) → Moves s t u → inner s u k ≡ evolves r v → Moves s t v
+pub moves-snoc : {s : State} {t u v : Tree} {w : Shortage} (k : ℕ) (r : Rule) → Moves s t u → inner s u k ≡ evolves r w v → Moves s t v
 moves-snoc k r unmoved e = movedOn k r e unmoved
 moves-snoc k r (movedOn j x d m) e = movedOn j x d (moves-snoc k r m e)
 
@@ -185,37 +186,37 @@ inner-rule s = inner-induction (record {
 -- ---- on a configuration
 
 -- a move inside a transaction is a move of its nodes, which changes its nodes alone
-pub inside-moved : (σ : State) (p k n : ℕ) (M : Expression) (s : State) (u : Tree) (r : Rule) (σ′ : State) (cs : List Component) →
-    localMove σ (transaction n M s u) (inside p k) ≡ moves r σ′ cs →
-    (v : Tree) × (inner s u k ≡ evolves r v) × (σ ≡ σ′) × (transaction n M s v ∷ [] ≡ cs)
+pub inside-moved : (σ : State) (p k n : ℕ) (M : Expression) (s : State) (u : Tree) (r : Rule) (w : Shortage) (σ′ : State) (cs : List Component) →
+    localMove σ (transaction n M s u) (inside p k) ≡ moves r w σ′ cs →
+    (v : Tree) × (inner s u k ≡ evolves r w v) × (σ ≡ σ′) × (transaction n M s v ∷ [] ≡ cs)
 unfolding localMove innerLocal
-inside-moved σ p k n M s u r σ′ cs q = go (inner s u k) refl q
+inside-moved σ p k n M s u r w σ′ cs q = go (inner s u k) refl q
   where
-    go : (i : Inner) → inner s u k ≡ i → innerLocal σ n M s i ≡ moves r σ′ cs →
-        (v : Tree) × (inner s u k ≡ evolves r v) × (σ ≡ σ′) × (transaction n M s v ∷ [] ≡ cs)
-    go (evolves r′ v) i q = let z : r′ ≡ r = cc in (v, rw (← z) i, cc, cc)
+    go : (i : Inner) → inner s u k ≡ i → innerLocal σ n M s i ≡ moves r w σ′ cs →
+        (v : Tree) × (inner s u k ≡ evolves r w v) × (σ ≡ σ′) × (transaction n M s v ∷ [] ≡ cs)
+    go (evolves r′ w′ v) i q = let z : r′ ≡ r = cc in let y : w′ ≡ w = cc in (v, i ∙ rw (z, y), cc, cc)
     go noRule i q = let z : _≡_ {A = ℕ} 0 1 = cc in absurd (omega arith)
     go (outOfRange j) i q = let z : _≡_ {A = ℕ} 0 1 = cc in absurd (omega arith)
 
 -- an accepted move inside the attempt at p is a move of its nodes, and changes nothing else
 pub inside-alone : (h : Configuration) (p k n : ℕ) (M : Expression) (s : State) (u : Tree) →
     getElem? (h .components) p ≡ some (transaction n M s u) → (r : Rule) (g : Configuration) → answerTo h (inside p k) ≡ moved r g →
-    (v : Tree) × (inner s u k ≡ evolves r v) × (g .counts ≡ h .counts) × (g .components ≡ replaceAt p (transaction n M s v ∷ []) (h .components))
+    (w : Shortage) × (v : Tree) × (inner s u k ≡ evolves r w v) × (g .counts ≡ h .counts) × (g .components ≡ replaceAt p (transaction n M s v ∷ []) (h .components))
 unfolding positionOf
 inside-alone h p k n M s u e r g q =
     let m = accepted-inverts h (inside p k) r g q in
     let same : m .component ≡ transaction n M s u = cc (m .found) in
-    let own : localMove (h .counts) (transaction n M s u) (inside p k) ≡ moves r (g .counts) (m .laid) = rw (← same) (m .local) in
-    let i = inside-moved (h .counts) p k n M s u r (g .counts) (m .laid) own in
-    (i .0, i .1, sym (i .2), rw (i .3) (m .placed))
+    let own : localMove (h .counts) (transaction n M s u) (inside p k) ≡ moves r (m .lacks) (g .counts) (m .laid) = rw (← same) (m .local) in
+    let i = inside-moved (h .counts) p k n M s u r (m .lacks) (g .counts) (m .laid) own in
+    (m .lacks, i .0, i .1, sym (i .2), rw (i .3) (m .placed))
 
 -- a move inside the attempt at p lowers its measure
 pub moves-lower-weight : MovesLowerWeight
 unfolding MovesLowerWeight
 moves-lower-weight bs t a h w p k n M s u e r g q =
     let i = inside-alone h p k n M s u e r g q in
-    let low : weight (i .0) < weight u = rw (i .1) at (inner-lowers s u k) in
-    (i .0, i .1, low, λ j. record { counts = i .2 j; components = i .3 j })
+    let low : weight (i .1) < weight u = rw (i .2) at (inner-lowers s u k) in
+    (i .0, i .1, i .2, low, λ j. record { counts = i .3 j; components = i .4 j })
 
 -- an attempt that is not settled yet can move at one of its nodes
 pub moves-go-on : MovesGoOn
@@ -223,7 +224,7 @@ unfolding MovesGoOn InBytes answerTo ComponentOk
 moves-go-on bs t a h w p n M s u e live = go (mover s u live)
   where
     go : Mover s u → (k : ℕ) × (r : Rule) × (g : Configuration) × InBytes (inside p k) × (answerTo h (inside p k) ≡ moved r g)
-    go (k, r, v, q, b) =
+    go (k, r, lacks, v, q, b) =
         let below = found-below (h .components) p (transaction n M s u) e in
         let few = w .few in
         let ok = all-at (ComponentOk (t .terms)) (h .components) p (transaction n M s u) (w .each) e in

@@ -1,6 +1,7 @@
 -- The proofs of the claims in semantics/specs, and the laws they rest on.
 pub mod Lists
 pub mod Reading
+pub mod Shortages
 pub mod Readable
 pub mod Measures
 pub mod GoodTable
@@ -18,6 +19,7 @@ pub mod Limits
 pub mod Outcome
 pub mod InnerMoves
 pub mod StatedMoves
+pub mod ToldShort
 pub mod Simulation
 pub mod Notes
 pub mod PathClause

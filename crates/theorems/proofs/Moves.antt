@@ -3,7 +3,7 @@
 -- Assumes nothing.
 use Prim.Native.Nat.{ℕ, zero, suc, _+_, _≤_}
 use native.Mathlib.Omega.{arith}
-use mathlib.Core.Path.{_≡_, refl, _∙_}
+use mathlib.Core.Path.{_≡_, refl, ap, _∙_}
 use mathlib.Core.Bool.{Bool, true, false}
 use mathlib.Core.Option.{Option, none, some}
 use mathlib.Core.List.{List, [], _∷_, _++_}
@@ -14,9 +14,10 @@ use Rattle.calculus.specs.Syntax.{Name, rd, wt, Log, State}
 use Rattle.calculus.specs.Reduction.{Rule, ARDOK, ARDF, AWR, AOI, AOF, AOE}
 use Rattle.semantics.specs.Definitions.Basics.{replaceAt}
 use Rattle.semantics.specs.Definitions.Terms.{Expression, endT, retryT, rdT, wtT, orElseT}
+use Rattle.semantics.specs.Definitions.Shortage.{Shortage}
 use Rattle.semantics.specs.Definitions.Logs.{readable}
 use Rattle.semantics.specs.Definitions.Configuration.{Tree, leaf, fork, Component, Configuration, nodes}
-use Rattle.semantics.specs.Definitions.Moves.{Entry, act, inside, LocalAnswer, moves, blocked, acts, Inner, evolves, noRule, outOfRange, atLeaf, atFork, inRight, inLeft, inner, actsInside, Answer, moved, refused, applyAt, atPosition, answerTo}
+use Rattle.semantics.specs.Definitions.Moves.{Entry, act, inside, LocalAnswer, moves, blocked, acts, Inner, evolves, noRule, outOfRange, atLeaf, atFork, inRight, inLeft, inner, actsInside, Response, does, refuses, applyAt, atPosition, respondTo, Answer, moved, refused, answerOf, answerTo}
 use Rattle.semantics.specs.Definitions.Run.{ScheduleItem, entry, malformed, entries, Counters, counted, RunAnswer, continueRun, runFrom, Step, continueSteps, steps}
 use Rattle.theorems.proofs.Reading.{by-cases}
 
@@ -45,67 +46,89 @@ pub record Accepted (h : Configuration) (e : Entry) (r : Rule) (g : Configuratio
   pub component : Component
   pub found : getElem? (h .components) (positionOf e) ≡ some component
   pub laid : List Component
-  pub local : localMove (h .counts) component e ≡ moves r (g .counts) laid
+  pub lacks : Shortage
+  pub local : localMove (h .counts) component e ≡ moves r lacks (g .counts) laid
   pub placed : g .components ≡ replaceAt (positionOf e) laid (h .components)
   pub fits : length (g .components) ≤ 64
 
 -- a choice as a local move at a position
 pub choose-at : (h : Configuration) (e : Entry) →
-    answerTo h e ≡ atPosition (getElem? (h .components) (positionOf e)) (λ c. applyAt (positionOf e) (localMove (h .counts) c e) h)
-unfolding answerTo positionOf localMove
+    respondTo h e ≡ atPosition (getElem? (h .components) (positionOf e)) (λ c. applyAt (positionOf e) (localMove (h .counts) c e) h)
+unfolding respondTo positionOf localMove
 choose-at h (act p) = refl
 choose-at h (inside p k) = refl
 
 -- where a component is there
 pub chosen-at : (h : Configuration) (e : Entry) (c : Component) → getElem? (h .components) (positionOf e) ≡ some c →
-    answerTo h e ≡ applyAt (positionOf e) (localMove (h .counts) c e) h
+    respondTo h e ≡ applyAt (positionOf e) (localMove (h .counts) c e) h
 unfolding atPosition
 chosen-at h e c f = choose-at h e ∙ rw f
 
 -- a local move that is accepted at a position
-settled-inverts : (p : ℕ) (l : LocalAnswer) (h : Configuration) (r : Rule) (g : Configuration) → applyAt p l h ≡ moved r g →
-    (cs : List Component) × (l ≡ moves r (g .counts) cs) × (g .components ≡ replaceAt p cs (h .components)) × (length (g .components) ≤ 64)
+settled-inverts : (p : ℕ) (l : LocalAnswer) (h : Configuration) (r : Rule) (w : Shortage) (g : Configuration) → applyAt p l h ≡ does r w g →
+    (cs : List Component) × (l ≡ moves r w (g .counts) cs) × (g .components ≡ replaceAt p cs (h .components)) × (length (g .components) ≤ 64)
 unfolding applyAt
-settled-inverts p (blocked n) h r g e = absurd (let z : _≡_ {A = ℕ} 0 1 = cc in omega arith)
-settled-inverts p (moves q σ cs) h r g e = go (leb (length (replaceAt p cs (h .components))) 64) refl
+settled-inverts p (blocked n) h r w g e = absurd (let z : _≡_ {A = ℕ} 0 1 = cc in omega arith)
+settled-inverts p (moves q v σ cs) h r w g e = go (leb (length (replaceAt p cs (h .components))) 64) refl
   where
     laidDown : Configuration
     laidDown = record { counts = σ; components = replaceAt p cs (h .components) }
 
-    left : q ≡ r → laidDown ≡ g → length (replaceAt p cs (h .components)) ≤ 64 →
-        (ds : List Component) × (moves q σ cs ≡ moves r (g .counts) ds) × (g .components ≡ replaceAt p ds (h .components)) × (length (g .components) ≤ 64)
-    left same is h = rw (same, ← is) (cs, refl, refl, h)
+    left : q ≡ r → v ≡ w → laidDown ≡ g → length (replaceAt p cs (h .components)) ≤ 64 →
+        (ds : List Component) × (moves q v σ cs ≡ moves r w (g .counts) ds) × (g .components ≡ replaceAt p ds (h .components)) × (length (g .components) ≤ 64)
+    left same lacks is h = rw (same, lacks, ← is) (cs, refl, refl, h)
 
     go : (b : Bool) → leb (length (replaceAt p cs (h .components))) 64 ≡ b →
-        (ds : List Component) × (moves q σ cs ≡ moves r (g .counts) ds) × (g .components ≡ replaceAt p ds (h .components)) × (length (g .components) ≤ 64)
-    go true t = let f : moved q laidDown ≡ moved r g = rw t at e in left (cc) (cc) (leb-true _ _ t)
-    go false t = let f : refused 19 ≡ moved r g = rw t at e in absurd (let z : _≡_ {A = ℕ} 0 1 = cc in omega arith)
+        (ds : List Component) × (moves q v σ cs ≡ moves r w (g .counts) ds) × (g .components ≡ replaceAt p ds (h .components)) × (length (g .components) ≤ 64)
+    go true t = let f : does q v laidDown ≡ does r w g = rw t at e in left (cc) (cc) (cc) (leb-true _ _ t)
+    go false t = let f : refuses 19 ≡ does r w g = rw t at e in absurd (let z : _≡_ {A = ℕ} 0 1 = cc in omega arith)
 
--- every accepted choice comes apart so
-pub accepted-inverts : (h : Configuration) (e : Entry) (r : Rule) (g : Configuration) → answerTo h e ≡ moved r g → Accepted h e r g
+-- every choice that moves comes apart so, with what it tells short
+pub response-inverts : (h : Configuration) (e : Entry) (r : Rule) (w : Shortage) (g : Configuration) → respondTo h e ≡ does r w g →
+    (a : Accepted h e r g) × (a .lacks ≡ w)
 unfolding atPosition
-accepted-inverts h e r g q = go (getElem? (h .components) (positionOf e)) refl
+response-inverts h e r w g q = go (getElem? (h .components) (positionOf e)) refl
   where
-    go : (o : Option Component) → getElem? (h .components) (positionOf e) ≡ o → Accepted h e r g
-    go none f = let z : refused 14 ≡ moved r g = rw (choose-at h e, f) at q in absurd (let o : _≡_ {A = ℕ} 0 1 = cc in omega arith)
+    go : (o : Option Component) → getElem? (h .components) (positionOf e) ≡ o → (a : Accepted h e r g) × (a .lacks ≡ w)
+    go none f = let z : refuses 14 ≡ does r w g = rw (choose-at h e, f) at q in absurd (let o : _≡_ {A = ℕ} 0 1 = cc in omega arith)
     go (some c) f =
-        let s : applyAt (positionOf e) (localMove (h .counts) c e) h ≡ moved r g = rw (choose-at h e, f) at q in
-        let i = settled-inverts (positionOf e) (localMove (h .counts) c e) h r g s in
-        record { component = c; found = f; laid = i .0; local = i .1; placed = i .2; fits = i .3 }
+        let s : applyAt (positionOf e) (localMove (h .counts) c e) h ≡ does r w g = rw (choose-at h e, f) at q in
+        let i = settled-inverts (positionOf e) (localMove (h .counts) c e) h r w g s in
+        (record { component = c; found = f; laid = i .0; lacks = w; local = i .1; placed = i .2; fits = i .3 }, refl)
+
+-- an answer that moves is a response that does
+pub answer-response : (h : Configuration) (e : Entry) (r : Rule) (g : Configuration) → answerTo h e ≡ moved r g →
+    (w : Shortage) × (respondTo h e ≡ does r w g)
+unfolding answerTo answerOf
+answer-response h e r g q = go (respondTo h e) refl q
+  where
+    go : (x : Response) → respondTo h e ≡ x → answerOf x ≡ moved r g → (w : Shortage) × (respondTo h e ≡ does r w g)
+    go (does s w f) i q = let same : s ≡ r = cc in let is : f ≡ g = cc in (w, i ∙ rw (same, is))
+    go (refuses n) i q = absurd (let z : _≡_ {A = ℕ} 0 1 = cc in omega arith)
+
+pub accepted-inverts : (h : Configuration) (e : Entry) (r : Rule) (g : Configuration) → answerTo h e ≡ moved r g → Accepted h e r g
+accepted-inverts h e r g q = let (w, i) = answer-response h e r g q in response-inverts h e r w g i .0
 
 -- and where a component's own move leaves no more than 64 components, the choice is accepted
-pub accepted-made : (h : Configuration) (e : Entry) (r : Rule) (σ : State) (c : Component) (cs : List Component) →
-    getElem? (h .components) (positionOf e) ≡ some c → localMove (h .counts) c e ≡ moves r σ cs →
+pub response-made : (h : Configuration) (e : Entry) (r : Rule) {w : Shortage} (σ : State) (c : Component) (cs : List Component) →
+    getElem? (h .components) (positionOf e) ≡ some c → localMove (h .counts) c e ≡ moves r w σ cs →
+    length (replaceAt (positionOf e) cs (h .components)) ≤ 64 →
+    respondTo h e ≡ does r w (record { counts = σ; components = replaceAt (positionOf e) cs (h .components) })
+unfolding applyAt
+response-made h e r σ c cs f l k = chosen-at h e c f ∙ rw (l, le-leb _ 64 k)
+
+pub accepted-made : (h : Configuration) (e : Entry) (r : Rule) {w : Shortage} (σ : State) (c : Component) (cs : List Component) →
+    getElem? (h .components) (positionOf e) ≡ some c → localMove (h .counts) c e ≡ moves r w σ cs →
     length (replaceAt (positionOf e) cs (h .components)) ≤ 64 →
     answerTo h e ≡ moved r (record { counts = σ; components = replaceAt (positionOf e) cs (h .components) })
-unfolding applyAt
-accepted-made h e r σ c cs f l k = chosen-at h e c f ∙ rw (l, le-leb _ 64 k)
+unfolding answerTo answerOf
+accepted-made h e r σ c cs f l k = ap answerOf (response-made h e r σ c cs f l k)
 
 -- ---- a move inside a transaction
 
 -- a property of the tree, the rule and the tree afterwards, of an answer that is a move
 abbrev pub Moving : (Tree → Rule → Tree → Type 0) → Tree → Inner → Type 0
-Moving Q t (evolves r u) = Q t r u
+Moving Q t (evolves r w u) = Q t r u
 Moving Q t noRule = Unit {0}
 Moving Q t (outOfRange k) = Unit {0}
 
@@ -143,14 +166,14 @@ module _ {s : State} {Q : Tree → Rule → Tree → Type 0} (each : EachRule s 
   -- in a fork's right side
   right-moving : (l r : Tree) (i : Inner) → Moving Q r i → Moving Q (fork l r) (inRight l i)
   unfolding inRight
-  right-moving l r (evolves e u) h = each .aor l r u e h
+  right-moving l r (evolves e w u) h = each .aor l r u e h
   right-moving l r noRule h = tt
   right-moving l r (outOfRange k) h = tt
 
   -- in its left side, or past it
   left-moving : (l r : Tree) (i : Inner) (next : ℕ → Inner) → Moving Q l i → ((j : ℕ) → Moving Q (fork l r) (next j)) → Moving Q (fork l r) (inLeft r i next)
   unfolding inLeft
-  left-moving l r (evolves e u) next h f = each .aol l r u e h
+  left-moving l r (evolves e w u) next h f = each .aol l r u e h
   left-moving l r noRule next h f = tt
   left-moving l r (outOfRange j) next h f = f j
 

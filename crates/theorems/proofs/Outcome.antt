@@ -176,7 +176,7 @@ faithful-start s M = record { comes = outcome-start s M; logs = readable-start s
 
 -- of a move inside a tree that is true to its block M
 abbrev pub StaysFaithful : State → Expression → Inner → Type 0
-StaysFaithful s M (evolves r u) = Faithful s M u
+StaysFaithful s M (evolves r w u) = Faithful s M u
 StaysFaithful s M noRule = Unit {0}
 StaysFaithful s M (outOfRange k) = Unit {0}
 
@@ -185,7 +185,7 @@ pub faithful-move : (s : State) (M : Expression) (t : Tree) (k : ℕ) → Faithf
 faithful-move s M t k f = go (inner s t k) (inner-keeps s t k)
   where
     go : (i : Inner) → Moving (Keeps s) t i → StaysFaithful s M i
-    go (evolves r u) h = let k = h (f .logs) in record { comes = k .0 ∙ f .comes; logs = k .1 }
+    go (evolves r w u) h = let k = h (f .logs) in record { comes = k .0 ∙ f .comes; logs = k .1 }
     go noRule h = tt
     go (outOfRange j) h = tt
 

@@ -19,6 +19,7 @@ use Rattle.calculus.specs.Reduction.{Rule, OUT, IN, REP, ATST, ATRE, ATFAIL, AT
 use Rattle.semantics.specs.Definitions.Basics.{All, replaceAt}
 use Rattle.semantics.specs.Definitions.Terms.{Expression, endT, retryT, rdT, wtT, orElseT, Program}
 use Rattle.semantics.specs.Definitions.Table.{Table}
+use Rattle.semantics.specs.Definitions.Shortage.{Shortage}
 use Rattle.semantics.specs.Definitions.Logs.{emptyLog, readable, firstReadable, addToken, takeToken}
 use Rattle.semantics.specs.Definitions.Configuration.{Idle, taking, repeating, block, output, Tree, leaf, fork, Component, idle, transaction, Configuration, opens, opening}
 use Rattle.semantics.specs.Definitions.Moves.{Entry, act, inside, moved, answerTo, LocalAnswer, moves, blocked, takes, puts, commits, ends, acts, actsInside, Inner, evolves, noRule, outOfRange, inner, innerLocal, ruleNumber}
@@ -73,13 +74,13 @@ pub data Stepped (σ : State) (j : ℕ) : Live → Entry → Rule → State → 
       Stepped σ j (tries i n M s (leaf (endT e) δ)) (act p) ATFAIL σ (rests (block n M) ∷ [])
   committed : (p i n : ℕ) (M : Expression) (s : State) (e : ℕ) (δ : Log) → readable σ δ ≡ true →
       Stepped σ j (tries i n M s (leaf (endT e) δ)) (act p) (ATOK δ) (without σ (RD δ)) (map rests (map output (WT δ)))
-  evolved : (p k i n : ℕ) (M : Expression) (s : State) (u v : Tree) (r : Rule) → inner s u k ≡ evolves r v →
+  evolved : {w : Shortage} (p k i n : ℕ) (M : Expression) (s : State) (u v : Tree) (r : Rule) → inner s u k ≡ evolves r w v →
       8 ≤ ruleNumber r →
       Stepped σ j (tries i n M s u) (inside p k) r σ (tries i n M s v ∷ [])
 
 -- the same of a component's own answer, where it moves
 abbrev Steps : State → ℕ → Live → Entry → LocalAnswer → Type 0
-Steps σ j z e (moves r σ′ cs) = (laid : List Live) × (cs ≡ map component laid) × Stepped σ j z e r σ′ laid
+Steps σ j z e (moves r w σ′ cs) = (laid : List Live) × (cs ≡ map component laid) × Stepped σ j z e r σ′ laid
 Steps σ j z e (blocked n) = Unit {0}
 
 -- idle components, with nothing to number
@@ -108,7 +109,7 @@ inside-steps σ j p k i n M s u = go (inner s u k) refl (inner-rule s u k)
   where
     go : (x : Inner) → inner s u k ≡ x → Moving (λ t r u. 8 ≤ ruleNumber r) u x →
         Steps σ j (tries i n M s u) (inside p k) (innerLocal σ n M s x)
-    go (evolves r v) e late = (tries i n M s v ∷ [], refl, evolved p k i n M s u v r e late)
+    go (evolves r w v) e late = (tries i n M s v ∷ [], refl, evolved p k i n M s u v r e late)
     go noRule e late = tt
     go (outOfRange m) e late = tt
 
@@ -212,7 +213,8 @@ pub record PacedStep (h : Configuration) (a : Numbered) (zs : List Live) (e : En
   pub station : getElem? (a .run .stations) (positionOf e) ≡ some (noted one)
   pub laid : List Live
   pub stepped : Stepped (h .counts) (a .next) one e r (g .counts) laid
-  pub local : localMove (h .counts) (component one) e ≡ moves r (g .counts) (map component laid)
+  pub lacks : Shortage
+  pub local : localMove (h .counts) (component one) e ≡ moves r lacks (g .counts) (map component laid)
   pub fits : length (replaceAt (positionOf e) laid zs) ≤ 64
   pub paced : Paced g (numberedStep a e) (replaceAt (positionOf e) laid zs)
   pub counters : (numberedStep a e) .run .counters ≡ counted r (a .run .counters)
@@ -233,14 +235,14 @@ stepped-evolved (committed p i n M s x δ now) v =
 stepped-evolved (evolved p k i n M s u w x q late) v = (moves-snoc k x v q, tt)
 
 -- from the component that changes and what stands in its place
-paced-by : (h : Configuration) (a : Numbered) (zs : List Live) (e : Entry) (r : Rule) (g : Configuration) →
+paced-by : {w : Shortage} (h : Configuration) (a : Numbered) (zs : List Live) (e : Entry) (r : Rule) (g : Configuration) →
     Paced h a zs →
     (z : Live) → getElem? zs (positionOf e) ≡ some z → (laid : List Live) →
     Stepped (h .counts) (a .next) z e r (g .counts) laid →
-    localMove (h .counts) (component z) e ≡ moves r (g .counts) (map component laid) →
+    localMove (h .counts) (component z) e ≡ moves r w (g .counts) (map component laid) →
     g .components ≡ replaceAt (positionOf e) (map component laid) (h .components) → length (g .components) ≤ 64 →
     PacedStep h a zs e r g
-paced-by h a zs e r g pace z found laid s own placed fits =
+paced-by {w} h a zs e r g pace z found laid s own placed fits =
     let p : ℕ = positionOf e in
     let come = all-at Evolved zs p z (pace .each) found in
     let there : getElem? (a .run .stations) p ≡ some (noted z) = rw (pace .stations) (found-map noted zs p z found) in
@@ -253,6 +255,7 @@ paced-by h a zs e r g pace z found laid s own placed fits =
       station = there;
       laid = laid;
       stepped = s;
+      lacks = w;
       local = own;
       fits = rw (after, length-map) at fits;
       paced =
@@ -272,10 +275,10 @@ pub paced-step : (h : Configuration) (a : Numbered) (zs : List Live) (e : Entry)
 paced-step h a zs e r g pace q =
     let m = accepted-inverts h e r g q in
     let at = found-back component zs (positionOf e) (m .component) (rw (← (pace .components)) (m .found)) in
-    let own : localMove (h .counts) (component (at .0)) e ≡ moves r (g .counts) (m .laid) = rw (at .2) (m .local) in
-    let s : Steps (h .counts) (a .next) (at .0) e (moves r (g .counts) (m .laid)) =
+    let own : localMove (h .counts) (component (at .0)) e ≡ moves r (m .lacks) (g .counts) (m .laid) = rw (at .2) (m .local) in
+    let s : Steps (h .counts) (a .next) (at .0) e (moves r (m .lacks) (g .counts) (m .laid)) =
     rw own at (local-steps (h .counts) (a .next) (at .0) e) in
-    paced-by h a zs e r g pace (at .0) (at .1) (s .0) (s .2) (own ∙ ap (moves r (g .counts)) (s .1))
+    paced-by h a zs e r g pace (at .0) (at .1) (s .0) (s .2) (own ∙ ap (moves r (m .lacks) (g .counts)) (s .1))
     (m .placed ∙ ap (λ cs. replaceAt (positionOf e) cs (h .components)) (s .1)) (m .fits)
 
 -- at the opening no attempt is open

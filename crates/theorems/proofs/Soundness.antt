@@ -86,7 +86,7 @@ nodes-ongoing s (fork l r) = let h = nodes-ongoing s l in let g = nodes-ongoing 
 
 -- at node k it is one step of the ongoing expression at that node; what is past the tree is counted on behind it
 abbrev InnerSound : State → Tree → ℕ → Inner → Type 0
-InnerSound s t k (evolves r u) = EvolvesAt k r (ongoingOf s t) (ongoingOf s u)
+InnerSound s t k (evolves r w u) = EvolvesAt k r (ongoingOf s t) (ongoingOf s u)
 InnerSound s t k noRule = Unit {0}
 InnerSound s t k (outOfRange j) = k ≡ nodes t + j
 
@@ -116,7 +116,7 @@ atFork-sound s (fork l m) r = tt
 inRight-sound : (s : State) (l r : Tree) (k : ℕ) (x : Inner) → InnerSound s r k x →
     InnerSound s (fork l r) (suc (nodes l + k)) (inRight l x)
 unfolding inRight ongoingOf nodes nodeOf
-inRight-sound s l r k (evolves e u) h = (aor (h .0), let n = nodes-ongoing s l in let m = h .1 in omega arith)
+inRight-sound s l r k (evolves e w u) h = (aor (h .0), let n = nodes-ongoing s l in let m = h .1 in omega arith)
 inRight-sound s l r k noRule h = tt
 inRight-sound s l r k (outOfRange j) h = omega arith
 
@@ -124,7 +124,7 @@ inRight-sound s l r k (outOfRange j) h = omega arith
 inLeft-sound : (s : State) (l r : Tree) (k : ℕ) (x : Inner) (right : ℕ → Inner) → InnerSound s l k x →
     ((j : ℕ) → InnerSound s (fork l r) (suc (nodes l + j)) (right j)) → InnerSound s (fork l r) (suc k) (inLeft r x right)
 unfolding inLeft ongoingOf nodeOf
-inLeft-sound s l r k (evolves e u) right h f = (aol (h .0), ap suc (h .1))
+inLeft-sound s l r k (evolves e w u) right h f = (aol (h .0), ap suc (h .1))
 inLeft-sound s l r k noRule right h f = tt
 inLeft-sound s l r k (outOfRange j) right h f = rw h (f j)
 
@@ -143,7 +143,7 @@ inner-sound s (fork l r) (suc k) =
 -- kind 1: by one of the rules 1 to 7 it is one reduction of the process that the component stands for, to one that
 -- stands as what is laid down
 abbrev ActSound : State → Component → LocalAnswer → Type 0
-ActSound σ c (moves r τ cs) =
+ActSound σ c (moves r w τ cs) =
     (P : Process) × Reduces LogOrder (by r) (componentProcess c) σ P τ × (ruleNumber r ≤ 7) × Denotes P cs
 ActSound σ c (blocked n) = Unit {0}
 
@@ -182,7 +182,7 @@ acts-sound ts σ (transaction n M s t) h k = ends-sound σ n M s t
 
 -- kind 2: it is one step, at the node, of a transaction's ongoing expression, and leaves the counts
 abbrev InsideSound : State → Component → ℕ → LocalAnswer → Type 0
-InsideSound σ c k (moves r τ cs) =
+InsideSound σ c k (moves r w τ cs) =
     (n : ℕ) × (M : Expression) × (s : State) × (t : Tree) × (u : Tree) × (c ≡ transaction n M s t) ×
     EvolvesAt k r (ongoingOf s t) (ongoingOf s u) × (cs ≡ transaction n M s u ∷ []) × (τ ≡ σ)
 InsideSound σ c k (blocked n) = Unit {0}
@@ -190,7 +190,7 @@ InsideSound σ c k (blocked n) = Unit {0}
 innerLocal-sound : (σ : State) (n : ℕ) (M : Expression) (s : State) (t : Tree) (k : ℕ) (x : Inner) → InnerSound s t k x →
     InsideSound σ (transaction n M s t) k (innerLocal σ n M s x)
 unfolding innerLocal
-innerLocal-sound σ n M s t k (evolves r u) h = (n, M, s, t, u, refl, h, refl, refl)
+innerLocal-sound σ n M s t k (evolves r w u) h = (n, M, s, t, u, refl, h, refl, refl)
 innerLocal-sound σ n M s t k noRule h = tt
 innerLocal-sound σ n M s t k (outOfRange j) h = tt
 
@@ -237,12 +237,12 @@ unfolding AtChosen positionOf localMove
 located-step {ts} {h} (act p) {r} {g} ok q =
     let m = accepted-inverts h (act p) r g q in
     let c : ComponentOk ts (m .component) = all-at (ComponentOk ts) (h .components) p (m .component) (ok .each) (m .found) in
-    let l : ActSound (h .counts) (m .component) (moves r (g .counts) (m .laid)) =
+    let l : ActSound (h .counts) (m .component) (moves r (m .lacks) (g .counts) (m .laid)) =
     rw (m .local) at (acts-sound ts (h .counts) (m .component) (ok .channelCounts .0) c) in
     (m .component, l .0, m .laid, m .found, l .1, l .2, l .3, m .placed)
 located-step {ts} {h} (inside p k) {r} {g} ok q =
     let m = accepted-inverts h (inside p k) r g q in
-    let l : InsideSound (h .counts) (m .component) k (moves r (g .counts) (m .laid)) =
+    let l : InsideSound (h .counts) (m .component) k (moves r (m .lacks) (g .counts) (m .laid)) =
     rw (m .local) at (actsInside-sound (h .counts) (m .component) k) in
     let (n, M, s, t, u, shape, step, laid, same) = l in
     (n, M, s, t, u, rw (← shape) (m .found), step, rw (← laid) (m .placed), same)

@@ -14,14 +14,15 @@ use Rattle.calculus.specs.Log.{RD, WT}
 use Rattle.calculus.specs.Reduction.{Rule, OUT, IN, REP, ATST, ATRE, ATFAIL, ATOK, ARDOK, ARDF}
 use Rattle.semantics.specs.Definitions.Basics.{replaceAt}
 use Rattle.semantics.specs.Definitions.Terms.{Expression, endT, retryT, rdT, wtT, orElseT, Program, nilT, putT, takeT, repeatT, parT, atomT}
-use Rattle.semantics.specs.Definitions.Logs.{emptyLog, readable, addToken, takeToken}
+use Rattle.semantics.specs.Definitions.Shortage.{Shortage, enough}
+use Rattle.semantics.specs.Definitions.Logs.{emptyLog, shortage, readable, addToken, takeToken}
 use Rattle.semantics.specs.Definitions.Configuration.{Idle, taking, repeating, block, output, Tree, leaf, fork, Component, idle, transaction, Configuration, opens, nodes}
-use Rattle.semantics.specs.Definitions.Moves.{Entry, act, inside, LocalAnswer, moves, blocked, takes, puts, commits, ends, acts, Inner, evolves, noRule, outOfRange, reads, atLeaf, atFork, inLeft, inRight, inner, innerLocal, actsInside, moved, answerTo, ruleNumber}
+use Rattle.semantics.specs.Definitions.Moves.{Entry, act, inside, LocalAnswer, moves, blocked, takes, puts, commits, ends, acts, Inner, evolves, noRule, outOfRange, reads, atLeaf, atFork, inLeft, inRight, inner, innerLocal, actsInside, does, respondTo, ruleNumber}
 use Rattle.semantics.specs.Checks.StatedMoves.{OpensInto, nil-opens, put-opens, take-opens, repeat-opens, par-opens, atom-opens, GivesWay, at-first, further, NodeBecomes, at-root, at-left, at-right, NodeMoves, ardok8, ardf9, awr10, aoi11, aof12, aoe13, MoveAsStated, out1, in2, rep3, atst4, atre5, atfail6, atok7, inside8-13, OpensAsStated, MovesAsStated}
 use Rattle.theorems.proofs.Lists.{none-found, found-below, length-replaceAt}
-use Rattle.theorems.proofs.Readable.{readable-included, unreadable-not-included, included-readable, not-included-unreadable}
+use Rattle.theorems.proofs.Readable.{readable-included, included-readable, unreadable-short, short-unreadable}
 use Rattle.theorems.proofs.Reading.{by-cases}
-use Rattle.theorems.proofs.Moves.{positionOf, localMove, out-of-range, accepted-inverts, accepted-made}
+use Rattle.theorems.proofs.Moves.{positionOf, localMove, out-of-range, response-inverts, response-made}
 
 -- ---- what a process opens into
 
@@ -60,7 +61,7 @@ gives-way (d ∷ ds) zero c new e = let same : d ≡ c = cc in rw same at-first
 gives-way (d ∷ ds) (suc p) c new e = further (gives-way ds p c new e)
 
 -- and one that gives way is there, with the others in its place
-way-found : {p : ℕ} {c : Component} {new cs ds : List Component} → GivesWay p c new cs ds → getElem? cs p ≡ some c
+pub way-found : {p : ℕ} {c : Component} {new cs ds : List Component} → GivesWay p c new cs ds → getElem? cs p ≡ some c
 way-found at-first = refl
 way-found (further w) = way-found w
 
@@ -73,8 +74,8 @@ way-placed (further {d = d} w) = ap (_∷_ d) (way-placed w)
 
 -- from the definition: a node that is found, with its move, or that lies past the tree
 abbrev InnerPrinted : State → Tree → ℕ → Inner → Type 0
-InnerPrinted s t k (evolves r u) =
-    (old : Tree) × (new : Tree) × NodeBecomes k old new t u × NodeMoves s old r (ruleNumber r) new
+InnerPrinted s t k (evolves r w u) =
+    (old : Tree) × (new : Tree) × NodeBecomes k old new t u × NodeMoves s old r (ruleNumber r) w new
 InnerPrinted s t k noRule = Unit {0}
 InnerPrinted s t k (outOfRange j) = k ≡ nodes t + j
 
@@ -85,9 +86,9 @@ leaf-printed s (endT n) δ = tt
 leaf-printed s (retryT n) δ = tt
 leaf-printed s (rdT n a M) δ =
     by-cases (InnerPrinted s (leaf (rdT n a M) δ) 0) (readable s (δ ++ (rd a ∷ [])))
-    (evolves ARDOK (leaf M (δ ++ (rd a ∷ [])))) (evolves ARDF (leaf (retryT 255) δ))
+    (evolves ARDOK enough (leaf M (δ ++ (rd a ∷ [])))) (evolves ARDF (shortage s (δ ++ (rd a ∷ []))) (leaf (retryT 255) δ))
     (λ e. (leaf (rdT n a M) δ, leaf M (δ ++ (rd a ∷ [])), at-root, ardok8 (readable-included s (δ ++ (rd a ∷ [])) e)))
-    (λ e. (leaf (rdT n a M) δ, leaf (retryT 255) δ, at-root, ardf9 (unreadable-not-included s (δ ++ (rd a ∷ [])) e)))
+    (λ e. let (b, k, is, f) = unreadable-short s (δ ++ (rd a ∷ [])) e in (leaf (rdT n a M) δ, leaf (retryT 255) δ, at-root, rw is (ardf9 f)))
 leaf-printed s (wtT n a M) δ = (leaf (wtT n a M) δ, leaf M (δ ++ (wt a ∷ [])), at-root, awr10)
 leaf-printed s (orElseT n M N) δ = (leaf (orElseT n M N) δ, fork (leaf M δ) (leaf N δ), at-root, aoi11)
 
@@ -105,7 +106,7 @@ fork-printed s (fork l m) r = tt
 right-printed : (s : State) (l r : Tree) (j : ℕ) (i : Inner) → InnerPrinted s r j i →
     InnerPrinted s (fork l r) (suc (nodes l + j)) (inRight l i)
 unfolding inRight nodes
-right-printed s l r j (evolves e v) (old, new, b, m) = (old, new, at-right b, m)
+right-printed s l r j (evolves e w v) (old, new, b, m) = (old, new, at-right b, m)
 right-printed s l r j noRule h = tt
 right-printed s l r j (outOfRange k) h = omega arith
 
@@ -113,7 +114,7 @@ right-printed s l r j (outOfRange k) h = omega arith
 left-printed : (s : State) (l r : Tree) (k : ℕ) (i : Inner) (right : ℕ → Inner) → InnerPrinted s l k i →
     ((j : ℕ) → InnerPrinted s r j (right j)) → InnerPrinted s (fork l r) (suc k) (inLeft r i (λ j. inRight l (right j)))
 unfolding inLeft
-left-printed s l r k (evolves e v) right (old, new, b, m) g = (old, new, at-left b, m)
+left-printed s l r k (evolves e w v) right (old, new, b, m) g = (old, new, at-left b, m)
 left-printed s l r k noRule right h g = tt
 left-printed s l r k (outOfRange j) right h g = rw h (right-printed s l r j (right j) (g j))
 
@@ -127,19 +128,19 @@ inner-printed s (fork l r) (suc k) =
     left-printed s l r k (inner s l k) (inner s r) (inner-printed s l k) (inner-printed s r)
 
 -- a node that moves as printed moves by itself
-root-moves : {s : State} {old new : Tree} {r : Rule} {n : ℕ} → NodeMoves s old r n new →
-    (inner s old 0 ≡ evolves r new) × (ruleNumber r ≡ n)
+root-moves : {s : State} {old new : Tree} {r : Rule} {n : ℕ} {w : Shortage} → NodeMoves s old r n w new →
+    (inner s old 0 ≡ evolves r w new) × (ruleNumber r ≡ n)
 unfolding inner atLeaf atFork reads ruleNumber
 root-moves {s} (ardok8 {a = a} {δ = δ} i) = (rw (included-readable s (δ ++ (rd a ∷ [])) i), refl)
-root-moves {s} (ardf9 {a = a} {δ = δ} i) = (rw (not-included-unreadable s (δ ++ (rd a ∷ [])) i), refl)
+root-moves {s} (ardf9 {a = a} {δ = δ} f) = let (fails, is) = short-unreadable s (δ ++ (rd a ∷ [])) f in (rw (fails, is), refl)
 root-moves awr10 = (refl, refl)
 root-moves aoi11 = (refl, refl)
 root-moves aof12 = (refl, refl)
 root-moves aoe13 = (refl, refl)
 
 -- and a node that moves by itself moves in its tree
-node-moves : {k : ℕ} {old new t u : Tree} (s : State) (r : Rule) → NodeBecomes k old new t u →
-    inner s old 0 ≡ evolves r new → inner s t k ≡ evolves r u
+node-moves : {k : ℕ} {old new t u : Tree} {w : Shortage} (s : State) (r : Rule) → NodeBecomes k old new t u →
+    inner s old 0 ≡ evolves r w new → inner s t k ≡ evolves r w u
 unfolding inner inLeft inRight
 node-moves s e at-root q = q
 node-moves s e (at-left b) q = rw (node-moves s e b q)
@@ -149,7 +150,7 @@ node-moves s e (at-right {k = k} {l = l} b) q = rw (out-of-range s l k, node-mov
 
 -- a token that is there is taken
 takes-one : (σ : State) (a : Name) (r : Rule) (cs : List Idle) (m : ℕ) → count σ a ≡ suc m →
-    takes σ a r cs ≡ moves r (set σ a m) (map idle cs)
+    takes σ a r cs ≡ moves r enough (set σ a m) (map idle cs)
 unfolding takes takeToken without
 takes-one σ a r cs m e =
     let less : count σ a - 1 ≡ m = omega arith in
@@ -165,13 +166,13 @@ takes-none σ a r cs e = rw (eq-eqb (count σ a) 0 e)
 module _ (h : Configuration) (p : ℕ) where
   -- a component's own move is one as printed, where it leaves at most 64 components
   abbrev LocalPrinted : Entry → LocalAnswer → Type 0
-  LocalPrinted e (moves r σ cs) = length (replaceAt p cs (h .components)) ≤ 64 →
-      MoveAsStated h e r (ruleNumber r) (record { counts = σ; components = replaceAt p cs (h .components) })
+  LocalPrinted e (moves r w σ cs) = length (replaceAt p cs (h .components)) ≤ 64 →
+      MoveAsStated h e r (ruleNumber r) w (record { counts = σ; components = replaceAt p cs (h .components) })
   LocalPrinted e (blocked n) = Unit {0}
 
   -- IN and REP
   takes-printed : (a : Name) (r : Rule) (cs : List Idle) →
-      ((m : ℕ) → count (h .counts) a ≡ suc m → LocalPrinted (act p) (moves r (set (h .counts) a m) (map idle cs))) →
+      ((m : ℕ) → count (h .counts) a ≡ suc m → LocalPrinted (act p) (moves r enough (set (h .counts) a m) (map idle cs))) →
       LocalPrinted (act p) (takes (h .counts) a r cs)
   takes-printed a r cs f = go (count (h .counts) a) refl
     where
@@ -185,10 +186,10 @@ module _ (h : Configuration) (p : ℕ) where
   unfolding ends commits ruleNumber
   ends-printed n M s (leaf (endT i) δ) e =
       by-cases (LocalPrinted (act p)) (readable (h .counts) δ)
-      (moves (ATOK δ) (without (h .counts) (RD δ)) (map (λ a. idle (output a)) (WT δ)))
-      (moves ATFAIL (h .counts) (idle (block n M) ∷ []))
+      (moves (ATOK δ) enough (without (h .counts) (RD δ)) (map (λ a. idle (output a)) (WT δ)))
+      (moves ATFAIL (shortage (h .counts) δ) (h .counts) (idle (block n M) ∷ []))
       (λ t fits. atok7 (gives-way (h .components) p _ _ e) (readable-included (h .counts) δ t) fits)
-      (λ t fits. atfail6 (gives-way (h .components) p _ _ e) (unreadable-not-included (h .counts) δ t))
+      (λ t fits. let (a, k, is, f) = unreadable-short (h .counts) δ t in rw is (atfail6 (gives-way (h .components) p _ _ e) f))
   ends-printed n M s (leaf (retryT i) δ) e = λ fits. atre5 (gives-way (h .components) p _ _ e)
   ends-printed n M s (leaf (rdT i a N) δ) e = tt
   ends-printed n M s (leaf (wtT i a N) δ) e = tt
@@ -206,7 +207,7 @@ module _ (h : Configuration) (p : ℕ) where
   acts-printed (idle (block n M)) e = λ fits. atst4 (gives-way (h .components) p _ _ e)
   acts-printed (idle (output a)) e =
       by-cases (LocalPrinted (act p)) (leb 255 (count (h .counts) a)) (blocked 20)
-      (moves (OUT a) (addToken (h .counts) a) [])
+      (moves (OUT a) enough (addToken (h .counts) a) [])
       (λ t. tt) (λ t fits. out1 (gives-way (h .components) p _ _ e) (leb-false 255 (count (h .counts) a) t))
   acts-printed (transaction n M s t) e = ends-printed n M s t e
 
@@ -218,7 +219,7 @@ module _ (h : Configuration) (p : ℕ) where
   inside-printed k (transaction n M s t) e = go (inner s t k) (inner-printed s t k)
     where
       go : (i : Inner) → InnerPrinted s t k i → LocalPrinted (inside p k) (innerLocal (h .counts) n M s i)
-      go (evolves r u) q = λ fits. inside8-13 (gives-way (h .components) p _ _ e) (q .2) (q .3)
+      go (evolves r w u) q = λ fits. inside8-13 (gives-way (h .components) p _ _ e) (q .2) (q .3)
       go noRule q = tt
       go (outOfRange j) q = tt
 
@@ -230,28 +231,28 @@ local-printed h (act p) c f = acts-printed h p c f
 local-printed h (inside p k) c f = inside-printed h p k c f
 
 -- every accepted choice is a move as printed
-chosen-printed : (h : Configuration) (e : Entry) (r : Rule) (g : Configuration) → answerTo h e ≡ moved r g →
-    MoveAsStated h e r (ruleNumber r) g
-chosen-printed h e r g q =
-    let a = accepted-inverts h e r g q in
-    let m : LocalPrinted h (positionOf e) e (moves r (g .counts) (a .laid)) =
-    rw (a .local) at (local-printed h e (a .component) (a .found)) in
+pub chosen-printed : (h : Configuration) (e : Entry) (r : Rule) (w : Shortage) (g : Configuration) → respondTo h e ≡ does r w g →
+    MoveAsStated h e r (ruleNumber r) w g
+chosen-printed h e r w g q =
+    let (a, told) = response-inverts h e r w g q in
+    let m : LocalPrinted h (positionOf e) e (moves r w (g .counts) (a .laid)) =
+    rw (a .local, told) at (local-printed h e (a .component) (a .found)) in
     let fits : length (replaceAt (positionOf e) (a .laid) (h .components)) ≤ 64 = rw (← (a .placed)) (a .fits) in
-    subst (λ cs. MoveAsStated h e r (ruleNumber r) (record { counts = g .counts; components = cs })) (sym (a .placed))
+    subst (λ cs. MoveAsStated h e r (ruleNumber r) w (record { counts = g .counts; components = cs })) (sym (a .placed))
     (m fits)
 
 -- ---- and back
 
-module _ {c : Component} {new cs : List Component} (h : Configuration) (e : Entry) (r : Rule) (σ : State)
-    (way : GivesWay (positionOf e) c new (h .components) cs) (local : localMove (h .counts) c e ≡ moves r σ new) where
+module _ {c : Component} {new cs : List Component} {w : Shortage} (h : Configuration) (e : Entry) (r : Rule) (σ : State)
+    (way : GivesWay (positionOf e) c new (h .components) cs) (local : localMove (h .counts) c e ≡ moves r w σ new) where
   -- a component's own move that leaves at most 64 components is accepted at its position
-  made : length cs ≤ 64 → answerTo h e ≡ moved r (record { counts = σ; components = cs })
+  made : length cs ≤ 64 → respondTo h e ≡ does r w (record { counts = σ; components = cs })
   made fits =
-      accepted-made h e r σ c new (way-found way) local (rw (way-placed way) fits) ∙
-      ap (λ ds. moved r (record { counts = σ; components = ds })) (way-placed way)
+      response-made h e r σ c new (way-found way) local (rw (way-placed way) fits) ∙
+      ap (λ ds. does r w (record { counts = σ; components = ds })) (way-placed way)
 
   -- and one that lays down at most one component leaves no more than there were
-  kept : length (h .components) ≤ 64 → length new ≤ 1 → answerTo h e ≡ moved r (record { counts = σ; components = cs })
+  kept : length (h .components) ≤ 64 → length new ≤ 1 → respondTo h e ≡ does r w (record { counts = σ; components = cs })
   kept few one =
       let below = found-below (h .components) (positionOf e) c (way-found way) in
       let l : suc (length cs) ≡ length new + length (h .components) =
@@ -260,8 +261,8 @@ module _ {c : Component} {new cs : List Component} (h : Configuration) (e : Entr
 
 -- every move as printed is an accepted choice
 printed-chosen : (h : Configuration) → length (h .components) ≤ 64 →
-    {e : Entry} {r : Rule} {n : ℕ} {g : Configuration} → MoveAsStated h e r n g →
-    (answerTo h e ≡ moved r g) × (ruleNumber r ≡ n)
+    {e : Entry} {r : Rule} {n : ℕ} {v : Shortage} {g : Configuration} → MoveAsStated h e r n v g →
+    (respondTo h e ≡ does r v g) × (ruleNumber r ≡ n)
 unfolding localMove positionOf acts puts addToken ends commits actsInside innerLocal emptyLog ruleNumber
 printed-chosen h few (out1 {p} {a} w b) =
     (kept h (act p) (OUT a) _ w (rw (lt-leb 255 (count (h .counts) a) b)) few (omega arith), refl)
@@ -272,8 +273,8 @@ printed-chosen h few (rep3 {p} {n} {m} {a} {P} {ds} w o q fits) =
     (made h (act p) (REP a) _ w (rw (into-opens o) (takes-one (h .counts) a (REP a) (ds ++ blocked) m q)) fits, refl)
 printed-chosen h few (atst4 {p} w) = (kept h (act p) ATST _ w refl few (omega arith), refl)
 printed-chosen h few (atre5 {p} w) = (kept h (act p) ATRE _ w refl few (omega arith), refl)
-printed-chosen h few (atfail6 {p} {δ = δ} w i) =
-    (kept h (act p) ATFAIL _ w (rw (not-included-unreadable (h .counts) δ i)) few (omega arith), refl)
+printed-chosen h few (atfail6 {p} {δ = δ} w f) =
+    let (fails, is) = short-unreadable (h .counts) δ f in (kept h (act p) ATFAIL _ w (rw (fails, is)) few (omega arith), refl)
 printed-chosen h few (atok7 {p} {δ = δ} w i fits) =
     (made h (act p) (ATOK δ) _ w (rw (included-readable (h .counts) δ i)) fits, refl)
 printed-chosen h few (inside8-13 {p} {k} {s = s} {r = r} w b m) =
@@ -282,5 +283,5 @@ printed-chosen h few (inside8-13 {p} {k} {s = s} {r = r} w b m) =
 
 pub moves-as-stated : MovesAsStated
 unfolding MovesAsStated
-moves-as-stated ts h ok e r n g =
-    (λ q. rw (q .1) at (chosen-printed h e r g (q .0)), printed-chosen h (ok .few))
+moves-as-stated ts h ok e r n w g =
+    (λ q. rw (q .1) at (chosen-printed h e r w g (q .0)), printed-chosen h (ok .few))

@@ -1,51 +1,58 @@
 -- The step call: what it gives by the answer to its choice, and the claims of specs/Checks/Steps.
 -- Assumes nothing.
-use Prim.Native.Nat.{ℕ, zero, suc, _+_, _≤_}
+use Prim.Native.Nat.{ℕ, zero, suc, _+_, _≤_, _<_}
 use native.Mathlib.Omega.{arith}
 use mathlib.Core.Path.{_≡_, refl, ap, _∙_, subst}
 use mathlib.Core.Logic.{_⊎_, inl, inr, _↔_, _≢_}
 use mathlib.Core.List.{List, [], _∷_}
+use borrow.Author.Tests.{ne-eqb}
 use Rattle.calculus.specs.Reduction.{Rule, OUT, IN, REP, ATST, ATRE, ATFAIL, ATOK, ARDOK, ARDF, AWR, AOI, AOF, AOE}
 use Rattle.semantics.specs.Definitions.Basics.{Bytes}
 use Rattle.semantics.specs.Definitions.Table.{Table}
+use Rattle.semantics.specs.Definitions.Shortage.{enough, short}
 use Rattle.semantics.specs.Definitions.Configuration.{Configuration}
 use Rattle.semantics.specs.Definitions.Stored.{bytesOf}
-use Rattle.semantics.specs.Definitions.Moves.{Entry, act, inside, Answer, moved, refused, answerTo, ruleNumber}
+use Rattle.semantics.specs.Definitions.Moves.{Entry, act, inside, Response, does, refuses, respondTo, Answer, moved, refused, answerOf, answerTo, ruleNumber, replyOf}
 use Rattle.semantics.specs.Definitions.Run.{Counters, counted, entry, schedule, continueRun, runFrom, run}
-use Rattle.semantics.specs.Definitions.Calls.{Admission, admitted, notAdmitted, admission, Buffers, RunCall, runResult, runAdmitted, runCall, StepCall, stepBytes, firstRule, stepCall, stepChoice, callAnswer}
-use Rattle.semantics.specs.Checks.Conditions.{HallNumbers, ChoiceNumbers, RefusalNumbers}
-use Rattle.semantics.specs.Checks.Steps.{Names, names-act, names-inside, StepCallAsStated, not-admitted, kind-unknown, is-refused, has-moved, StepCallsAsStated, StepCallNumbers, NodeOfKind1, StepIsCall}
+use Rattle.semantics.specs.Definitions.Calls.{Admission, admitted, notAdmitted, admission, Buffers, RunCall, runResult, runAdmitted, runCall, StepCall, stepBytes, firstRule, shortageIn, firstShortage, stepCall, stepChoice, callAnswer}
+use Rattle.semantics.specs.Claims.Shortages.{FailuresAloneName}
+use Rattle.semantics.specs.Checks.Conditions.{TableNumbers, HallNumbers, ChoiceNumbers, RefusalNumbers}
+use Rattle.semantics.specs.Checks.Steps.{Names, names-act, names-inside, StepCallAsStated, not-admitted, kind-unknown, is-refused, has-moved, StepCallsAsStated, StepCallNumbers, stepReply, StepReplies, NodeOfKind1, StepIsCall}
+use Rattle.theorems.proofs.GoodTable.{accepted-is-good}
+use Rattle.theorems.proofs.TableConditions.{table-numbers}
 use Rattle.theorems.proofs.HallConditions.{hall-numbers, refusal-numbers}
 use Rattle.theorems.proofs.ChoiceConditions.{choice-numbers}
+use Rattle.theorems.proofs.ToldShort.{failures-alone-name, shortage-small}
 use Rattle.theorems.proofs.CallConditions.{choice-range}
 use Rattle.theorems.proofs.CallsAsOne.{AnswerHigh, choose-high}
 
 -- ---- what a step gives
 
 -- on a configuration, for a choice of so many bytes with this answer
-unfoldable pub answered : Configuration → Buffers → (size : ℕ) → Answer → StepCall
+unfoldable pub answered : Configuration → Buffers → (size : ℕ) → Response → StepCall
 unfolding bytesOf ruleNumber counted
-answered h l w (moved r g) =
+answered h l w (does r lacks g) =
     record {
       number = 0;
       place = w;
       rule = ruleNumber r;
+      shortage = lacks;
       buffers = record { hall = bytesOf g; counters = counted r (l .counters) };
     }
-answered h l w (refused n) =
-    record { number = n; place = 0; rule = 0; buffers = record { hall = bytesOf h; counters = l .counters } }
+answered h l w (refuses n) =
+    record { number = n; place = 0; rule = 0; shortage = enough; buffers = record { hall = bytesOf h; counters = l .counters } }
 
 module _ (table : List ℕ) (l : Buffers) where
   -- table or hall is turned down
   pub step-turned-down : (n q kind p k : ℕ) → admission table (l .hall) ≡ notAdmitted n q →
-      stepCall table l kind p k ≡ record { number = n; place = q; rule = 0; buffers = l }
-  unfolding stepCall runCall runAdmitted firstRule
+      stepCall table l kind p k ≡ record { number = n; place = q; rule = 0; shortage = enough; buffers = l }
+  unfolding stepCall runCall runAdmitted firstRule firstShortage
   step-turned-down n q kind p k e = rw e
 
   module _ (t : Table) (h : Configuration) (admits : admission table (l .hall) ≡ admitted t h) where
     -- the kind is not 1 or 2
-    pub step-unknown : (kind p k : ℕ) → kind ≢ 1 → kind ≢ 2 → stepCall table l kind p k ≡ answered h l 0 (refused 12)
-    unfolding stepCall stepBytes runCall runAdmitted runResult run schedule firstRule answered
+    pub step-unknown : (kind p k : ℕ) → kind ≢ 1 → kind ≢ 2 → stepCall table l kind p k ≡ answered h l 0 (refuses 12)
+    unfolding stepCall stepBytes runCall runAdmitted runResult run schedule firstRule firstShortage shortageIn answerTo answerOf answered
     step-unknown zero p k one two = rw admits
     step-unknown (suc zero) p k one two = absurd (one refl)
     step-unknown (suc (suc zero)) p k one two = absurd (two refl)
@@ -53,18 +60,18 @@ module _ (table : List ℕ) (l : Buffers) where
 
     -- else it is by the answer to the choice
     pub step-answered : {kind p k w : ℕ} {e : Entry} → Names kind p k e w →
-        stepCall table l kind p k ≡ answered h l w (answerTo h e)
-    unfolding stepCall stepBytes runCall runAdmitted runResult run schedule firstRule answered
-    step-answered (names-act {p} {k}) = go (answerTo h (act p)) refl
+        stepCall table l kind p k ≡ answered h l w (respondTo h e)
+    unfolding stepCall stepBytes runCall runAdmitted runResult run schedule firstRule firstShortage shortageIn answerTo answerOf answered
+    step-answered (names-act {p} {k}) = go (respondTo h (act p)) refl
       where
-        go : (a : Answer) → answerTo h (act p) ≡ a → stepCall table l 1 p k ≡ answered h l 2 a
-        go (moved r g) q = rw (admits, q)
-        go (refused n) q = rw (admits, q)
-    step-answered (names-inside {p} {k}) = go (answerTo h (inside p k)) refl
+        go : (a : Response) → respondTo h (act p) ≡ a → stepCall table l 1 p k ≡ answered h l 2 a
+        go (does r lacks g) q = rw (admits, q)
+        go (refuses n) q = rw (admits, q)
+    step-answered (names-inside {p} {k}) = go (respondTo h (inside p k)) refl
       where
-        go : (a : Answer) → answerTo h (inside p k) ≡ a → stepCall table l 2 p k ≡ answered h l 3 a
-        go (moved r g) q = rw (admits, q)
-        go (refused n) q = rw (admits, q)
+        go : (a : Response) → respondTo h (inside p k) ≡ a → stepCall table l 2 p k ≡ answered h l 3 a
+        go (does r lacks g) q = rw (admits, q)
+        go (refuses n) q = rw (admits, q)
 
 -- ---- as printed
 
@@ -79,10 +86,10 @@ module _ (table : List ℕ) (l : Buffers) (table-bytes : Bytes table) (hall-byte
 
   -- a refused choice leaves them
   refused-as : (t : Table) (h : Configuration) → admission table (l .hall) ≡ admitted t h → (w n : ℕ) →
-      answered h l w (refused n) ≡ record { number = n; place = 0; rule = 0; buffers = l }
+      answered h l w (refuses n) ≡ record { number = n; place = 0; rule = 0; shortage = enough; buffers = l }
   unfolding answered
   refused-as t h e w n =
-      let same = same-buffers t h e in λ i. record { number = n; place = 0; rule = 0; buffers = same i }
+      let same = same-buffers t h e in λ i. record { number = n; place = 0; rule = 0; shortage = enough; buffers = same i }
 
   module _ (kind p k : ℕ) where
     printed-so : (a : StepCall) → StepCallAsStated table l kind p k a → stepCall table l kind p k ≡ a
@@ -98,11 +105,11 @@ module _ (table : List ℕ) (l : Buffers) (table-bytes : Bytes table) (hall-byte
     named-printed : (t : Table) (h : Configuration) → admission table (l .hall) ≡ admitted t h → (d : Entry) (w : ℕ) →
         Names kind p k d w → StepCallAsStated table l kind p k (stepCall table l kind p k)
     unfolding answered
-    named-printed t h e d w named = rw (step-answered table l t h e named) (go (answerTo h d) refl)
+    named-printed t h e d w named = rw (step-answered table l t h e named) (go (respondTo h d) refl)
       where
-        go : (a : Answer) → answerTo h d ≡ a → StepCallAsStated table l kind p k (answered h l w a)
-        go (moved r g) q = has-moved e named q
-        go (refused n) q = rw (refused-as t h e w n) (is-refused e named q)
+        go : (a : Response) → respondTo h d ≡ a → StepCallAsStated table l kind p k (answered h l w a)
+        go (does r lacks g) q = has-moved e named q
+        go (refuses n) q = rw (refused-as t h e w n) (is-refused e named q)
 
   -- every step has one of the printed answers
   unknown-printed : (kind p k : ℕ) (t : Table) (h : Configuration) → admission table (l .hall) ≡ admitted t h → kind ≢ 1 → kind ≢ 2 →
@@ -155,25 +162,46 @@ place-of names-inside = inr (refl, refl)
 -- what is claimed of an answer's numbers
 abbrev Numbered : Buffers → ℕ → StepCall → Type 0
 Numbered l kind a =
-    ((a .number ≢ 0 → (a .rule ≡ 0) × (a .buffers ≡ l)) ×
+    ((a .number ≢ 0 → (a .rule ≡ 0) × (a .shortage ≡ enough) × (a .buffers ≡ l)) ×
     (12 ≤ a .number → (a .place ≡ 0) × (a .number ≤ 20) × (a .number ≢ 13))) ×
     (a .number ≡ 0 →
-    (1 ≤ a .rule) × (a .rule ≤ 13) × (((kind ≡ 1) × (a .place ≡ 2)) ⊎ ((kind ≡ 2) × (a .place ≡ 3))))
+    (1 ≤ a .rule) × (a .rule ≤ 13) × (((kind ≡ 1) × (a .place ≡ 2)) ⊎ ((kind ≡ 2) × (a .place ≡ 3))) ×
+    ((a .shortage ≡ enough) ↔ ((a .rule ≢ 6) × (a .rule ≢ 9))) ×
+    ((tray by : ℕ) → a .shortage ≡ short tray by → (tray < 16) × (1 ≤ by) × (by ≤ 16)))
 
 printed-numbered : (table : List ℕ) (l : Buffers) → Bytes table → Bytes (l .hall) → (kind p k : ℕ) (a : StepCall) →
     StepCallAsStated table l kind p k a → Numbered l kind a
-unfolding RefusalNumbers HallNumbers ChoiceNumbers
+unfolding RefusalNumbers HallNumbers TableNumbers ChoiceNumbers FailuresAloneName answerTo answerOf
 printed-numbered table l tb hb kind p k a (not-admitted {n} {p = q} e) =
     let range = refusal-numbers table (l .hall) n q .3 e in
-    ((λ ne. (refl, refl), λ late. absurd (omega arith)), λ z. absurd (omega arith))
+    ((λ ne. (refl, refl, refl), λ late. absurd (omega arith)), λ z. absurd (omega arith))
 printed-numbered table l tb hb kind p k a (kind-unknown e one two) =
-    ((λ ne. (refl, refl), λ late. (refl, omega arith, λ z. omega arith)), λ z. absurd (omega arith))
+    ((λ ne. (refl, refl, refl), λ late. (refl, omega arith, λ z. omega arith)), λ z. absurd (omega arith))
 printed-numbered table l tb hb kind p k a (is-refused {t} {h} {e = d} {n = n} e named q) =
     let well = (hall-numbers table (l .hall) tb hb .1 t h) .0 e .1 in
-    let range = choice-range h n d (((choice-numbers (t .terms) h well d .0 n) .0 q) .0) in
-    ((λ ne. (refl, refl), λ late. (refl, range .1, λ z. omega arith)), λ z. absurd (omega arith))
-printed-numbered table l tb hb kind p k a (has-moved {r = r} e named q) =
-    ((λ ne. absurd (ne refl), λ late. absurd (omega arith)), λ z. (rule-range r .0, rule-range r .1, place-of named))
+    let range = choice-range h n d (((choice-numbers (t .terms) h well d .0 n) .0 (ap answerOf q)) .0) in
+    ((λ ne. (refl, refl, refl), λ late. (refl, range .1, λ z. omega arith)), λ z. absurd (omega arith))
+printed-numbered table l tb hb kind p k a (has-moved {t} {h} {g} {e = d} {r = r} {w = w} e named q) =
+    let there = (hall-numbers table (l .hall) tb hb .1 t h) .0 e in (
+      (λ ne. absurd (ne refl), λ late. absurd (omega arith)),
+      λ z. (
+        rule-range r .0,
+        rule-range r .1,
+        place-of named,
+        failures-alone-name h g d r w q,
+        λ a k is. shortage-small h g d r (accepted-is-good table t ((table-numbers table .1 t) .1 (there .0))) (there .1) (q ∙ rw is),
+      ),
+    )
+
+-- what a step tells is the reply to its choice
+pub step-replies : StepReplies
+unfolding StepReplies answered replyOf answerTo answerOf
+step-replies table l t h admits kind p k size e named =
+    rw (step-answered table l t h admits named) (go (respondTo h e) (choose-high h e))
+  where
+    go : (x : Response) → AnswerHigh (answerOf x) → stepReply (answered h l size x) ≡ replyOf x
+    go (does r lacks g) high = refl
+    go (refuses n) high = rw (ne-eqb n 0 (λ z. omega arith))
 
 pub step-call-numbers : StepCallNumbers
 unfolding StepCallNumbers

@@ -11,9 +11,11 @@ use Rattle.semantics.specs.Claims.Atomicity.{AtomicityOfCalls, initialBuffers, 
 use Rattle.semantics.specs.Checks.Conditions.{ReadAsStated, TableNumbers, MissingAtLength, HallNumbers, CheckNumbers, OpenNumbers, RefusalNumbers, ChoiceNumbers, RunNumbers, OneReason, RunCallNumbers, RunCallZero}
 use Rattle.semantics.specs.Checks.Answers.{AnswersReported, AnswersDiffer, ZeroIsAccepted}
 use Rattle.semantics.specs.Checks.CallLists.{CallBytes, CallsInTurn, CallsCut}
-use Rattle.semantics.specs.Checks.Steps.{StepCallsAsStated, StepCallNumbers, NodeOfKind1, StepIsCall}
+use Rattle.semantics.specs.Checks.Steps.{StepCallsAsStated, StepCallNumbers, StepReplies, NodeOfKind1, StepIsCall}
+use Rattle.semantics.specs.Claims.Shortages.{ShortageIsLowest, ShortageIsExact, EnoughIsIncluded, ReadLacksOne, FailuresTellTheirTest, FailuresAloneName, ShortagesAreSmall}
+use Rattle.semantics.specs.Checks.ShortageExamples.{ShortageExamples}
 use Rattle.semantics.specs.Claims.Sentences.{SentencesAreShort, SentencesArePrintable, SentencesTellApart}
-use Rattle.semantics.specs.Checks.Sentences.{WordsEnd, ShortBuffersRefused, SentenceStands, RoomIsLeft, SentencesWorked, SentenceInBytes, CallsWorked}
+use Rattle.semantics.specs.Checks.Sentences.{WordsEnd, ShortBuffersRefused, SentenceStands, RoomOfAShortage, RoomIsLeft, SentencesWorked, SentenceInBytes, CallsWorked}
 use mathlib.Core.Path.{refl, sym, ap, _∙_}
 use mathlib.Core.List.{map}
 use Rattle.semantics.specs.Definitions.Stored.{bytesOf, configurationOf}
@@ -49,6 +51,8 @@ use Rattle.theorems.proofs.RunConditions as OnRuns
 use Rattle.theorems.proofs.CallConditions as OnCalls
 use Rattle.theorems.proofs.CallLists as Turns
 use Rattle.theorems.proofs.Steps as OnSteps
+use Rattle.theorems.proofs.ToldShort as Lacking
+use Rattle.semantics.proofs.ShortageExamples as WorkedShortages
 use Rattle.theorems.proofs.Suggestions as Suggesting
 use Rattle.theorems.proofs.RecordShapes as Shapes
 use Rattle.theorems.proofs.Limits as Bounds
@@ -269,6 +273,9 @@ step-calls-as-stated = OnSteps.step-calls-as-stated
 pub step-call-numbers : StepCallNumbers
 step-call-numbers = OnSteps.step-call-numbers
 
+pub step-replies : StepReplies
+step-replies = OnSteps.step-replies
+
 pub node-of-kind-1 : NodeOfKind1
 node-of-kind-1 = OnSteps.node-of-kind-1
 
@@ -301,6 +308,32 @@ printed-refused = Prints.printed-refused
 pub printed-as-calls : PrintedAsCalls
 printed-as-calls = Prints.printed-as-calls
 
+-- ---- what was short
+
+pub shortage-is-lowest : ShortageIsLowest
+shortage-is-lowest = Lacking.shortage-is-lowest
+
+pub shortage-is-exact : ShortageIsExact
+shortage-is-exact = Lacking.shortage-is-exact
+
+pub enough-is-included : EnoughIsIncluded
+enough-is-included = Lacking.enough-is-included
+
+pub read-lacks-one : ReadLacksOne
+read-lacks-one = Lacking.read-lacks-one
+
+pub failures-tell-their-test : FailuresTellTheirTest
+failures-tell-their-test = Lacking.failures-tell-their-test
+
+pub failures-alone-name : FailuresAloneName
+failures-alone-name = Lacking.failures-alone-name
+
+pub shortages-are-small : ShortagesAreSmall
+shortages-are-small = Lacking.shortages-are-small
+
+pub shortage-examples : ShortageExamples
+shortage-examples = WorkedShortages.shortage-examples
+
 -- ---- sentences
 
 pub sentences-are-short : SentencesAreShort
@@ -320,6 +353,9 @@ short-buffers-refused = Saying.short-buffers-refused
 
 pub sentence-stands : SentenceStands
 sentence-stands = Saying.sentence-stands
+
+pub room-of-a-shortage : RoomOfAShortage
+room-of-a-shortage = Saying.room-of-a-shortage
 
 pub room-is-left : RoomIsLeft
 room-is-left = Saying.room-is-left

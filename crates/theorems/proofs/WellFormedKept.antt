@@ -76,7 +76,7 @@ StaysOk ts t r u = TreeOk ts t → TreeOk ts u × (branchesOf u ≤ branchesOf t
 
 -- what a move of one component leaves: counts that are bytes, and well-formed components
 abbrev pub LocalOk : List Term → LocalAnswer → Type 0
-LocalOk ts (moves r σ cs) = ByteCounts σ × All (ComponentOk ts) cs
+LocalOk ts (moves r w σ cs) = ByteCounts σ × All (ComponentOk ts) cs
 LocalOk ts (blocked n) = Unit {0}
 
 module _ {ts : List Term} (good : GoodTable ts) where
@@ -106,7 +106,7 @@ module _ {ts : List Term} (good : GoodTable ts) where
   retried δ n l h = (refl, omega arith, h)
 
   -- what stands at a leaf, other than the retry that has no record, is an entry, and so are its parts
-  leaf-parts : (M : Expression) (δ : Log) → M ≢ retryT 255 → TreeOk ts (leaf M δ) → SubtermsIn ts (expression M) × ChannelBelow (expression M)
+  pub leaf-parts : (M : Expression) (δ : Log) → M ≢ retryT 255 → TreeOk ts (leaf M δ) → SubtermsIn ts (expression M) × ChannelBelow (expression M)
   unfolding TreeOk
   leaf-parts M δ other h =
       let e = leaf-entry ts M other (h .0) in (good .subterms (number M) (expression M) e, good .channel (number M) (expression M) e)
@@ -188,7 +188,7 @@ module _ {ts : List Term} (good : GoodTable ts) where
   innerLocal-ok : (σ : State) (n : ℕ) (M : Expression) (s : State) (t : Tree) (x : Inner) → ByteCounts σ → ComponentOk ts (transaction n M s t) →
       Moving (StaysOk ts) t x → LocalOk ts (innerLocal σ n M s x)
   unfolding innerLocal ComponentOk
-  innerLocal-ok σ n M s t (evolves r u) h k i =
+  innerLocal-ok σ n M s t (evolves r w u) h k i =
       let (tree, fewer) = i (k .2) in
       let few = k .3 in (h, ((k .0, k .1, tree, omega arith), tt))
   innerLocal-ok σ n M s t noRule h k i = tt

@@ -1,21 +1,25 @@
--- Finding a move inside a transaction: whether a read is readable, and the rule for each redex.
+-- Finding a move inside a transaction: what a read is short of, and the rule for each redex.
 -- Assumes nothing.
 use Prim.Native.Nat.{ℕ, _+_, _<_}
 use native.Mathlib.Omega.{arith}
-use mathlib.Core.Path.{_≡_, refl, sym, _∙_}
-use mathlib.Core.Bool.{Bool, true, false}
+use mathlib.Core.Path.{_≡_, sym, ap, _∙_}
 use mathlib.Core.List.{List, [], _∷_, _++_}
 use lib.ListN.{take, drop}
+use Rattle.calculus.specs.Syntax.{rd}
+use Rattle.semantics.specs.Definitions.Shortage.{enough, short, isEnough}
 use Rattle.semantics.specs.Definitions.Terms.{rdT}
+use Rattle.semantics.specs.Definitions.Logs.{shortage, readable}
 use Rattle.semantics.specs.Definitions.Moves.{reads, atLeaf, atFork, inner}
 use Rattle.terms.specs.Decoded.{channels}
+use Rattle.rules.specs.declared.Shortage.{Shortage}
+use Rattle.rules.specs.declared.Shortage.the-variants.{Enough, Short}
 use Rattle.rules.specs.declared.Reply.{Reply}
 use Rattle.rules.specs.declared.Reply.the-variants.{Moved, Refused}
-use Rattle.rules.specs.Replies.{replyIs}
+use Rattle.rules.specs.Replies.{shortageIs, replyIs}
 use Rattle.stored.specs.Layout.{leafLog}
-use Rattle.logs.specs.Needs.{needsOf, withinAt}
+use Rattle.logs.specs.Needs.{shortAt}
 use Rattle.logs.proofs.Places.{counts-held}
-use Rattle.logs.proofs.StoredLogs.{stored-readable-with}
+use Rattle.logs.proofs.StoredLogs.{stored-shortage-with}
 use Rattle.transactions.specs.declared.redexes.Redex.{Redex}
 use Rattle.transactions.specs.declared.redexes.Redex.the-variants.{Read, Write, OrElse, LeftEnds, LeftRetries, Nothing}
 use Rattle.transactions.specs.Bytes.{sizeAt}
@@ -24,23 +28,26 @@ use Rattle.transactions.proofs.Reducing.{LeafAt, leaf-at, redex-here}
 
 -- ---- a read
 
-pub read-tested : (s : List ℕ) (snapshot at a w : ℕ) (r : Bool) → a < channels → w ≡ sizeAt s at →
-    r ≡ withinAt (needsOf (take w (drop (at + leafLog) s) ++ (a ∷ []))) s snapshot → ReadTested s snapshot at a r
+pub read-tested : (s : List ℕ) (snapshot at a w : ℕ) (r : Shortage) → a < channels → w ≡ sizeAt s at →
+    shortageIs r ≡ shortAt (take w (drop (at + leafLog) s) ++ (a ∷ [])) s snapshot → ReadTested s snapshot at a r
 read-tested s snapshot at a w r below size tested = record {
   found = λ δ σ x.
-      stored-readable-with s (at + leafLog) w δ (x .log) (size ∙ x .size) snapshot σ a _ r
-      (x .counts) below refl tested;
+      stored-shortage-with s (at + leafLog) w δ (x .log) (size ∙ x .size) snapshot σ a _ (x .counts) below tested;
 }
 
 -- what the test answers is the rule's number
-module _ (s : List ℕ) (snapshot at a : ℕ) (r : Bool) (tested : ReadTested s snapshot at a r) where
-  pub read-allowed : r ≡ true → ReadTried s snapshot at a (Moved 8)
-  unfolding reads innerReply replyIs
-  read-allowed e = record { found = λ δ σ M x. rw (sym (tested .found δ σ x) ∙ e) }
+module _ (s : List ℕ) (snapshot at a : ℕ) (r : Shortage) (tested : ReadTested s snapshot at a r) where
+  pub read-allowed : r ≡ Enough → ReadTried s snapshot at a (Moved 8 Enough)
+  unfolding reads innerReply replyIs shortageIs readable isEnough
+  read-allowed e = record {
+    found = λ δ σ M x. let is : shortage σ (δ ++ (rd a ∷ [])) ≡ enough = sym (tested .found δ σ x) ∙ ap shortageIs e in rw is;
+  }
 
-  pub read-failed : r ≡ false → ReadTried s snapshot at a (Moved 9)
-  unfolding reads innerReply replyIs
-  read-failed e = record { found = λ δ σ M x. rw (sym (tested .found δ σ x) ∙ e) }
+  pub read-failed : (b k : ℕ) → r ≡ Short b k → ReadTried s snapshot at a (Moved 9 (Short b k))
+  unfolding reads innerReply replyIs shortageIs readable isEnough
+  read-failed b k e = record {
+    found = λ δ σ M x. let is : shortage σ (δ ++ (rd a ∷ [])) ≡ short b k = sym (tested .found δ σ x) ∙ ap shortageIs e in rw is;
+  }
 
 -- ---- a node
 
@@ -77,19 +84,19 @@ module _ (d s : List ℕ) (snapshot at : ℕ) where
             rw e (tried .found δ σ M (record { size = l .size; log = l .log; counts = y .counts }));
       }
 
-    pub write-rule : {a : ℕ} → w ≡ Write a → RuleRead d s snapshot at (Moved 10)
+    pub write-rule : {a : ℕ} → w ≡ Write a → RuleRead d s snapshot at (Moved 10 Enough)
     unfolding inner atLeaf innerReply replyIs
     write-rule is = record { found = λ ts u σ y. let (n, M, δ, e) = redex-here read is (y .tree) in rw e }
 
-    pub or-else-rule : w ≡ OrElse → RuleRead d s snapshot at (Moved 11)
+    pub or-else-rule : w ≡ OrElse → RuleRead d s snapshot at (Moved 11 Enough)
     unfolding inner atLeaf innerReply replyIs
     or-else-rule is = record { found = λ ts u σ y. let (n, M, N, δ, e) = redex-here read is (y .tree) in rw e }
 
-    pub left-retries-rule : w ≡ LeftRetries → RuleRead d s snapshot at (Moved 12)
+    pub left-retries-rule : w ≡ LeftRetries → RuleRead d s snapshot at (Moved 12 Enough)
     unfolding inner atFork innerReply replyIs
     left-retries-rule is = record { found = λ ts u σ y. let (n, δ, r, e) = redex-here read is (y .tree) in rw e }
 
-    pub left-ends-rule : w ≡ LeftEnds → RuleRead d s snapshot at (Moved 13)
+    pub left-ends-rule : w ≡ LeftEnds → RuleRead d s snapshot at (Moved 13 Enough)
     unfolding inner atFork innerReply replyIs
     left-ends-rule is = record { found = λ ts u σ y. let (n, δ, r, e) = redex-here read is (y .tree) in rw e }
 

@@ -11,7 +11,8 @@ use lib.Seq.{take-at}
 use Rattle.calculus.specs.Syntax.{Name, rd, wt, Action, Log, State}
 use Rattle.calculus.specs.Reduction.{Rule, ARDOK, ARDF}
 use Rattle.semantics.specs.Definitions.Terms.{Expression, endT, retryT, rdT, wtT, orElseT, Term, number, pathLength}
-use Rattle.semantics.specs.Definitions.Logs.{readable}
+use Rattle.semantics.specs.Definitions.Shortage.{Shortage, enough}
+use Rattle.semantics.specs.Definitions.Logs.{shortage, readable}
 use Rattle.semantics.specs.Definitions.Configuration.{Tree, leaf, fork, Component, transaction, Configuration}
 use Rattle.semantics.specs.Definitions.Stored.{actionByte, treeBytes}
 use Rattle.semantics.specs.Definitions.Moves.{evolves, reads, atLeaf, atFork, inner, inside, answerTo, ruleNumber}
@@ -38,15 +39,15 @@ leaf-here {M = M} {δ = δ} x =
     ap (take leafSize) (x .bytes) ∙ take-at (treeBytes (leaf M δ)) (x .rest) leafSize (leaf-bytes M δ few)
 
 -- what a read becomes, by the rule's number
-module _ (σ : State) (a : Name) (M : Expression) (δ : Log) (r : Rule) (v : Tree) (e : reads σ a M δ ≡ evolves r v) where
+module _ (σ : State) (a : Name) (M : Expression) (δ : Log) (r : Rule) (w : Shortage) (v : Tree) (e : reads σ a M δ ≡ evolves r w v) where
   logs : ruleNumber r ≡ 8 → v ≡ leaf M (δ ++ (rd a ∷ []))
   unfolding reads ruleNumber
   logs number = go (readable σ (δ ++ (rd a ∷ []))) refl
     where
       go : (b : Bool) → readable σ (δ ++ (rd a ∷ [])) ≡ b → v ≡ leaf M (δ ++ (rd a ∷ []))
-      go true q = let f : evolves ARDOK (leaf M (δ ++ (rd a ∷ []))) ≡ evolves r v = rw q at e in cc
+      go true q = let f : evolves ARDOK enough (leaf M (δ ++ (rd a ∷ []))) ≡ evolves r w v = rw q at e in cc
       go false q =
-          let f : evolves ARDF (leaf (retryT noRecord) δ) ≡ evolves r v = rw q at e in
+          let f : evolves ARDF (shortage σ (δ ++ (rd a ∷ []))) (leaf (retryT noRecord) δ) ≡ evolves r w v = rw q at e in
           let z : r ≡ ARDF = cc in
           let g : _≡_ {A = ℕ} 9 8 = rw z at number in absurd (omega arith)
 
@@ -56,10 +57,10 @@ module _ (σ : State) (a : Name) (M : Expression) (δ : Log) (r : Rule) (v : Tre
     where
       go : (b : Bool) → readable σ (δ ++ (rd a ∷ [])) ≡ b → v ≡ leaf (retryT noRecord) δ
       go true q =
-          let f : evolves ARDOK (leaf M (δ ++ (rd a ∷ []))) ≡ evolves r v = rw q at e in
+          let f : evolves ARDOK enough (leaf M (δ ++ (rd a ∷ []))) ≡ evolves r w v = rw q at e in
           let z : r ≡ ARDOK = cc in
           let g : _≡_ {A = ℕ} 8 9 = rw z at number in absurd (omega arith)
-      go false q = let f : evolves ARDF (leaf (retryT noRecord) δ) ≡ evolves r v = rw q at e in cc
+      go false q = let f : evolves ARDF (shortage σ (δ ++ (rd a ∷ []))) (leaf (retryT noRecord) δ) ≡ evolves r w v = rw q at e in cc
 
 module _ {ts : List Term} {h : Configuration} {d s starts : List ℕ} {n p k rule at : ℕ}
     (x : MoveAt ts h d s starts n p k rule at) where
@@ -87,7 +88,7 @@ module _ {ts : List Term} {h : Configuration} {d s starts : List ℕ} {n p k rul
 
   module _ {m : ℕ} {a : Name} {M : Expression} {δ : Log} where
     module _ (was : i .subtree ≡ leaf (rdT m a M) δ) where
-      tries : reads (i .snapshot) a M δ ≡ evolves (i .by) (i .becomes)
+      tries : reads (i .snapshot) a M δ ≡ evolves (i .by) (i .lacks) (i .becomes)
       unfolding inner atLeaf
       tries = rw was at (i .steps)
 
@@ -96,14 +97,14 @@ module _ {ts : List Term} {h : Configuration} {d s starts : List ℕ} {n p k rul
       ardok-link e =
           let l : LeafAt ts (rdT m a M) δ d s at = leaf-at (rw was at (i .stands)) in
           let room = l .room in
-          action-link (rdT m a M) M δ (rd a) was (logs (i .snapshot) a M δ (i .by) (i .becomes) tries (i .number ∙ e))
+          action-link (rdT m a M) M δ (rd a) was (logs (i .snapshot) a M δ (i .by) (i .lacks) (i .becomes) tries (i .number ∙ e))
           (omega arith) (l .fields .3) (readOffset + a) (omega arith)
 
       -- the retry that has no record
       pub ardf-link : rule ≡ 9 → Stored (set s (at + leafTerm) noRecord)
       unfolding number
       ardf-link e =
-          let is = fails (i .snapshot) a M δ (i .by) (i .becomes) tries (i .number ∙ e) in
+          let is = fails (i .snapshot) a M δ (i .by) (i .lacks) (i .becomes) tries (i .number ∙ e) in
           rw (i .after, is)
           (term-stored (x .holds) p (i .block) (i .body) (i .snapshot) (i .tree) (i .there) k at (i .context) _ δ
           (rw was at (i .node)) (retryT noRecord) (rw is at (i .form)) noRecord refl)

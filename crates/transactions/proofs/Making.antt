@@ -3,7 +3,6 @@
 use Prim.Native.Nat.{ℕ, _+_, _≤_, _<_}
 use native.Mathlib.Omega.{arith}
 use mathlib.Core.Path.{_≡_, refl, sym}
-use mathlib.Core.Bool.{Bool, true, false, cond}
 use mathlib.Core.List.{List, []}
 use lib.ListN.{length, getD, set}
 use mir.Syntax.{w8, w64}
@@ -12,6 +11,8 @@ use Rattle.calculus.specs.Syntax.{Log}
 use Rattle.semantics.specs.Definitions.Terms.{Expression, rdT, wtT, orElseT, Term, pathLength}
 use Rattle.semantics.specs.Definitions.Configuration.{Tree, leaf, fork, Configuration}
 use Rattle.terms.specs.Decoded.{channels, maxTerms}
+use Rattle.rules.specs.declared.Shortage.{Shortage}
+use Rattle.rules.specs.declared.Shortage.the-variants.{Enough, Short}
 use Rattle.rules.specs.declared.Reply.{Reply}
 use Rattle.rules.specs.declared.Reply.the-variants.{Moved, Refused}
 use Rattle.stored.specs.declared.Place.the-variants.{At}
@@ -26,7 +27,7 @@ use Rattle.transactions.specs.declared.redexes.Redex.{Redex}
 use Rattle.transactions.specs.declared.redexes.Redex.the-variants.{Read, Write, OrElse, LeftEnds, LeftRetries, Nothing}
 use Rattle.transactions.specs.Bytes.{termAt, logged, Loggable, forkBytes, Splittable, leftSize, leftBytes}
 use Rattle.transactions.specs.Finding.{ReadTested, RedexRead, NodeHeld, RuleRead}
-use Rattle.transactions.specs.Moving.{MoveAt, HasMoved, ReadMade, snapshotOf, NodeStands, NodeMoved}
+use Rattle.transactions.specs.Moving.{MoveAt, HasMoved, readNumber, readBytes, ReadMade, snapshotOf, NodeStands, NodeMoved}
 use Rattle.transactions.proofs.Reducing.{LeafAt, leaf-at, redex-here}
 use Rattle.transactions.proofs.Finding.{read-allowed, read-failed, read-rule, write-rule, or-else-rule, left-retries-rule, left-ends-rule, no-rule}
 use Rattle.transactions.proofs.Searching.{node-standing, search-read, found-moves}
@@ -35,13 +36,14 @@ use Rattle.transactions.proofs.InnerMoves.{after-move, ardok-link, ardf
 
 -- ---- a read, by its test
 
-module _ (d s : List ℕ) (snapshot at a : ℕ) (allowed : Bool) (tested : ReadTested s snapshot at a allowed) where
-  pub read-logged : (s′ : List ℕ) → allowed ≡ true → s′ ≡ logged d s at (readOffset + a) →
-      ReadMade d s snapshot at a (Moved 8) s′
-  read-logged s′ e b = record { allowed = true; tested = rw e at tested; reply = refl; bytes = b }
+module _ (d s : List ℕ) (snapshot at a : ℕ) (lacks : Shortage) (tested : ReadTested s snapshot at a lacks) where
+  pub read-logged : (s′ : List ℕ) → lacks ≡ Enough → s′ ≡ logged d s at (readOffset + a) →
+      ReadMade d s snapshot at a (Moved 8 Enough) s′
+  read-logged s′ e b = record { lacks = Enough; tested = rw e at tested; reply = refl; bytes = b }
 
-  pub read-fails : allowed ≡ false → ReadMade d s snapshot at a (Moved 9) (set s (at + leafTerm) noRecord)
-  read-fails e = record { allowed = false; tested = rw e at tested; reply = refl; bytes = refl }
+  pub read-fails : (b k : ℕ) → lacks ≡ Short b k →
+      ReadMade d s snapshot at a (Moved 9 (Short b k)) (set s (at + leafTerm) noRecord)
+  read-fails b k e = record { lacks = Short b k; tested = rw e at tested; reply = refl; bytes = refl }
 
 -- ---- what stands inside
 
@@ -77,23 +79,23 @@ module _ (d s starts : List ℕ) (n p at : ℕ) where
         let z = hall-length (x .there .holds) in record { fits = omega arith }
 
     -- it may be moved by the rule that was read
-    can-move : (rule : ℕ) → RuleRead d s (snapshotOf starts p) at (Moved rule) →
+    can-move : (rule : ℕ) {w : Shortage} → RuleRead d s (snapshotOf starts p) at (Moved rule w) →
         MoveAt (x .terms) (x .configuration) d s starts n p (x .node) rule at
     can-move rule read =
         found-moves (x .node) rule at (x .there) (x .place)
         (search-read d s (getD starts p 0) (x .node) (At at) (sym (x .place)) refl read)
 
-  moved-by : (rule : ℕ) {s′ starts′ : List ℕ} → RuleRead d s (snapshotOf starts p) at (Moved rule) →
+  moved-by : (rule : ℕ) {w : Shortage} {s′ starts′ : List ℕ} → RuleRead d s (snapshotOf starts p) at (Moved rule w) →
       HasMoved d s starts n p rule at s′ starts′ →
-      NodeMoved d s starts n p at (Moved rule) s′ starts′
-  moved-by rule {s′} {starts′} read done = record {
+      NodeMoved d s starts n p at (Moved rule w) s′ starts′
+  moved-by rule {s′ = s′} {starts′} read done = record {
     read = read;
-    made = λ k e. let same : rule ≡ k = cc in rw (← same) done;
+    made = λ k v e. let same : rule ≡ k = cc in rw (← same) done;
     unchanged = λ m e. absurd (let z : _≡_ {A = ℕ} 0 1 = cc in omega arith);
   }
 
   -- a part that gives way, whichever configuration is held
-  module _ (rule : ℕ) (rules : RuleRead d s (snapshotOf starts p) at (Moved rule)) {to : ℕ} {new : List ℕ}
+  module _ (rule : ℕ) (rules : RuleRead d s (snapshotOf starts p) at (Moved rule Enough)) {to : ℕ} {new : List ℕ}
       (link : (ts : List Term) (h : Configuration) (k : ℕ) (x : MoveAt ts h d s starts n p k rule at) →
       Alters ts h (after-move x) s starts n p at to new) where
     part-can : NodeStands d s starts n p at → CanAlter s starts n p at to new
@@ -105,7 +107,7 @@ module _ (d s starts : List ℕ) (n p at : ℕ) where
     }
 
     part-moved : {s′ starts′ : List ℕ} → Altered s starts n p at to new s′ starts′ →
-        NodeMoved d s starts n p at (Moved rule) s′ starts′
+        NodeMoved d s starts n p at (Moved rule Enough) s′ starts′
     part-moved r =
         moved-by rule rules
         (record { found = λ ts h k x. rw (move-inside x .after) (r .found ts h _ (link ts h k x)) })
@@ -122,23 +124,22 @@ module _ (d s starts : List ℕ) (n p at : ℕ) where
 
       pub read-moved : {r : Reply} {s′ : List ℕ} → ReadMade d s (snapshotOf starts p) at a r s′ →
           NodeMoved d s starts n p at r s′ starts
-      read-moved {r} {s′} m = rw (m .reply) (go (m .allowed) (m .tested) (m .bytes))
+      read-moved {r} {s′} m = rw (m .reply) (go (m .lacks) (m .tested) (m .bytes))
         where
-          go : (b : Bool) → ReadTested s (snapshotOf starts p) at a b →
-              s′ ≡ cond b (logged d s at (readOffset + a)) (set s (at + leafTerm) noRecord) →
-              NodeMoved d s starts n p at (Moved (cond b 8 9)) s′ starts
-          go true tested bytes =
+          go : (w : Shortage) → ReadTested s (snapshotOf starts p) at a w → s′ ≡ readBytes d s at a w →
+              NodeMoved d s starts n p at (Moved (readNumber w) w) s′ starts
+          go Enough tested bytes =
               moved-by 8
               (read-rule d s (snapshotOf starts p) at read is
-              (read-allowed s (snapshotOf starts p) at a true tested refl))
+              (read-allowed s (snapshotOf starts p) at a Enough tested refl))
               (record {
                 found = λ ts h k x.
                     let (m, M, δ, was) = redex-here read is (move-inside x .stands) in rw bytes (ardok-link x was refl);
               })
-          go false tested bytes =
+          go (Short b j) tested bytes =
               moved-by 9
               (read-rule d s (snapshotOf starts p) at read is
-              (read-failed s (snapshotOf starts p) at a false tested refl))
+              (read-failed s (snapshotOf starts p) at a (Short b j) tested b j refl))
               (record {
                 found = λ ts h k x.
                     let (m, M, δ, was) = redex-here read is (move-inside x .stands) in rw bytes (ardf-link x was refl);
@@ -160,7 +161,7 @@ module _ (d s starts : List ℕ) (n p at : ℕ) where
       write-fits x = let l = written x .1 in record { fits = omega arith }
 
       pub write-moved : {s′ : List ℕ} → s′ ≡ logged d s at (writeOffset + a) →
-          NodeMoved d s starts n p at (Moved 10) s′ starts
+          NodeMoved d s starts n p at (Moved 10 Enough) s′ starts
       write-moved {s′} b =
           moved-by 10 (write-rule d s (snapshotOf starts p) at read is)
           (record {
@@ -184,7 +185,7 @@ module _ (d s starts : List ℕ) (n p at : ℕ) where
       split-can x = part-can 11 (or-else-rule d s (snapshotOf starts p) at read is) split-link x
 
       pub split-moved : {s′ starts′ : List ℕ} → Altered s starts n p at (at + leafSize) (forkBytes d s at) s′ starts′ →
-          NodeMoved d s starts n p at (Moved 11) s′ starts′
+          NodeMoved d s starts n p at (Moved 11 Enough) s′ starts′
       split-moved r = part-moved 11 (or-else-rule d s (snapshotOf starts p) at read is) split-link r
 
     -- a left side that says retry
@@ -201,7 +202,7 @@ module _ (d s starts : List ℕ) (n p at : ℕ) where
       drop-can x = part-can 12 (left-retries-rule d s (snapshotOf starts p) at read is) drop-link x
 
       pub drop-moved : {s′ starts′ : List ℕ} → Altered s starts n p at (at + leftSize) [] s′ starts′ →
-          NodeMoved d s starts n p at (Moved 12) s′ starts′
+          NodeMoved d s starts n p at (Moved 12 Enough) s′ starts′
       drop-moved r = part-moved 12 (left-retries-rule d s (snapshotOf starts p) at read is) drop-link r
 
     -- one that ends
@@ -218,13 +219,13 @@ module _ (d s starts : List ℕ) (n p at : ℕ) where
       keep-can x = part-can 13 (left-ends-rule d s (snapshotOf starts p) at read is) keep-link x
 
       pub keep-moved : {s′ starts′ : List ℕ} → Altered s starts n p at (treeEnd s at) (leftBytes s at) s′ starts′ →
-          NodeMoved d s starts n p at (Moved 13) s′ starts′
+          NodeMoved d s starts n p at (Moved 13 Enough) s′ starts′
       keep-moved r = part-moved 13 (left-ends-rule d s (snapshotOf starts p) at read is) keep-link r
 
     -- none of these
     pub stays : w ≡ Nothing → NodeMoved d s starts n p at (Refused 17) s starts
     stays is = record {
       read = no-rule d s (snapshotOf starts p) at read is;
-      made = λ k e. absurd (let z : _≡_ {A = ℕ} 0 1 = cc in omega arith);
+      made = λ k v e. absurd (let z : _≡_ {A = ℕ} 0 1 = cc in omega arith);
       unchanged = λ k e. (refl, refl);
     }

@@ -10,6 +10,7 @@ use Rattle.calculus.specs.Syntax.{State}
 use Rattle.calculus.specs.Reduction.{Rule}
 use Rattle.semantics.specs.Definitions.Basics.{replaceAt}
 use Rattle.semantics.specs.Definitions.Terms.{Expression, Term}
+use Rattle.semantics.specs.Definitions.Shortage.{Shortage}
 use Rattle.semantics.specs.Definitions.Configuration.{Tree, Component, idle, transaction, Configuration}
 use Rattle.semantics.specs.Definitions.Stored.{WellFormed}
 use Rattle.semantics.specs.Definitions.Moves.{moves, Inner, evolves, noRule, outOfRange, inner, innerLocal, actsInside, inside, moved, answerTo, ruleNumber}
@@ -19,7 +20,6 @@ use Rattle.storedlaws.specs.Positions.{Context, plug, around}
 use Rattle.storedlaws.proofs.Nodes.{inner-node}
 use Rattle.index.specs.Holds.{replacedAt}
 use Rattle.index.specs.Choices.{afterwards}
-use Rattle.index.proofs.Acting.{by-number}
 use Rattle.index.proofs.Holding.{NodeAt, node-found}
 use Rattle.leaves.specs.Leaves.{TreeAt}
 use Rattle.leaves.proofs.Leaves.{node-at}
@@ -38,7 +38,8 @@ pub record Inside (ts : List Term) (h : Configuration) (d s starts : List ℕ) (
   pub stands : TreeAt ts subtree d s at
   pub by : Rule
   pub number : ruleNumber by ≡ rule
-  pub steps : inner snapshot subtree 0 ≡ evolves by becomes
+  pub lacks : Shortage
+  pub steps : inner snapshot subtree 0 ≡ evolves by lacks becomes
   pub form : WellFormed ts (replacedAt p (transaction block body snapshot (plug context becomes) ∷ []) h)
   pub after : afterwards (answerTo h (inside p k)) h
       ≡ replacedAt p (transaction block body snapshot (plug context becomes) ∷ []) h
@@ -53,20 +54,21 @@ module _ {ts : List Term} {h : Configuration} {d s starts : List ℕ} {n p k rul
   pub move-inside : Inside ts h d s starts n p k rule at
   unfolding positionOf localMove actsInside innerLocal around afterwards
   move-inside =
-      let b = by-number h (inside p k) rule (x .reply) in
+      let b = x .by in
       let a = accepted-inverts h (inside p k) (b .rule) (b .result) (b .answer) in
-      byComponent (b .rule) (b .result) (a .laid) (b .answer) (b .number) (a .placed) (a .component) (a .found)
+      byComponent (b .rule) (a .lacks) (b .result) (a .laid) (b .answer) (b .numbered) (a .placed) (a .component) (a .found)
       (a .local)
     where
-      byInner : (r : Rule) (g : Configuration) (laid : List Component) → answerTo h (inside p k) ≡ moved r g →
+      byInner : (r : Rule) (lacks : Shortage) (g : Configuration) (laid : List Component) → answerTo h (inside p k) ≡ moved r g →
           ruleNumber r ≡ rule →
           g .components ≡ replaceAt p laid (h .components) → (m : ℕ) (M : Expression) (σ : State) (t : Tree) →
           getElem? (h .components) p ≡ some (transaction m M σ t) → (y : Context) (u : Tree) →
           NodeAt s starts p t k at y u →
-          (I : Inner) → inner σ u 0 ≡ I → innerLocal (h .counts) m M σ (around y I) ≡ moves r (g .counts) laid →
+          (I : Inner) → inner σ u 0 ≡ I → innerLocal (h .counts) m M σ (around y I) ≡ moves r lacks (g .counts) laid →
           Inside ts h d s starts n p k rule at
-      byInner r g laid q number placed m M σ t e y u w (evolves r′ v) i f =
+      byInner r lacks g laid q number placed m M σ t e y u w (evolves r′ told v) i f =
           let same-rule : r′ ≡ r = cc in
+          let same-told : told ≡ lacks = cc in
           let same-laid : laid ≡ transaction m M σ (plug y v) ∷ [] = cc in
           let is : g ≡ replacedAt p (transaction m M σ (plug y v) ∷ []) h =
           configured g (h .counts) _ (cc) (placed ∙ rw same-laid) in
@@ -83,20 +85,21 @@ module _ {ts : List Term} {h : Configuration} {d s starts : List ℕ} {n p k rul
             stands = node-at (x .decoded) (x .holds) p m M σ t e w;
             by = r;
             number = number;
-            steps = i ∙ rw same-rule;
+            lacks = lacks;
+            steps = i ∙ rw (same-rule, same-told);
             form = rw is at (well-formed-step (inside p k) (x .holds .good) (x .holds .form) q);
             after = rw q is;
           }
-      byInner r g laid q number placed m M σ t e y u w noRule i f = let z : _≡_ {A = ℕ} 0 1 = cc in absurd (omega arith)
-      byInner r g laid q number placed m M σ t e y u w (outOfRange j) i f =
+      byInner r lacks g laid q number placed m M σ t e y u w noRule i f = let z : _≡_ {A = ℕ} 0 1 = cc in absurd (omega arith)
+      byInner r lacks g laid q number placed m M σ t e y u w (outOfRange j) i f =
           let z : _≡_ {A = ℕ} 0 1 = cc in absurd (omega arith)
 
-      byComponent : (r : Rule) (g : Configuration) (laid : List Component) → answerTo h (inside p k) ≡ moved r g →
+      byComponent : (r : Rule) (lacks : Shortage) (g : Configuration) (laid : List Component) → answerTo h (inside p k) ≡ moved r g →
           ruleNumber r ≡ rule →
           g .components ≡ replaceAt p laid (h .components) → (c : Component) → getElem? (h .components) p ≡ some c →
-          actsInside (h .counts) c k ≡ moves r (g .counts) laid → Inside ts h d s starts n p k rule at
-      byComponent r g laid q number placed (idle c) e f = let z : _≡_ {A = ℕ} 0 1 = cc in absurd (omega arith)
-      byComponent r g laid q number placed (transaction m M σ t) e f =
+          actsInside (h .counts) c k ≡ moves r lacks (g .counts) laid → Inside ts h d s starts n p k rule at
+      byComponent r lacks g laid q number placed (idle c) e f = let z : _≡_ {A = ℕ} 0 1 = cc in absurd (omega arith)
+      byComponent r lacks g laid q number placed (transaction m M σ t) e f =
           let (y, u, w) = node-found (x .holds) p m M σ t e k at (x .place) in
-          byInner r g laid q number placed m M σ t e y u w (inner σ u 0) refl
+          byInner r lacks g laid q number placed m M σ t e y u w (inner σ u 0) refl
           (ap (innerLocal (h .counts) m M σ) (sym (inner-node σ t k y u (w .there))) ∙ f)

@@ -9,12 +9,13 @@ use lib.ListN.{length, getD, getElem?}
 use Rattle.calculus.specs.Syntax.{State}
 use Rattle.semantics.specs.Definitions.Terms.{Expression, Term}
 use Rattle.semantics.specs.Definitions.Configuration.{Tree, transaction, Configuration}
-use Rattle.semantics.specs.Definitions.Moves.{Inner, evolves, noRule, outOfRange, inner, innerLocal, actsInside, inside, applyAt, answerTo, replyOf}
+use Rattle.semantics.specs.Definitions.Moves.{Inner, evolves, noRule, outOfRange, inner, innerLocal, actsInside, inside, applyAt, respondTo, replyOf}
 use Rattle.theorems.proofs.Lists.{found-below, length-replaceAt}
-use Rattle.theorems.proofs.Moves.{positionOf, localMove, chosen-at, accepted-made}
+use Rattle.theorems.proofs.Moves.{positionOf, localMove, chosen-at, response-made}
 use Rattle.rules.specs.declared.Reply.{Reply}
+use Rattle.rules.specs.declared.Shortage.{Shortage}
 use Rattle.rules.specs.declared.Reply.the-variants.{Moved, Refused}
-use Rattle.rules.specs.Replies.{replyIs}
+use Rattle.rules.specs.Replies.{shortageIs, replyIs}
 use Rattle.stored.specs.declared.Place.{Place}
 use Rattle.stored.specs.declared.Place.the-variants.{At, Nowhere}
 use Rattle.stored.specs.Layout.{idleSize, transactionHead}
@@ -22,6 +23,7 @@ use Rattle.stored.specs.Nodes.{nodeStart}
 use Rattle.storedlaws.specs.Positions.{Context, node, beyond, subtreeAt, around}
 use Rattle.storedlaws.proofs.Nodes.{inner-node, inner-past}
 use Rattle.index.specs.Holds.{Holds}
+use Rattle.index.proofs.Acting.{by-number}
 use Rattle.index.proofs.Holding.{NodeAt, component-here, snapshot-sixteen, node-found, node-nowhere}
 use Rattle.logs.specs.Places.{CountsAt}
 use Rattle.logs.proofs.Places.{counts-held, snapshot-counts}
@@ -36,35 +38,35 @@ module _ {ts : List Term} {h : Configuration} {s starts : List ℕ} {n : ℕ} (x
     (M : Expression)
     (σ : State) (t : Tree) (e : getElem? (h .components) p ≡ some (transaction m M σ t)) where
   -- what the tree is answered is what the entry is: a move inside leaves as many components
-  pub reply-inside : (k : ℕ) → replyOf (answerTo h (inside p k)) ≡ innerReply (inner σ t k)
+  pub reply-inside : (k : ℕ) → replyOf (respondTo h (inside p k)) ≡ innerReply (inner σ t k)
   unfolding positionOf localMove actsInside innerLocal applyAt replyOf innerReply
   reply-inside k = go (inner σ t k) refl
     where
-      go : (I : Inner) → inner σ t k ≡ I → replyOf (answerTo h (inside p k)) ≡ innerReply I
-      go (evolves r u) q =
+      go : (I : Inner) → inner σ t k ≡ I → replyOf (respondTo h (inside p k)) ≡ innerReply I
+      go (evolves r w u) q =
           let l =
           length-replaceAt (h .components) (transaction m M σ u ∷ []) p
           (found-below (h .components) p (transaction m M σ t) e) in
           let f = x .form .few in
           rw
-          (accepted-made h (inside p k) r (h .counts) (transaction m M σ t) (transaction m M σ u ∷ []) e (rw q)
+          (response-made h (inside p k) r {w = w} (h .counts) (transaction m M σ t) (transaction m M σ u ∷ []) e (rw q)
           (omega arith))
       go noRule q = rw (chosen-at h (inside p k) (transaction m M σ t) e, q)
       go (outOfRange j) q = rw (chosen-at h (inside p k) (transaction m M σ t) e, q)
 
   -- at a node
   pub reply-node : (k : ℕ) (y : Context) (u : Tree) → subtreeAt t k ≡ node y u →
-      replyOf (answerTo h (inside p k)) ≡ innerReply (inner σ u 0)
+      replyOf (respondTo h (inside p k)) ≡ innerReply (inner σ u 0)
   unfolding around innerReply
   reply-node k y u f = reply-inside k ∙ ap innerReply (inner-node σ t k y u f) ∙ go (inner σ u 0)
     where
       go : (I : Inner) → innerReply (around y I) ≡ innerReply I
-      go (evolves r v) = refl
+      go (evolves r w v) = refl
       go noRule = refl
       go (outOfRange j) = refl
 
   -- past the last one
-  pub reply-past : (k j : ℕ) → subtreeAt t k ≡ beyond j → replyOf (answerTo h (inside p k)) ≡ innerReply (outOfRange j)
+  pub reply-past : (k j : ℕ) → subtreeAt t k ≡ beyond j → replyOf (respondTo h (inside p k)) ≡ innerReply (outOfRange j)
   reply-past k j f = reply-inside k ∙ ap innerReply (inner-past σ t k j f)
 
 -- ---- an open transaction
@@ -120,7 +122,7 @@ pub record Findable (d s : List ℕ) (transaction : ℕ) : Type 0 where
 pub record Searched (d s : List ℕ) (transaction k : ℕ) (r : Reply) : Type 0 where
   pub found : (ts : List Term) (h : Configuration) (starts : List ℕ) (n p : ℕ) →
       TransactionAt ts h d s starts n p transaction →
-      replyIs r ≡ replyOf (answerTo h (inside p k))
+      replyIs r ≡ replyOf (respondTo h (inside p k))
 
 module _ (d s : List ℕ) (transaction : ℕ) (x : Findable d s transaction) where
   pub findable-inside : transaction + transactionHead ≤ length s
@@ -166,13 +168,13 @@ module _ (d s : List ℕ) (transaction k : ℕ) (r : Place)
 
 -- ---- what was found can be made
 
-pub found-moves : {ts : List Term} {h : Configuration} {d s starts : List ℕ} {n p transaction : ℕ} (k rule at : ℕ) →
+pub found-moves : {ts : List Term} {h : Configuration} {d s starts : List ℕ} {n p transaction : ℕ} {w : Shortage} (k rule at : ℕ) →
     TransactionAt ts h d s starts n p transaction → nodeStart s (transaction + transactionHead) k ≡ At at →
-    Searched d s transaction k (Moved rule) → MoveAt ts h d s starts n p k rule at
+    Searched d s transaction k (Moved rule w) → MoveAt ts h d s starts n p k rule at
 unfolding replyIs
-found-moves {ts} {h} {starts = starts} {n = n} {p = p} k rule at x place found = record {
+found-moves {ts} {h} {starts = starts} {n = n} {p = p} {w = w} k rule at x place found = record {
   decoded = x .decoded;
   holds = x .holds;
   place = rw (x .begins) at place;
-  reply = sym (found .found ts h starts n p x);
+  by = by-number h (inside p k) rule (shortageIs w) (sym (found .found ts h starts n p x));
 }

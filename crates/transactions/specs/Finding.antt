@@ -4,16 +4,16 @@
 -- Assumes nothing.
 use Prim.Native.Nat.{ℕ, _+_, _≤_, _<_}
 use mathlib.Core.Path.{_≡_}
-use mathlib.Core.Bool.{Bool}
 use mathlib.Core.List.{List, [], _∷_, _++_}
 use lib.ListN.{length}
 use Rattle.calculus.specs.Syntax.{rd, Log, State}
 use Rattle.semantics.specs.Definitions.Terms.{Expression, endT, retryT, rdT, wtT, orElseT, Term}
-use Rattle.semantics.specs.Definitions.Logs.{readable}
+use Rattle.semantics.specs.Definitions.Logs.{shortage}
 use Rattle.semantics.specs.Definitions.Configuration.{Tree, leaf, fork}
 use Rattle.semantics.specs.Definitions.Moves.{Inner, evolves, noRule, outOfRange, reads, inner, ruleNumber, Reply, movedBy, refusedBy}
 use Rattle.rules.specs.declared.Reply as code
-use Rattle.rules.specs.Replies.{replyIs}
+use Rattle.rules.specs.declared.Shortage.{Shortage}
+use Rattle.rules.specs.Replies.{shortageIs, replyIs}
 use Rattle.stored.specs.Layout.{channels, leafSize, leafLog, logSize}
 use Rattle.logs.specs.Places.{LogAt, CountsAt}
 use Rattle.leaves.specs.Leaves.{TreeAt}
@@ -26,7 +26,7 @@ use Rattle.transactions.specs.Bytes.{sizeAt}
 -- what a move of a tree is answered
 unfoldable pub innerReply : Inner → Reply
 unfolding ruleNumber
-innerReply (evolves r t) = movedBy (ruleNumber r)
+innerReply (evolves r w t) = movedBy (ruleNumber r) w
 innerReply noRule = refusedBy 17
 innerReply (outOfRange k) = refusedBy 16
 
@@ -47,11 +47,11 @@ pub record ReadHeld (s : List ℕ) (snapshot at : ℕ) : Type 0 where
   pub few : sizeAt s at ≤ logSize
   pub counted : snapshot + channels ≤ length s
 
--- r tells whether the log with a read of channel a is readable at the counts, whatever they are
-pub record ReadTested (s : List ℕ) (snapshot at a : ℕ) (r : Bool) : Type 0 where
-  pub found : (δ : Log) (σ : State) → ReadAt s snapshot at δ σ → r ≡ readable σ (δ ++ (rd a ∷ []))
+-- r tells what the log with a read of channel a is short of at the counts, whatever they are
+pub record ReadTested (s : List ℕ) (snapshot at a : ℕ) (r : Shortage) : Type 0 where
+  pub found : (δ : Log) (σ : State) → ReadAt s snapshot at δ σ → shortageIs r ≡ shortage σ (δ ++ (rd a ∷ []))
 
--- r tells the rule by which a read of channel a moves, whatever the log, the counts and what follows are
+-- r tells the rule by which a read of channel a moves, and what was short, whatever the log, the counts and what follows are
 pub record ReadTried (s : List ℕ) (snapshot at a : ℕ) (r : code.Reply) : Type 0 where
   pub found : (δ : Log) (σ : State) (M : Expression) → ReadAt s snapshot at δ σ →
       replyIs r ≡ innerReply (reads σ a M δ)

@@ -4,18 +4,19 @@
 -- Assumes nothing.
 use Prim.Native.Nat.{ℕ, _+_}
 use mathlib.Core.Path.{_≡_}
-use mathlib.Core.Bool.{Bool, cond}
 use mathlib.Core.List.{List}
 use lib.ListN.{getD, set}
 use Rattle.semantics.specs.Definitions.Terms.{Term}
 use Rattle.semantics.specs.Definitions.Configuration.{Configuration}
-use Rattle.semantics.specs.Definitions.Moves.{inside, answerTo, movedBy, replyOf}
+use Rattle.semantics.specs.Definitions.Moves.{inside, answerTo}
 use Rattle.terms.specs.Decoded.{Decoded}
 use Rattle.stored.specs.declared.Place.the-variants.{At}
 use Rattle.stored.specs.Layout.{idleSize, transactionHead, leafTerm, noRecord, readOffset}
 use Rattle.stored.specs.Nodes.{nodeStart}
 use Rattle.index.specs.Holds.{Holds}
-use Rattle.index.specs.Choices.{afterwards}
+use Rattle.index.specs.Choices.{afterwards, AcceptedBy}
+use Rattle.rules.specs.declared.Shortage.{Shortage}
+use Rattle.rules.specs.declared.Shortage.the-variants.{Enough, Short}
 use Rattle.rules.specs.declared.Reply.{Reply}
 use Rattle.rules.specs.declared.Reply.the-variants.{Moved, Refused}
 use Rattle.leaves.specs.Leaves.{TransactionAt}
@@ -27,7 +28,7 @@ pub record MoveAt (ts : List Term) (h : Configuration) (d s starts : List ℕ) (
   pub decoded : Decoded ts d
   pub holds : Holds ts h s starts n
   pub place : nodeStart s (getD starts p 0 + transactionHead) k ≡ At at
-  pub reply : replyOf (answerTo h (inside p k)) ≡ movedBy rule
+  pub by : AcceptedBy h (inside p k) rule
 
 -- whichever configuration was held, what the move makes of it is held now, and there are as many components
 pub record HasMoved (d s starts : List ℕ) (n p rule at : ℕ) (s′ starts′ : List ℕ) : Type 0 where
@@ -36,12 +37,21 @@ pub record HasMoved (d s starts : List ℕ) (n p rule at : ℕ) (s′ starts′ 
 
 -- ---- a read that is made
 
--- r is the rule by which a read of channel a moves, and the leaf with it logged, or become a retry, is in s′
+-- by what it is short of: its rule, and the bytes with the leaf where it is logged, or which has become a retry
+abbrev pub readNumber : Shortage → ℕ
+readNumber Enough = 8
+readNumber (Short b k) = 9
+
+abbrev pub readBytes : (d s : List ℕ) (at a : ℕ) → Shortage → List ℕ
+readBytes d s at a Enough = logged d s at (readOffset + a)
+readBytes d s at a (Short b k) = set s (at + leafTerm) noRecord
+
+-- r is the rule by which a read of channel a moves, with what it is short of, and s′ are the bytes afterwards
 pub record ReadMade (d s : List ℕ) (snapshot at a : ℕ) (r : Reply) (s′ : List ℕ) : Type 0 where
-  pub allowed : Bool
-  pub tested : ReadTested s snapshot at a allowed
-  pub reply : r ≡ Moved (cond allowed 8 9)
-  pub bytes : s′ ≡ cond allowed (logged d s at (readOffset + a)) (set s (at + leafTerm) noRecord)
+  pub lacks : Shortage
+  pub tested : ReadTested s snapshot at a lacks
+  pub reply : r ≡ Moved (readNumber lacks) lacks
+  pub bytes : s′ ≡ readBytes d s at a lacks
 
 -- ---- a node that moves, by what stands there
 
@@ -60,5 +70,5 @@ pub record NodeStands (d s starts : List ℕ) (n p at : ℕ) : Type 0 where
 -- r is what the node is answered; its move is made, or all is as it was
 pub record NodeMoved (d s starts : List ℕ) (n p at : ℕ) (r : Reply) (s′ starts′ : List ℕ) : Type 0 where
   pub read : RuleRead d s (snapshotOf starts p) at r
-  pub made : (rule : ℕ) → r ≡ Moved rule → HasMoved d s starts n p rule at s′ starts′
+  pub made : (rule : ℕ) (w : Shortage) → r ≡ Moved rule w → HasMoved d s starts n p rule at s′ starts′
   pub unchanged : (m : ℕ) → r ≡ Refused m → (s′ ≡ s) × (starts′ ≡ starts)

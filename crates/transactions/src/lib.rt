@@ -16,6 +16,7 @@ use rules::AOI;
 use rules::AWR;
 use rules::NO_RULE;
 use rules::Reply;
+use rules::Shortage;
 use stored::IDLE_SIZE;
 use stored::INDEX_SIZE;
 use stored::WRITE_OFFSET;
@@ -30,10 +31,10 @@ pub fn rule_at(decoded: &[u8; DECODED], hall: &[u8], snapshot: usize, at: usize)
 {
     match redex_at(decoded, hall, at) {
         Redex::Read { channel } => reads::read_rule(hall, snapshot, at, channel),
-        Redex::Write { channel: _ } => Reply::Moved(AWR),
-        Redex::OrElse => Reply::Moved(AOI),
-        Redex::LeftEnds => Reply::Moved(AOE),
-        Redex::LeftRetries => Reply::Moved(AOF),
+        Redex::Write { channel: _ } => Reply::Moved(AWR, Shortage::Enough),
+        Redex::OrElse => Reply::Moved(AOI, Shortage::Enough),
+        Redex::LeftEnds => Reply::Moved(AOE, Shortage::Enough),
+        Redex::LeftRetries => Reply::Moved(AOF, Shortage::Enough),
         Redex::Nothing => Reply::Refused(NO_RULE),
     }
 }
@@ -57,19 +58,19 @@ pub fn move_at(
         }
         Redex::Write { channel } => {
             actions::log_action(decoded, hall, at, WRITE_OFFSET + channel);
-            Reply::Moved(AWR)
+            Reply::Moved(AWR, Shortage::Enough)
         }
         Redex::OrElse => {
             alternatives::split(decoded, hall, starts, components, position, at);
-            Reply::Moved(AOI)
+            Reply::Moved(AOI, Shortage::Enough)
         }
         Redex::LeftEnds => {
             alternatives::keep_left(hall, starts, components, position, at);
-            Reply::Moved(AOE)
+            Reply::Moved(AOE, Shortage::Enough)
         }
         Redex::LeftRetries => {
             alternatives::drop_left(hall, starts, components, position, at);
-            Reply::Moved(AOF)
+            Reply::Moved(AOF, Shortage::Enough)
         }
         Redex::Nothing => Reply::Refused(NO_RULE),
     }

@@ -71,7 +71,7 @@ pub(crate) fn run_from_opening(table: &[u8], choices: &[u8]) -> Run {
 /// The hall after an accepted choice, and its rule.
 pub(crate) fn moved(table: &Table, hall: &Hall, choice: Choice) -> (u8, Hall) {
     match make_move(table, hall, choice) {
-        Outcome::Moved { rule, hall } => (rule, hall),
+        Outcome::Moved { rule, hall, .. } => (rule, hall),
         Outcome::Refused(number) => panic!("{choice:?} refused with {number}"),
     }
 }

@@ -6,6 +6,7 @@ use std::path::Path;
 
 use reference::edges::{lines, printed};
 use reference::sentence::{sentence, Reply};
+use reference::shortage::Shortage;
 
 /// The text of a document.
 fn text(document: &str) -> String {
@@ -45,17 +46,26 @@ fn agrees(block: &[String]) -> bool {
     }
 }
 
-/// The sentence that the first line of a block asks for: kind, position, node, answer and its number. Nothing where the
-/// line has another form.
+/// The sentence that the first line of a block asks for: kind, position, node, answer and its number; where something was
+/// short, its tray and by how many behind them. Nothing where the line has another form.
 fn asked(line: &str) -> Option<String> {
     let words: Vec<&str> = line.split(' ').collect();
-    let [kind, position, node, answer, number] = words[..] else {
-        return None;
+    let ([kind, position, node, answer, number], short) = match words[..] {
+        [kind, position, node, answer, number] => ([kind, position, node, answer, number], None),
+        [kind, position, node, answer, number, tray, by] => {
+            let (tray, by) = (tray.parse().ok()?, by.parse().ok()?);
+            let short = Some(Shortage { tray, by });
+            ([kind, position, node, answer, number], short)
+        }
+        _ => return None,
     };
     let number = number.parse().ok()?;
-    let reply = match answer {
-        "moved" => Reply::Moved(number),
-        "refused" => Reply::Refused(number),
+    let reply = match (answer, short) {
+        ("moved", short) => Reply::Moved {
+            rule: number,
+            short,
+        },
+        ("refused", None) => Reply::Refused(number),
         _ => return None,
     };
     let (kind, position, node) = (
@@ -84,7 +94,11 @@ fn examples_of_the_byte_forms() {
         assert!(agrees(block), "{block:?}");
     }
     let sentences = blocks("docs/FORMAT.md", "say");
-    assert_eq!(sentences.len(), 3, "a rule, a refusal, a number alone");
+    assert!(
+        sentences.len() >= 3,
+        "a rule, a refusal, a number alone: {}",
+        sentences.len()
+    );
     for block in &sentences {
         assert!(says(block), "{block:?}");
     }
@@ -113,7 +127,8 @@ fn words_of_the_byte_forms() {
     assert!(refusals.iter().map(|(number, _)| *number).eq(1..=20));
     for (rule, words) in rules {
         let expected = format!("Kind 1 at station 0 moved by rule {rule}, {words}.");
-        assert_eq!(sentence(1, 0, 0, Reply::Moved(rule)), expected);
+        let reply = Reply::Moved { rule, short: None };
+        assert_eq!(sentence(1, 0, 0, reply), expected);
     }
     for (number, words) in refusals {
         let expected = format!("Kind 1 at station 0 met refusal {number}, {words}.");
@@ -148,8 +163,24 @@ fn a_sentence_for_something_else_is_noticed() {
         "2 3 14 failed 17",
         "2 3 14 17",
         "2 3 14 refused 17 0",
+        "2 3 14 refused 17 0 0", // a refusal finds nothing short
     ] {
         assert!(!says(&block(line)), "{line}");
+    }
+    let said = "Kind 1 at station 0 moved by rule 6, commit failed, tray 3 short by 1.";
+    let short = |line: &str| [line.to_string(), said.to_string()];
+    assert!(says(&short("1 0 7 moved 6 3 1")));
+    for line in [
+        "1 0 7 moved 6",
+        "1 0 7 moved 6 3",
+        "1 0 7 moved 6 1 3",
+        "1 0 7 moved 6 3 2",
+        "1 0 7 moved 6 3 257", // 1, were it cut down to a byte
+        "1 0 7 moved 6 3 1 0",
+        "1 0 7 moved 9 3 1",
+        "1 0 7 refused 6 3 1",
+    ] {
+        assert!(!says(&short(line)), "{line}");
     }
     // A line is missing, or left over.
     assert!(!says(&block("2 3 14 refused 17")[..1]));

@@ -30,8 +30,8 @@ fn said(name: &str, words: &str) -> Option<Vec<usize>> {
 }
 
 /// What an edge claims by its name and what it gives: the refusal with its
-/// place, the rule of the first choice, the tally of the run, and what is
-/// suggested for the hall that the run left.
+/// place, the rule of the first choice and what was short, the tally of the
+/// run, and what is suggested for the hall that the run left.
 struct Edge {
     name: String,
     stored: bool,
@@ -66,14 +66,54 @@ fn as_said(edge: &Edge) -> bool {
         None => run[0] == 0,
     };
     let by_rule = match said(&edge.name, "by rule ") {
-        Some(rule) => numbers(&edge.text, "M ").is_some_and(|step| step[2..] == rule),
+        Some(rule) => numbers(&edge.text, "M ").is_some_and(|step| step[2..3] == rule),
         None => true,
     };
     let tally = match said(&edge.name, "tally ") {
         Some(tally) => numbers(&edge.text, "C ") == Some(tally),
         None => true,
     };
-    refused && by_rule && tally && suggestion_as_said(edge)
+    refused && by_rule && tally && shortage_as_said(edge) && suggestion_as_said(edge)
+}
+
+/// Whether the line on the first choice tells what the name says was short.
+/// Every call on a stored hall has that line, and no printed run has it. Beside
+/// rules 6 and 9 something is short, by more than 0, and beside nothing else.
+fn shortage_as_said(edge: &Edge) -> bool {
+    let expected = shortage_said(&edge.name);
+    if expected.is_none() && edge.name.contains("short by") {
+        // Words that nothing could be held to.
+        return false;
+    }
+    let Some(line) = numbers(&edge.text, "M ") else {
+        return !edge.stored && expected.is_none();
+    };
+    let &[_, _, rule, tray, by] = &line[..] else {
+        return false;
+    };
+    let fits_its_rule = if [6, 9].contains(&rule) {
+        tray <= 15 && by > 0
+    } else {
+        (tray, by) == (0, 0)
+    };
+    let as_expected = match expected {
+        Some(short) => short == (tray, by),
+        None => true,
+    };
+    fits_its_rule && as_expected
+}
+
+/// What was short by the words of a name: the tray, and by how many.
+fn shortage_said(name: &str) -> Option<(usize, usize)> {
+    if name.ends_with("none is named") {
+        return Some((0, 0));
+    }
+    let tray = said(name, "tray ")?;
+    let by = said(name, "short by ")?;
+    match (&tray[..], &by[..]) {
+        (&[tray], &[by]) => Some((tray, by)),
+        _ => None,
+    }
 }
 
 /// Whether the line on a suggestion is what the name says. Every call on a
@@ -129,7 +169,7 @@ fn the_expected_output_is_what_is_printed_now() {
 #[test]
 fn each_edge_gives_what_its_name_says() {
     let edges = edges();
-    assert!(edges.len() >= 275, "{}", edges.len());
+    assert!(edges.len() >= 316, "{}", edges.len());
     for edge in &edges {
         assert!(as_said(edge), "{}:\n{}", edge.name, edge.text);
     }
@@ -169,6 +209,36 @@ fn every_sort_of_suggestion_is_named() {
     assert!(times(|choice| choice[2] > 0) >= 2, "{named:?}");
 }
 
+/// Names say that the lowest and the highest tray is short, by one and by as many
+/// as a log can read, of commits and of reads, and that nothing is short.
+#[test]
+fn every_sort_of_shortage_is_named() {
+    let named: Vec<(usize, usize, usize)> = edges()
+        .iter()
+        .filter_map(|edge| {
+            let (tray, by) = shortage_said(&edge.name)?;
+            let step = numbers(&edge.text, "M ").expect("a step");
+            Some((step[2], tray, by))
+        })
+        .collect();
+    for expected in [
+        (6, 0, 1),
+        (6, 0, 16),
+        (6, 15, 1),
+        (6, 15, 16),
+        (9, 3, 1),
+        (9, 15, 1),
+        (9, 15, 2),
+        (9, 15, 16),
+        (0, 0, 0),
+    ] {
+        assert!(named.contains(&expected), "{expected:?}");
+    }
+    for rule in [4, 5, 7, 8, 10, 11, 12, 13] {
+        assert!(named.contains(&(rule, 0, 0)), "{rule}");
+    }
+}
+
 /// Whether an edge is noticed to give something else than its name says.
 fn wrong(name: &str, text: &str, stored: bool) -> bool {
     let (name, text) = (name.to_string(), text.to_string());
@@ -183,12 +253,53 @@ fn a_wrong_name_is_noticed() {
     assert!(wrong("accepted", "R 4 1 0\n", false));
     assert!(wrong("this is long", "R 0 0 0\n", false));
     let stored = |name: &str, text: &str| wrong(name, &format!("{text}S 0 0 1 0 0\n"), true);
-    assert!(stored("by rule 3", "M 0 2 2\nR 0 2 1\n"));
+    assert!(stored("by rule 3", "M 0 2 2 0 0\nR 0 2 1\n"));
     assert!(wrong("by rule 3", "R 0 2 1\n", false));
-    assert!(!stored("by rule 3", "M 0 2 3\nR 0 2 1\n"));
-    assert!(stored("tally 1 0 2", "R 0 2 1\nC 1 0 3\n"));
-    assert!(stored("tally 1 0 2", "R 0 2 1\n"));
-    assert!(!stored("tally 1 0 2", "R 0 2 1\nC 1 0 2\n"));
+    assert!(!stored("by rule 3", "M 0 2 3 0 0\nR 0 2 1\n"));
+    let step = "M 0 2 3 0 0\n";
+    assert!(stored("tally 1 0 2", &format!("{step}R 0 2 1\nC 1 0 3\n")));
+    assert!(stored("tally 1 0 2", &format!("{step}R 0 2 1\n")));
+    assert!(!stored("tally 1 0 2", &format!("{step}R 0 2 1\nC 1 0 2\n")));
+}
+
+#[test]
+fn a_wrong_name_of_a_shortage_is_noticed() {
+    let stored =
+        |name: &str, step: &str| wrong(name, &format!("{step}R 0 2 1\nS 0 0 1 0 0\n"), true);
+    let short = "a tray lacks, by rule 6, tray 3 short by 2";
+    assert!(!stored(short, "M 0 2 6 3 2\n"));
+    for other in [
+        "M 0 2 6 3 1\n",
+        "M 0 2 6 2 2\n",
+        "M 0 2 6 2 3\n",
+        "M 0 2 9 3 2\n",
+        "M 0 2 6 0 0\n",
+        "M 0 2 6\n",
+        "M 0 2 6 3\n",
+        "M 0 2 6 3 2 0\n",
+        "",
+    ] {
+        assert!(stored(short, other), "{other}");
+    }
+    let none = "a tray has enough, by rule 7, none is named";
+    assert!(!stored(none, "M 0 2 7 0 0\n"));
+    assert!(stored(none, "M 0 2 7 0 1\n"));
+    assert!(stored(none, "M 0 2 7\n"));
+    assert!(stored(none, ""));
+    // The name lacks a tray or how many.
+    assert!(stored("it is short by 2", "M 0 2 6 3 2\n"));
+    assert!(stored("tray 3 short by some", "M 0 2 6 3 2\n"));
+    // Whatever the name says, something is short beside 6 and 9 alone.
+    for rule in 1..=13 {
+        let fails = [6, 9].contains(&rule);
+        assert_eq!(stored("moved", &format!("M 0 2 {rule} 0 1\n")), !fails);
+        assert_eq!(stored("moved", &format!("M 0 2 {rule} 0 0\n")), fails);
+        assert!(stored("moved", &format!("M 0 2 {rule} 3 0\n")));
+        assert!(stored("moved", &format!("M 0 2 {rule} 16 1\n")));
+    }
+    // A printed run has no such line.
+    assert!(wrong(none, "R 0 0 0\n", false));
+    assert!(wrong(short, "R 0 0 0\n", false));
 }
 
 #[test]
@@ -198,7 +309,7 @@ fn a_wrong_name_of_a_suggestion_is_noticed() {
             Some(refusal) => format!("R {} {} 0\n{suggestion}", refusal[0], refusal[1]),
             None => format!("R 0 0 0\n{suggestion}"),
         };
-        wrong(name, &text, true)
+        wrong(name, &format!("M 0 2 1 0 0\n{text}"), true)
     };
     let first = "the first is suggested, kind 1 at 3";
     assert!(!stored(first, "S 0 0 1 3 0\n"));
@@ -281,6 +392,53 @@ fn the_line_on_a_suggestion() {
         let list = format!("a name: {parts}\n");
         let text = printed(&lines(&list)[0]);
         assert_eq!(text.lines().last(), Some(expected), "{parts}");
+    }
+}
+
+/// The line on the first choice alone: commits and reads that fail, what finds
+/// nothing short, refusals, and a byte that is missing.
+#[test]
+fn the_line_on_the_first_choice() {
+    let table = "7 9 5 0 6 1 1 3 0 3 13 2";
+    let end = "21 2 16x0 23 0 3 5 2 2 13x0";
+    let read = "21 2 2x0 2 13x0 23 1 3 5 2 2 13x0";
+    for (parts, expected) in [
+        (format!("{table} / 16x0 {end} 11291x0 / 1 0"), "M 0 2 6 2 2"),
+        (
+            format!("{table} / 2x0 1 13x0 {end} 11291x0 / 1 0 9"),
+            "M 0 2 6 2 1",
+        ),
+        (
+            format!("{table} / 2x0 2 13x0 {end} 11291x0 / 1 0"),
+            "M 0 2 6 5 1",
+        ),
+        (
+            format!("{table} / 2x0 2 2x0 1 10x0 {end} 11291x0 / 1"),
+            "M 0 2 7 0 0",
+        ),
+        (
+            format!("{table} / 16x9 {read} 11291x0 / 2 0 0"),
+            "M 0 3 9 5 2",
+        ),
+        (format!("{table} / 16x0 {read} 11291x0 / 2"), "M 0 3 9 5 2"),
+        (
+            format!("{table} / 16x0 {read} 11291x0 / 1 0"),
+            "M 15 0 0 0 0",
+        ),
+        (format!("{table} / 16x0 20 4 11326x0 / 1 0"), "M 18 0 0 0 0"),
+        (
+            format!("{table} / 16x0 {end} 11290x0 / 1 0"),
+            "M 10 0 0 0 0",
+        ),
+        (format!("{table} / 16x0 20 2 11326x0 / 1 0"), "M 0 2 4 0 0"),
+        (
+            format!("{table} 9 / 16x0 {end} 11291x0 / 1 0"),
+            "M 9 12 0 0 0",
+        ),
+    ] {
+        let list = format!("a name: {parts}\n");
+        let text = printed(&lines(&list)[0]);
+        assert_eq!(text.lines().nth(3), Some(expected), "{parts}");
     }
 }
 

@@ -13,6 +13,7 @@ mod printed;
 mod refusals;
 mod rehearsals;
 mod sentences;
+mod shortages;
 mod steps;
 mod stored_halls;
 mod suggestions;

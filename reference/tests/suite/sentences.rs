@@ -3,14 +3,27 @@
 
 use std::collections::HashSet;
 
+use reference::build::Builder;
 use reference::calls::{self, say, StepAnswer};
 use reference::generator::Random;
 use reference::run::Tally;
 use reference::sentence::{sentence, Reply, SENTENCE_ROOM};
+use reference::shortage::Shortage;
 use reference::table::Refusal;
 
 use crate::common::{all_choices, opened, EXAMPLE_CHOICES, EXAMPLE_TABLE};
 use Reply::{Moved, Refused};
+
+/// A rule with nothing short.
+fn moved(rule: u8) -> Reply {
+    Moved { rule, short: None }
+}
+
+/// A rule with a tray that was short by so many.
+fn short(rule: u8, tray: u8, by: u8) -> Reply {
+    let short = Some(Shortage { tray, by });
+    Moved { rule, short }
+}
 
 /// The sentence of each rule, 1 to 13, for one choice.
 const RULES: [&str; 13] = [
@@ -53,15 +66,30 @@ const REFUSALS: [&str; 20] = [
     "Kind 2 at station 6, node 7 met refusal 20, tray full.",
 ];
 
-/// Every reply that there is.
+/// Every reply with nothing short.
 fn replies() -> impl Iterator<Item = Reply> {
-    (0..=255).flat_map(|number| [Moved(number), Refused(number)])
+    (0..=255).flat_map(|number| [moved(number), Refused(number)])
+}
+
+/// Replies with something short: each byte as rule, as tray and as how many,
+/// beside other numbers of one, two and three digits.
+fn short_replies() -> impl Iterator<Item = Reply> {
+    let beside = [(6, 3), (9, 15), (3, 255), (0, 0), (14, 99), (255, 100)];
+    (0..=255).flat_map(move |byte| {
+        beside.into_iter().flat_map(move |(one, other)| {
+            [
+                short(byte, one, other),
+                short(one, byte, other),
+                short(one, other, byte),
+            ]
+        })
+    })
 }
 
 #[test]
 fn every_number_that_has_words() {
     for (number, expected) in (1..).zip(RULES) {
-        assert_eq!(sentence(1, 5, 0, Moved(number)), expected);
+        assert_eq!(sentence(1, 5, 0, moved(number)), expected);
     }
     for (number, expected) in (1..).zip(REFUSALS) {
         assert_eq!(sentence(2, 6, 7, Refused(number)), expected);
@@ -72,11 +100,25 @@ fn every_number_that_has_words() {
 fn any_other_number_stands_alone() {
     for number in (0..=0).chain(14..=255) {
         let expected = format!("Kind 1 at station 5 moved by rule {number}.");
-        assert_eq!(sentence(1, 5, 0, Moved(number)), expected);
+        assert_eq!(sentence(1, 5, 0, moved(number)), expected);
     }
     for number in (0..=0).chain(21..=255) {
         let expected = format!("Kind 2 at station 6, node 7 met refusal {number}.");
         assert_eq!(sentence(2, 6, 7, Refused(number)), expected);
+    }
+}
+
+/// What was short stands behind the words of the rule, whichever it is.
+#[test]
+fn every_rule_with_something_short() {
+    for (rule, without) in (1..).zip(RULES) {
+        let words = without.strip_suffix('.').expect("a sentence");
+        let expected = format!("{words}, tray 3 short by 1.");
+        assert_eq!(sentence(1, 5, 0, short(rule, 3, 1)), expected);
+    }
+    for rule in (0..=0).chain(14..=255) {
+        let expected = format!("Kind 1 at station 5 moved by rule {rule}, tray 9 short by 10.");
+        assert_eq!(sentence(1, 5, 0, short(rule, 9, 10)), expected);
     }
 }
 
@@ -95,7 +137,7 @@ fn edges_of_the_kind() {
         // A node handed in with kind 1 is not named.
         (
             (1, 0, 7),
-            Moved(6),
+            moved(6),
             "Kind 1 at station 0 moved by rule 6, commit failed.",
         ),
         (
@@ -111,7 +153,7 @@ fn edges_of_the_kind() {
         ),
         (
             (2, 0, 0),
-            Moved(8),
+            moved(8),
             "Kind 2 at station 0, node 0 moved by rule 8, read noted.",
         ),
         (
@@ -121,18 +163,18 @@ fn edges_of_the_kind() {
         ),
         (
             (255, 0, 0),
-            Moved(13),
+            moved(13),
             "Kind 255 at station 0, node 0 moved by rule 13, first way kept.",
         ),
         // Kinds that begin or end with a 1 are not kind 1.
         (
             (10, 1, 1),
-            Moved(1),
+            moved(1),
             "Kind 10 at station 1, node 1 moved by rule 1, token put.",
         ),
         (
             (101, 1, 1),
-            Moved(1),
+            moved(1),
             "Kind 101 at station 1, node 1 moved by rule 1, token put.",
         ),
     ]);
@@ -144,14 +186,14 @@ fn edges_of_the_answer() {
         // Below the first that have words.
         (
             (0, 0, 0),
-            Moved(0),
+            moved(0),
             "Kind 0 at station 0, node 0 moved by rule 0.",
         ),
         ((1, 0, 0), Refused(0), "Kind 1 at station 0 met refusal 0."),
         // Around the last rule.
         (
             (1, 0, 0),
-            Moved(13),
+            moved(13),
             "Kind 1 at station 0 moved by rule 13, first way kept.",
         ),
         (
@@ -161,7 +203,7 @@ fn edges_of_the_answer() {
         ),
         (
             (1, 0, 0),
-            Moved(14),
+            moved(14),
             "Kind 1 at station 0 moved by rule 14.",
         ),
         (
@@ -172,7 +214,7 @@ fn edges_of_the_answer() {
         // Around the last refusal that has words; that of the buffer has none.
         (
             (1, 0, 0),
-            Moved(20),
+            moved(20),
             "Kind 1 at station 0 moved by rule 20.",
         ),
         (
@@ -182,7 +224,7 @@ fn edges_of_the_answer() {
         ),
         (
             (1, 0, 0),
-            Moved(21),
+            moved(21),
             "Kind 1 at station 0 moved by rule 21.",
         ),
         (
@@ -199,7 +241,7 @@ fn edges_of_the_digits() {
         // One, two and three digits; no zeros before them.
         (
             (9, 10, 100),
-            Moved(99),
+            moved(99),
             "Kind 9 at station 10, node 100 moved by rule 99.",
         ),
         (
@@ -210,12 +252,12 @@ fn edges_of_the_digits() {
         // The highest bytes.
         (
             (1, 255, 255),
-            Moved(255),
+            moved(255),
             "Kind 1 at station 255 moved by rule 255.",
         ),
         (
             (255, 255, 255),
-            Moved(255),
+            moved(255),
             "Kind 255 at station 255, node 255 moved by rule 255.",
         ),
         (
@@ -237,23 +279,107 @@ fn edges_of_the_digits() {
     ]);
 }
 
-/// The choices of document 01's printed example, told one by one, and one more.
 #[test]
-fn a_run_told_in_sentences() {
-    let mut hall = opened(&EXAMPLE_TABLE);
+fn edges_of_what_was_short() {
+    each_is(&[
+        (
+            (1, 0, 7),
+            short(6, 3, 1),
+            "Kind 1 at station 0 moved by rule 6, commit failed, tray 3 short by 1.",
+        ),
+        (
+            (2, 63, 14),
+            short(9, 15, 16),
+            "Kind 2 at station 63, node 14 moved by rule 9, read failed, tray 15 short by 16.",
+        ),
+        // The case counts and not its numbers: 0 by 0 is named too.
+        (
+            (1, 0, 0),
+            short(0, 0, 0),
+            "Kind 1 at station 0 moved by rule 0, tray 0 short by 0.",
+        ),
+        (
+            (1, 0, 0),
+            short(7, 0, 0),
+            "Kind 1 at station 0 moved by rule 7, block committed, tray 0 short by 0.",
+        ),
+        // Around the last rule that has words.
+        (
+            (1, 0, 0),
+            short(13, 9, 10),
+            "Kind 1 at station 0 moved by rule 13, first way kept, tray 9 short by 10.",
+        ),
+        (
+            (1, 0, 0),
+            short(14, 9, 10),
+            "Kind 1 at station 0 moved by rule 14, tray 9 short by 10.",
+        ),
+        // The highest bytes, and the longest of all sentences.
+        (
+            (255, 255, 255),
+            short(255, 255, 255),
+            "Kind 255 at station 255, node 255 moved by rule 255, tray 255 short by 255.",
+        ),
+        (
+            (255, 255, 255),
+            short(3, 255, 255),
+            "Kind 255 at station 255, node 255 moved by rule 3, token taken, repeats, tray 255 short by 255.",
+        ),
+    ]);
+}
+
+/// The sentences of these choices, made one by one in the hall that the table
+/// opens. A node stands beside kind 1 as well, and counts for nothing.
+fn told(table: &[u8], choices: &[u8]) -> Vec<String> {
+    let mut hall = opened(table);
     let mut tally = Tally::FRESH;
     let mut told = Vec::new();
-    for choice in all_choices(&[&EXAMPLE_CHOICES[..], &[2, 0, 0]].concat()) {
+    for choice in all_choices(choices) {
         let bytes = choice.bytes();
-        let reply = match calls::step(&EXAMPLE_TABLE, &mut hall, &mut tally, &bytes) {
-            StepAnswer::Moved(rule) => Moved(rule),
+        let reply = match calls::step(table, &mut hall, &mut tally, &bytes) {
+            StepAnswer::Moved { rule, short } => Moved { rule, short },
             StepAnswer::Refused(refusal) => Refused(refusal.number),
         };
         let node = bytes.get(2).copied().unwrap_or(99);
         told.push(sentence(bytes[0], bytes[1], node, reply));
     }
+    told
+}
+
+/// Two blocks read one token of tray 3 and one of tray 5, and one of them looks
+/// for a second of tray 5 as well.
+#[test]
+fn failures_told_in_sentences() {
+    let mut table = Builder::new();
+    let end = table.end();
+    let five = table.rd(5, end);
+    let both = table.rd(3, five);
+    let more = table.rd(5, both);
+    let first = table.atom(both);
+    let second = table.atom(more);
+    let all = table.copies(first, 2);
+    let all = table.side_by_side(all, second);
+    table.tokens(3, 1);
+    table.tokens(5, 1);
+    let begun = [1, 0, 1, 1, 1, 2];
+    let read = [2, 0, 0, 2, 0, 0, 2, 1, 0, 2, 1, 0, 2, 2, 0, 2, 2, 0];
+    let failing = [2, 2, 0, 1, 0, 1, 0];
+    let told = told(&table.start(all), &[&begun[..], &read, &failing].concat());
     assert_eq!(
-        told,
+        told[told.len() - 3..],
+        [
+            "Kind 2 at station 2, node 0 moved by rule 9, read failed, tray 5 short by 1.",
+            "Kind 1 at station 0 moved by rule 7, block committed.",
+            "Kind 1 at station 0 moved by rule 6, commit failed, tray 3 short by 1.",
+        ]
+    );
+}
+
+/// The choices of document 01's printed example, told one by one, and one more.
+#[test]
+fn a_run_told_in_sentences() {
+    assert_eq!(
+        told(&EXAMPLE_TABLE, &[&EXAMPLE_CHOICES[..], &[2, 0, 0]].concat()),
         [
             "Kind 1 at station 0 moved by rule 4, attempt begun.",
             "Kind 2 at station 0, node 0 moved by rule 8, read noted.",
@@ -275,9 +401,10 @@ fn a_buffer_that_is_too_short_is_refused_and_left() {
     // Among these are a short sentence, the longest, and bytes of no hall.
     for (kind, reply) in [
         (1, Refused(0)),
-        (1, Moved(1)),
+        (1, moved(1)),
         (255, Refused(15)),
-        (0, Moved(255)),
+        (0, moved(255)),
+        (255, short(3, 255, 255)),
     ] {
         for length in 0..96 {
             let mut buffer = pattern(length);
@@ -326,36 +453,49 @@ fn a_shorter_sentence_after_a_longer_one() {
     assert_eq!(buffer[..], expected);
 }
 
-/// All kinds and all replies: what is written fits, and is one line of plain
-/// text.
+/// The length of a sentence, which is written into the front of a buffer and is
+/// one line of plain text.
+fn written(kind: u8, position: u8, node: u8, reply: Reply) -> usize {
+    let said = sentence(kind, position, node, reply);
+    assert!(
+        said.bytes().all(|byte| (b' '..=b'~').contains(&byte)),
+        "{said:?}"
+    );
+    let mut buffer = [0xFF; 96];
+    let answer = say(kind, position, node, reply, &mut buffer);
+    assert_eq!(answer, Ok(said.len()));
+    assert_eq!(buffer[..said.len()], *said.as_bytes());
+    assert!(buffer[said.len()..].iter().all(|byte| *byte == 0xFF));
+    said.len()
+}
+
+/// All kinds and all replies with nothing short, and kinds of one, two and three
+/// digits with each byte of what was short.
 #[test]
 fn every_sentence_fits_and_is_plain_text() {
     let mut longest = 0;
+    let mut longest_short = 0;
     for (position, node) in [(0, 0), (1, 255), (99, 100), (255, 255)] {
         for kind in 0..=255 {
             for reply in replies() {
-                let said = sentence(kind, position, node, reply);
-                assert!(
-                    said.bytes().all(|byte| (b' '..=b'~').contains(&byte)),
-                    "{said:?}"
-                );
-                longest = longest.max(said.len());
-                let mut buffer = [0xFF; 96];
-                let answer = say(kind, position, node, reply, &mut buffer);
-                assert_eq!(answer, Ok(said.len()));
-                assert_eq!(buffer[..said.len()], *said.as_bytes());
-                assert!(buffer[said.len()..].iter().all(|byte| *byte == 0xFF));
+                longest = longest.max(written(kind, position, node, reply));
+            }
+        }
+        for kind in [0, 1, 2, 10, 255] {
+            for reply in short_replies() {
+                longest_short = longest_short.max(written(kind, position, node, reply));
             }
         }
     }
-    // Far below the limit: there is room for more to be named.
     assert_eq!(longest, 73);
+    // One below the limit.
+    assert_eq!(longest_short, 95);
     assert_eq!(SENTENCE_ROOM, 96);
 }
 
 #[test]
 fn with_kind_1_the_node_counts_for_nothing() {
-    for reply in replies() {
+    for reply in replies().chain([short(6, 3, 1), short(255, 0, 255)]) {
         for position in [0, 1, 63, 255] {
             let without = sentence(1, position, 0, reply);
             for node in 1..=255 {
@@ -367,6 +507,18 @@ fn with_kind_1_the_node_counts_for_nothing() {
 
 /// Numbers whose digits could run into those of a neighbour are among these.
 const DIGITS: [u8; 3] = [1, 11, 111];
+
+/// Rule, tray and how many, each of every number that repeats one digit.
+fn all_of_digits() -> Vec<(u8, u8, u8)> {
+    const NUMBERS: [u8; 7] = [1, 2, 11, 22, 111, 222, 0];
+    let mut all = Vec::new();
+    for rule in NUMBERS {
+        for tray in NUMBERS {
+            all.extend(NUMBERS.map(|by| (rule, tray, by)));
+        }
+    }
+    all
+}
 
 #[test]
 fn no_two_pairs_share_a_sentence() {
@@ -387,12 +539,28 @@ fn no_two_pairs_share_a_sentence() {
             pairs.insert((1, position, 1, reply));
         }
         for node in 0..=255 {
-            for reply in DIGITS.into_iter().flat_map(|it| [Moved(it), Refused(it)]) {
+            for reply in DIGITS.into_iter().flat_map(|it| [moved(it), Refused(it)]) {
                 pairs.insert((2, position, node, reply));
             }
         }
     }
-    assert!(pairs.len() > 1_000_000, "{}", pairs.len());
+    // The sentences with something short differ from those above as well.
+    let plain = pairs.len();
+    for kind in [1, 2, 11, 111] {
+        for position in DIGITS {
+            for reply in short_replies() {
+                pairs.insert((kind, position, 1, reply));
+                if kind != 1 {
+                    pairs.insert((kind, position, 11, reply));
+                }
+            }
+        }
+    }
+    for (rule, tray, by) in all_of_digits() {
+        pairs.insert((1, 1, 1, short(rule, tray, by)));
+    }
+    assert!(plain > 1_000_000, "{plain}");
+    assert!(pairs.len() - plain > 80_000, "{}", pairs.len() - plain);
     let sentences: HashSet<String> = pairs
         .iter()
         .map(|&(kind, position, node, reply)| sentence(kind, position, node, reply))
@@ -408,7 +576,12 @@ type Read = (u8, u8, Option<u8>, Reply);
 fn read(text: &str) -> Option<Read> {
     let text = text.strip_prefix("Kind ")?.strip_suffix('.')?;
     let (choice, reply) = if let Some((choice, rest)) = text.split_once(" moved by rule ") {
-        (choice, Moved(number_with_words(rest, &RULES)?))
+        let (rule, short) = match rest.split_once(", tray ") {
+            Some((rule, short)) => (rule, Some(shortage(short)?)),
+            None => (rest, None),
+        };
+        let rule = number_with_words(rule, &RULES)?;
+        (choice, Moved { rule, short })
     } else {
         let (choice, rest) = text.split_once(" met refusal ")?;
         (choice, Refused(number_with_words(rest, &REFUSALS)?))
@@ -419,6 +592,13 @@ fn read(text: &str) -> Option<Read> {
         None => (place, None),
     };
     Some((decimal(kind)?, decimal(position)?, node, reply))
+}
+
+/// The tray and how many, with the words between them.
+fn shortage(text: &str) -> Option<Shortage> {
+    let (tray, by) = text.split_once(" short by ")?;
+    let (tray, by) = (decimal(tray)?, decimal(by)?);
+    Some(Shortage { tray, by })
 }
 
 /// A byte in decimal, without zeros or a sign before it.
@@ -456,6 +636,7 @@ fn sentences_by_chance_are_read_back() {
     let mut random = Random::new(50);
     let mut of_kind_1 = 0;
     let mut with_words = 0;
+    let mut with_short = 0;
     for _ in 0..300_000 {
         let kind = if random.percent(30) {
             1
@@ -463,16 +644,19 @@ fn sentences_by_chance_are_read_back() {
             byte(&mut random)
         };
         let (position, node, number) = (byte(&mut random), byte(&mut random), byte(&mut random));
-        let reply = if random.percent(50) {
-            Moved(number)
-        } else {
-            Refused(number)
+        let reply = match random.below(4) {
+            0 => moved(number),
+            1 => short(number, byte(&mut random), byte(&mut random)),
+            _ => Refused(number),
         };
         let said = sentence(kind, position, node, reply);
         let expected = Some((kind, position, (kind != 1).then_some(node), reply));
         assert_eq!(read(&said), expected, "{said}");
         of_kind_1 += usize::from(kind == 1);
-        with_words += usize::from(said.matches(", ").count() > usize::from(kind != 1));
+        let is_short = matches!(reply, Moved { short: Some(_), .. });
+        let commas = said.matches(", ").count() - usize::from(is_short);
+        with_words += usize::from(commas > usize::from(kind != 1));
+        with_short += usize::from(is_short);
         // With one byte of it changed it tells something else, or nothing.
         let mut changed = said.into_bytes();
         let at = random.below(changed.len());
@@ -485,4 +669,5 @@ fn sentences_by_chance_are_read_back() {
     }
     assert!(of_kind_1 > 50_000, "{of_kind_1}");
     assert!(with_words > 50_000, "{with_words}");
+    assert!(with_short > 50_000, "{with_short}");
 }

@@ -192,7 +192,7 @@ fn the_first_of_all_choices_tried_in_order() {
             let mut next = stored.clone();
             let mut tally = Tally::FRESH;
             let answer = calls::step(&bytes, &mut next, &mut tally, &choice.bytes());
-            assert!(matches!(answer, StepAnswer::Moved(_)), "{choice:?}");
+            assert!(matches!(answer, StepAnswer::Moved { .. }), "{choice:?}");
         }
         let all = accepted_by_trying(&table, &hall);
         assert_eq!(all.first().copied(), first);

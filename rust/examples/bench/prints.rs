@@ -6,7 +6,8 @@ use reference::build::Builder;
 use reference::calls;
 use reference::print::printed_run;
 use reference::sentence::Reply;
-use ruonfidd::{print_run_into, say_into, Answer, REPORT_BYTES, SENTENCE_BYTES};
+use reference::shortage::Shortage as SecondShortage;
+use ruonfidd::{print_run_into, say_into, Answer, Shortage, REPORT_BYTES, SENTENCE_BYTES};
 
 use crate::measure::{print_part, print_row};
 
@@ -40,26 +41,34 @@ fn many_choices() -> Vec<u8> {
     input
 }
 
-/// No sentence is longer: three bytes of three digits, and many words.
-fn print_sentence() {
+/// The longest of a refusal, and the longest there is: three numbers of three
+/// digits, or five, and many words.
+fn print_sentences() {
     print_part("saying a sentence");
+    let refused = (Answer::Refused(15), Reply::Refused(15));
+    print_sentence("the longest of a refusal, 73 bytes", 73, refused);
+    let answer = Answer::Moved {
+        rule: 3,
+        shortage: Shortage::new(255, 255),
+    };
+    let reply = Reply::Moved {
+        rule: 3,
+        short: Some(SecondShortage { tray: 255, by: 255 }),
+    };
+    print_sentence("the longest, 95 bytes", 95, (answer, reply));
+}
+
+fn print_sentence(name: &str, length: usize, (answer, reply): (Answer, Reply)) {
     let choice = [255; 3];
     let [kind, position, node] = choice;
     let (mut by_engine, mut by_second) = ([0; SENTENCE_BYTES], [0; SENTENCE_BYTES]);
     print_row(
-        "the longest, 73 bytes",
+        name,
         ROUNDS,
-        &mut || {
-            say_into(
-                black_box(choice),
-                Answer::Refused(15),
-                black_box(&mut by_engine),
-            ) == Ok(73)
-        },
+        &mut || say_into(black_box(choice), answer, black_box(&mut by_engine)) == Ok(length),
         &mut || {
             let buffer = black_box(&mut by_second);
-            let reply = Reply::Refused(15);
-            calls::say(black_box(kind), position, node, reply, buffer) == Ok(73)
+            calls::say(black_box(kind), position, node, reply, buffer) == Ok(length)
         },
     );
     assert_eq!(by_engine, by_second);
@@ -67,7 +76,7 @@ fn print_sentence() {
 
 pub(crate) fn print() {
     print_runs();
-    print_sentence();
+    print_sentences();
 }
 
 fn print_runs() {

@@ -1,6 +1,7 @@
 //! What is written for programs, read back.
 
 use reference::sentence::{sentence, Reply};
+use reference::shortage::Shortage;
 
 use crate::common::{files, hall_in, name_of, package};
 
@@ -30,6 +31,10 @@ impl Value {
             .unwrap_or_else(|| panic!("no {name} in {self:?}"));
         assert!(all.next().is_none(), "{name} twice in {self:?}");
         &found.1
+    }
+
+    pub(crate) fn has(&self, name: &str) -> bool {
+        self.fields().iter().any(|(field, _)| field == name)
     }
 
     pub(crate) fn number(&self, name: &str) -> u64 {
@@ -208,9 +213,7 @@ fn runs_for_programs() {
         let objects = hall_in(&folder, &["run", "--json", name], b"").out;
         let objects: Vec<Value> = objects.lines().map(parsed).collect();
         let (last, choices) = objects.split_last().unwrap();
-        let moved = choices
-            .iter()
-            .filter(|it| it.fields().iter().any(|(name, _)| name == "moved"));
+        let moved = choices.iter().filter(|it| it.has("moved"));
         assert_eq!(moved.count() as u64, last.number("done"), "{name}");
         for choice in choices {
             assert!(
@@ -229,13 +232,26 @@ fn said_by_the_second(choice: &Value) -> String {
         [kind, position, node] => (kind, position, node),
         _ => panic!("{choice:?}"),
     };
-    let has = |name: &str| choice.fields().iter().any(|(field, _)| field == name);
-    let reply = match (has("moved"), has("refused")) {
-        (true, false) => Reply::Moved(byte(choice.field("moved"))),
+    let reply = match (choice.has("moved"), choice.has("refused")) {
+        (true, false) => Reply::Moved {
+            rule: byte(choice.field("moved")),
+            short: choice.has("short").then(|| short_of(choice)),
+        },
         (false, true) => Reply::Refused(byte(choice.field("refused"))),
         _ => panic!("{choice:?}"),
     };
     sentence(kind, position, node, reply)
+}
+
+/// What was short, in numbers: the trays stand in the order of theirs.
+fn short_of(choice: &Value) -> Shortage {
+    let short = choice.field("short");
+    let mut names = choice.field("trays").fields().iter().map(|(name, _)| name);
+    let tray = names.position(|name| name == short.words("tray"));
+    Shortage {
+        tray: u8::try_from(tray.expect("a tray of this name")).unwrap(),
+        by: byte(short.field("by")),
+    }
 }
 
 fn byte(value: &Value) -> u8 {
@@ -270,6 +286,42 @@ fn the_engine_s_sentences_for_programs() {
         );
     }
     assert!(moved >= 300 && refused >= 5, "{moved} {refused}");
+}
+
+/// The objects of failed commits and takes, and no others, have what was short: the
+/// counts that people are told show that it is so.
+#[test]
+fn what_was_short_for_programs() {
+    let folder = package().join("examples");
+    let mut met = [0; 14];
+    for file in files(&folder, "hall") {
+        let name = name_of(&file);
+        let objects = hall_in(&folder, &["run", "--json", name], b"").out;
+        for choice in objects.lines().map(parsed) {
+            if !choice.has("moved") {
+                assert!(!choice.has("short"), "{name}: {choice:?}");
+                continue;
+            }
+            let rule = choice.number("moved");
+            assert_eq!(
+                choice.has("short"),
+                rule == 6 || rule == 9,
+                "{name}: {choice:?}"
+            );
+            if choice.has("short") {
+                let short = choice.field("short");
+                let (tray, by) = (short.words("tray"), short.number("by"));
+                let words = if rule == 6 {
+                    format!("{tray} is short by {by} (")
+                } else {
+                    format!("lacks {by} of {tray}: ")
+                };
+                assert!(choice.words("sentence").contains(&words), "{choice:?}");
+                met[byte(choice.field("moved")) as usize] += 1;
+            }
+        }
+    }
+    assert!(met[6] >= 3 && met[9] >= 5, "{met:?}");
 }
 
 /// What goes wrong in a run is an object too, and the last line still comes.

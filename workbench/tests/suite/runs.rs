@@ -13,7 +13,7 @@ use workbench::lesson::{choice_words, Answer, Lesson};
 use workbench::rehearsal::{position_of, Happened, Moment, Rehearsal};
 use workbench::sentences::Teller;
 use workbench::show::{readable, Labels};
-use workbench::stations::Station;
+use workbench::stations::{takes, Action, Node, Station};
 use workbench::style::{wrapped, Style, WIDTH};
 use workbench::table::{Table, Term};
 use workbench::text::choices::Ask;
@@ -21,7 +21,7 @@ use workbench::text::grammar::read_choices;
 use workbench::text::source::Source;
 use workbench::text::tree::Program;
 use workbench::text::understand;
-use workbench::ways::{ways_of_block, within};
+use workbench::ways::{shortages, ways_of_block, within};
 use workbench::why::why;
 
 use crate::common::{called, tables};
@@ -138,6 +138,65 @@ fn sentences_say_what_changed() {
         });
     }
     assert!(rules[1..].iter().all(|times| *times > 50), "{rules:?}");
+}
+
+/// Where a commit or a take fails, and nowhere else, the sentence names the tray
+/// that the engine told. It is the first that lacks something by the counts.
+#[test]
+fn sentences_say_what_was_short() {
+    let mut random = Random::new(18);
+    let (mut fails, mut lacks) = (0, 0);
+    for (which, table, program) in halls(18, 900) {
+        let mut lesson = Lesson::open(&table, &program).expect(&which);
+        let mut teller = Teller::new(&table, &program);
+        random_run(&mut random, &mut lesson, 40, |_, happened| {
+            let sentence = teller.tell(happened);
+            let rule = happened.rule.number;
+            let told = happened.shortage.map(|it| (it.tray, it.by.get()));
+            assert_eq!(told, first_short(&table, happened), "{which}\n{sentence}");
+            let Some((tray, by)) = told else {
+                assert!(rule != Moved::ATFAIL && rule != Moved::ARDF, "{which}");
+                let words = [" lacks ", " is short by "];
+                assert!(!words.iter().any(|it| sentence.contains(it)), "{sentence}");
+                return;
+            };
+            let tray = program.tray_name(tray);
+            let words = if rule == Moved::ATFAIL {
+                fails += 1;
+                format!(" fails to commit: {tray} is short by {by} (")
+            } else {
+                lacks += 1;
+                format!(" lacks {by} of {tray}: ")
+            };
+            assert!(sentence.contains(&words), "{which}\n{sentence}");
+        });
+    }
+    assert!(fails > 50 && lacks > 50, "{fails} {lacks}");
+}
+
+/// The first tray that this choice found too little in, by the counts before it.
+fn first_short(table: &Table, happened: &Happened) -> Option<(u8, u8)> {
+    let Some(Station::Attempt(attempt)) = happened.before.stations.get(happened.position()) else {
+        return None;
+    };
+    match happened.choice {
+        Choice::Inside { node, .. } => {
+            let Some(Node::Leaf(leaf)) = attempt.nodes.get(usize::from(node)) else {
+                return None;
+            };
+            let Term::NoteTake { tray, .. } = table.term(leaf.rest?) else {
+                return None;
+            };
+            let needs = takes(&[&leaf.log[..], &[Action::Take(tray)]].concat());
+            shortages(&needs, &attempt.remembers).first().copied()
+        }
+        // An attempt that gives up is held against nothing.
+        _ if happened.rule.number == Moved::ATRE => None,
+        _ => {
+            let needs = takes(&attempt.single_leaf()?.log);
+            shortages(&needs, &happened.before.counts).first().copied()
+        }
+    }
 }
 
 /// A board has a line for each station and each node, and every count.
@@ -304,11 +363,7 @@ fn driven(random: &mut Random, mut hall: Rehearsal<'_>, position: usize) -> (u8,
     panic!("an attempt that does not end");
 }
 
-fn foretold_notes(
-    table: &Table,
-    now: &Moment,
-    position: usize,
-) -> Option<Vec<workbench::stations::Action>> {
+fn foretold_notes(table: &Table, now: &Moment, position: usize) -> Option<Vec<Action>> {
     let Station::Attempt(attempt) = &now.stations[position] else {
         panic!("no attempt");
     };

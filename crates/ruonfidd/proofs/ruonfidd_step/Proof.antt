@@ -14,6 +14,9 @@ step-requires c κs = search needs
 enum-known-by : tie.Need-enum-known-by
 enum-known-by c = search needs
 
+shortage-bytes-requires : tie.Need-shortage-bytes-requires
+shortage-bytes-requires c κs = search needs
+
 tally-of-requires : tie.Need-tally-of-requires
 tally-of-requires c κs = search needs
 
@@ -42,6 +45,7 @@ ruonfidd-step-spec =
     counters-in-requires
     step-requires
     enum-known-by
+    shortage-bytes-requires
     tally-of-requires
     enum-known-number
     tally-of-requires-2

@@ -14,7 +14,8 @@ use Rattle.semantics.specs.Definitions.Basics.{All}
 use Rattle.semantics.specs.Definitions.Table.{TableAnswer, accepted, refusedAt, readTable}
 use Rattle.semantics.specs.Definitions.Configuration.{opening}
 use Rattle.semantics.specs.Definitions.Stored.{configurationOf}
-use Rattle.semantics.specs.Definitions.Moves.{answerTo, Effect, effectOf, Reply, movedBy, refusedBy, replyOf}
+use Rattle.semantics.specs.Definitions.Shortage.{enough, short}
+use Rattle.semantics.specs.Definitions.Moves.{respondTo, Effect, effectOf, Reply, movedBy, refusedBy, replyOf}
 use Rattle.semantics.specs.Definitions.Run.{Counters, schedule, entries, scheduleBytes, run}
 use Rattle.semantics.specs.Definitions.Calls.{Verdict, checkTable, checkHall, admissionVerdict, Admission, notAdmitted}
 use Rattle.semantics.specs.Definitions.Calls.{formTested, opened, notOpened, openHall, openVerdict}
@@ -36,41 +37,45 @@ pub record Trial : Type 0 where
   pub expected : List Reply
 
 unfoldable pub repliesOn : TableAnswer → (done tried : List ℕ) → List Reply
-unfolding replyOf answerTo run opening entries schedule tally
+unfolding replyOf respondTo run opening entries schedule tally
 repliesOn (refusedAt n p) done tried = []
 repliesOn (accepted t) done tried =
     let h = (run (opening t) (tally 0 0 0) done) .configuration in
-    map (λ e. replyOf (answerTo h e)) (entries (schedule tried))
+    map (λ e. replyOf (respondTo h e)) (entries (schedule tried))
 
 unfoldable pub trials : List Trial
 unfolding numbers doublings
 trials =
     -- 14 to 17 and numbers of rules: (rd 0.end orElse wt 1.end) orElse wt 2.end as opened
-    nested "" "1 0 2 0 0 1 1 2 1 0" (movedBy 4 ∷ refusedBy 15 ∷ refusedBy 14 ∷ refusedBy 14 ∷ []) ∷
+    nested "" "1 0 2 0 0 1 1 2 1 0" (moved 4 ∷ refusedBy 15 ∷ refusedBy 14 ∷ refusedBy 14 ∷ []) ∷
     -- both orElse taken apart, and the last leaf at its end
     nested "1 0 2 0 0 2 0 1 2 0 4" "1 0 2 0 0 2 0 1 2 0 2 2 0 3 2 0 4 2 0 5 2 0 255"
-    (refusedBy 15 ∷ refusedBy 17 ∷ refusedBy 17 ∷ movedBy 9 ∷ movedBy 10 ∷ refusedBy 17 ∷ refusedBy 16 ∷ refusedBy 16 ∷
-    []) ∷
+    (refusedBy 15 ∷ refusedBy 17 ∷ refusedBy 17 ∷ movedBy 9 (short 0 1) ∷ moved 10 ∷ refusedBy 17 ∷ refusedBy 16 ∷
+    refusedBy 16 ∷ []) ∷
     -- then rd 0 failed
     nested "1 0 2 0 0 2 0 1 2 0 4 2 0 2" "2 0 0 2 0 1 2 0 2 2 0 3"
-    (refusedBy 17 ∷ movedBy 12 ∷ refusedBy 17 ∷ movedBy 10 ∷ []) ∷
+    (refusedBy 17 ∷ moved 12 ∷ refusedBy 17 ∷ moved 10 ∷ []) ∷
     -- then that side dropped and the other at its end
     nested "1 0 2 0 0 2 0 1 2 0 4 2 0 2 2 0 1 2 0 1" "1 0 2 0 0 2 0 1 2 0 2 2 0 3"
-    (refusedBy 15 ∷ movedBy 13 ∷ refusedBy 17 ∷ refusedBy 17 ∷ refusedBy 16 ∷ []) ∷
+    (refusedBy 15 ∷ moved 13 ∷ refusedBy 17 ∷ refusedBy 17 ∷ refusedBy 16 ∷ []) ∷
     -- then the right side dropped
     nested "1 0 2 0 0 2 0 1 2 0 4 2 0 2 2 0 1 2 0 1 2 0 0" "1 0 2 0 0 2 0 1"
-    (movedBy 7 ∷ refusedBy 17 ∷ refusedBy 16 ∷ []) ∷
+    (moved 7 ∷ refusedBy 17 ∷ refusedBy 16 ∷ []) ∷
     -- 18 and 19 in a full hall: 60 times put 0, rep 1.nil, take 1 and take 2 of two puts, and a block
     -- rd 1.wt 3.wt 3.end; two tokens in tray 1. 18 comes before 19, and a repeated take of nil goes on
     full "" "1 0 1 60 1 61 1 62 1 63 1 64"
-    (movedBy 1 ∷ movedBy 3 ∷ refusedBy 19 ∷ refusedBy 18 ∷ movedBy 4 ∷ refusedBy 14 ∷ []) ∷
+    (moved 1 ∷ moved 3 ∷ refusedBy 19 ∷ refusedBy 18 ∷ moved 4 ∷ refusedBy 14 ∷ []) ∷
     -- the block at its end: two outputs are one too many; with one station gone they are not; and a commit that fails
     -- is 6 and never 19
     full "1 63 2 63 0 2 63 0 2 63 0" "1 63" (refusedBy 19 ∷ []) ∷
-    full "1 63 2 63 0 2 63 0 2 63 0 1 0" "1 62" (movedBy 7 ∷ []) ∷
-    full "1 63 2 63 0 2 63 0 2 63 0 1 60 1 60" "1 63 1 60" (movedBy 6 ∷ refusedBy 18 ∷ []) ∷
+    full "1 63 2 63 0 2 63 0 2 63 0 1 0" "1 62" (moved 7 ∷ []) ∷
+    full "1 63 2 63 0 2 63 0 2 63 0 1 60 1 60" "1 63 1 60" (movedBy 6 (short 1 1) ∷ refusedBy 18 ∷ []) ∷
     []
   where
+    -- nothing is short
+    moved : ℕ → Reply
+    moved n = movedBy n enough
+
     trial : List ℕ → (done tried : String) → List Reply → Trial
     trial table done tried ts = record { table = table; done = numbers done; tried = numbers tried; expected = ts }
 

@@ -8,6 +8,7 @@ use mathlib.Core.Path.{_≡_}
 use mathlib.Core.Option.{some}
 use mathlib.Core.List.{List, [], _∷_, map}
 use lib.ListN.{replicate}
+use Rattle.semantics.specs.Definitions.Shortage.{enough}
 use Rattle.semantics.specs.Definitions.Run.{Counters}
 use Rattle.semantics.specs.Definitions.Calls.{openHall, Buffers, StepCall, stepCall, runChoices, stepChoice}
 use Rattle.semantics.specs.Checks.Examples.{noise, numbers, trays, hallOf, attempt, leafOf, tally}
@@ -25,11 +26,17 @@ stepsInTurn table l [] = []
 stepsInTurn table l (c ∷ cs) =
     let a = stepCall table l (c .0) (c .1) (c .2) in a ∷ stepsInTurn table (a .buffers) cs
 
--- an answer, and the counts, stations and tally that it leaves
+-- an answer with nothing short, and the counts, stations and tally that it leaves
 unfoldable pub stepRow : (number place rule : ℕ) (counts : String) (stations : List ℕ) → Counters → StepCall
 unfolding trays hallOf
 stepRow n p r counts stations c =
-    record { number = n; place = p; rule = r; buffers = record { hall = hallOf (trays counts) stations; counters = c } }
+    record {
+      number = n;
+      place = p;
+      rule = r;
+      shortage = enough;
+      buffers = record { hall = hallOf (trays counts) stations; counters = c };
+    }
 
 -- rehearsal 1, with its block as term 3, step by step, with steps that are refused in between
 unfoldable pub Rehearsed : Type 0
@@ -70,7 +77,7 @@ Rejected =
     buffersWith h = record { hall = h; counters = tally 3 4 5 }
 
     rejectedWith : (number place : ℕ) → List ℕ → StepCall
-    rejectedWith n p h = record { number = n; place = p; rule = 0; buffers = buffersWith h }
+    rejectedWith n p h = record { number = n; place = p; rule = 0; shortage = enough; buffers = buffersWith h }
 
 -- rehearsal 1 by runs and steps: a run ended by 16 and a step of an unknown kind are among them
 unfoldable pub Mixed : Type 0

@@ -1,17 +1,19 @@
 -- The step call: one choice, given as three numbers (document 01, "Choices and moves" and "Reasons to turn a request
 -- down"). What it answers and leaves is said apart from the definition, which goes through a run over the choice's bytes.
 -- Assumes nothing.
-use Prim.Native.Nat.{ℕ, _≤_}
+use Prim.Native.Nat.{ℕ, _≤_, _<_}
 use mathlib.Core.Path.{_≡_}
+use mathlib.Core.Bool.{cond}
 use mathlib.Core.Logic.{_⊎_, _↔_, _≢_}
 use mathlib.Core.List.{List, [], _∷_}
-use lib.ListN.{length}
+use lib.Dec.{eqb}
 use Rattle.calculus.specs.Reduction.{Rule}
 use Rattle.semantics.specs.Definitions.Basics.{Bytes}
 use Rattle.semantics.specs.Definitions.Table.{Table}
+use Rattle.semantics.specs.Definitions.Shortage.{Shortage, enough, short}
 use Rattle.semantics.specs.Definitions.Configuration.{Configuration}
 use Rattle.semantics.specs.Definitions.Stored.{bytesOf}
-use Rattle.semantics.specs.Definitions.Moves.{Entry, act, inside, moved, refused, answerTo, ruleNumber}
+use Rattle.semantics.specs.Definitions.Moves.{Entry, act, inside, does, refuses, respondTo, ruleNumber, Reply, movedBy, refusedBy, replyOf}
 use Rattle.semantics.specs.Definitions.Run.{counted}
 use Rattle.semantics.specs.Definitions.Calls.{admitted, notAdmitted, admission, Buffers, StepCall, stepCall, stepChoice, callAnswer}
 
@@ -25,22 +27,24 @@ pub data Names : (kind position node : ℕ) → Entry → (size : ℕ) → Type 
 pub data StepCallAsStated (table : List ℕ) (l : Buffers) (kind position node : ℕ) : StepCall → Type 0 where
   -- table or hall is turned down: that number and place
   not-admitted : {n p : ℕ} → admission table (l .hall) ≡ notAdmitted n p →
-      StepCallAsStated table l kind position node (record { number = n; place = p; rule = 0; buffers = l })
+      StepCallAsStated table l kind position node (record { number = n; place = p; rule = 0; shortage = enough; buffers = l })
   -- 12: the kind is not 1 or 2
   kind-unknown : {t : Table} {h : Configuration} → admission table (l .hall) ≡ admitted t h → kind ≢ 1 → kind ≢ 2 →
-      StepCallAsStated table l kind position node (record { number = 12; place = 0; rule = 0; buffers = l })
+      StepCallAsStated table l kind position node (record { number = 12; place = 0; rule = 0; shortage = enough; buffers = l })
   -- the choice is refused: its number, at the choice's first byte
   is-refused : {t : Table} {h : Configuration} {e : Entry} {size n : ℕ} → admission table (l .hall) ≡ admitted t h →
-      Names kind position node e size → answerTo h e ≡ refused n →
-      StepCallAsStated table l kind position node (record { number = n; place = 0; rule = 0; buffers = l })
-  -- it moved: the number of its rule, the hall behind it, the tally with that rule counted; its place is its end
-  has-moved : {t : Table} {h g : Configuration} {e : Entry} {size : ℕ} {r : Rule} →
-      admission table (l .hall) ≡ admitted t h → Names kind position node e size → answerTo h e ≡ moved r g →
+      Names kind position node e size → respondTo h e ≡ refuses n →
+      StepCallAsStated table l kind position node (record { number = n; place = 0; rule = 0; shortage = enough; buffers = l })
+  -- it moved: the number of its rule, what it was short of, the hall behind it, the tally with that rule counted; its
+  -- place is its end
+  has-moved : {t : Table} {h g : Configuration} {e : Entry} {size : ℕ} {r : Rule} {w : Shortage} →
+      admission table (l .hall) ≡ admitted t h → Names kind position node e size → respondTo h e ≡ does r w g →
       StepCallAsStated table l kind position node
       (record {
         number = 0;
         place = size;
         rule = ruleNumber r;
+        shortage = w;
         buffers = record { hall = bytesOf g; counters = counted r (l .counters) };
       })
 
@@ -50,16 +54,30 @@ StepCallsAsStated =
     (table : List ℕ) (l : Buffers) → Bytes table → Bytes (l .hall) → (kind position node : ℕ) (a : StepCall) →
     (stepCall table l kind position node ≡ a) ↔ StepCallAsStated table l kind position node a
 
--- refused, under any number: no rule, hall and tally as they were; 12, or 14 to 20, at place 0 (13 cannot come); done:
--- number 0, a rule from 1 to 13, and the place 2 for kind 1 and 3 for kind 2
+-- refused, under any number: no rule, nothing short, hall and tally as they were; 12, or 14 to 20, at place 0 (13 cannot
+-- come); done: number 0, a rule from 1 to 13, and the place 2 for kind 1 and 3 for kind 2; something is short exactly at
+-- rules 6 and 9, one of the 16 trays by 1 to 16
 unfoldable pub StepCallNumbers : Type 0
 StepCallNumbers =
     (table : List ℕ) (l : Buffers) → Bytes table → Bytes (l .hall) → (kind position node : ℕ) →
     let a = stepCall table l kind position node in
-    ((a .number ≢ 0 → (a .rule ≡ 0) × (a .buffers ≡ l)) ×
+    ((a .number ≢ 0 → (a .rule ≡ 0) × (a .shortage ≡ enough) × (a .buffers ≡ l)) ×
     (12 ≤ a .number → (a .place ≡ 0) × (a .number ≤ 20) × (a .number ≢ 13))) ×
     (a .number ≡ 0 →
-    (1 ≤ a .rule) × (a .rule ≤ 13) × (((kind ≡ 1) × (a .place ≡ 2)) ⊎ ((kind ≡ 2) × (a .place ≡ 3))))
+    (1 ≤ a .rule) × (a .rule ≤ 13) × (((kind ≡ 1) × (a .place ≡ 2)) ⊎ ((kind ≡ 2) × (a .place ≡ 3))) ×
+    ((a .shortage ≡ enough) ↔ ((a .rule ≢ 6) × (a .rule ≢ 9))) ×
+    ((tray by : ℕ) → a .shortage ≡ short tray by → (tray < 16) × (1 ≤ by) × (by ≤ 16)))
+
+-- what a step tells, as the reply that a sentence is made of
+abbrev pub stepReply : StepCall → Reply
+stepReply a = cond (eqb (a .number) 0) (movedBy (a .rule) (a .shortage)) (refusedBy (a .number))
+
+-- it is the reply to the choice, so that the sentence names the tray that was short
+unfoldable pub StepReplies : Type 0
+StepReplies =
+    (table : List ℕ) (l : Buffers) (t : Table) (h : Configuration) → admission table (l .hall) ≡ admitted t h →
+    (kind position node size : ℕ) (e : Entry) → Names kind position node e size →
+    stepReply (stepCall table l kind position node) ≡ replyOf (respondTo h e)
 
 -- kind 1 with any node is one and the same call
 unfoldable pub NodeOfKind1 : Type 0

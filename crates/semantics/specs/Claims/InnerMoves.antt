@@ -10,6 +10,7 @@ use Rattle.calculus.specs.Syntax.{Log, State}
 use Rattle.calculus.specs.Reduction.{Rule}
 use Rattle.semantics.specs.Definitions.Run.{InBytes}
 use Rattle.semantics.specs.Definitions.Basics.{replaceAt}
+use Rattle.semantics.specs.Definitions.Shortage.{Shortage}
 use Rattle.semantics.specs.Definitions.Terms.{Expression, endT, retryT, rdT, wtT, orElseT}
 use Rattle.semantics.specs.Definitions.Logs.{emptyLog, firstReadable}
 use Rattle.semantics.specs.Definitions.Configuration.{Tree, leaf, fork, transaction, Configuration}
@@ -41,7 +42,7 @@ Settled (fork l r) = ⊥
 -- some moves inside, one after another, in any order
 pub data Moves (s : State) : Tree → Tree → Type 0 where
   unmoved : {t : Tree} → Moves s t t
-  movedOn : {t u v : Tree} (k : ℕ) (r : Rule) → inner s t k ≡ evolves r u → Moves s u v → Moves s t v
+  movedOn : {t u v : Tree} {w : Shortage} (k : ℕ) (r : Rule) → inner s t k ≡ evolves r w u → Moves s u v → Moves s t v
 
 -- on every well-formed hall: a move inside the attempt at p is one of its nodes', lowers its measure and changes
 -- nothing else
@@ -50,7 +51,7 @@ unfolding weight
 MovesLowerWeight = EveryHall (λ t h.
     (p k n : ℕ) (M : Expression) (s : State) (u : Tree) → getElem? (h .components) p ≡ some (transaction n M s u) →
     (r : Rule) (g : Configuration) → answerTo h (inside p k) ≡ moved r g →
-    (v : Tree) × (inner s u k ≡ evolves r v) × (weight v < weight u) ×
+    (w : Shortage) × (v : Tree) × (inner s u k ≡ evolves r w v) × (weight v < weight u) ×
     (g ≡ record { counts = h .counts; components = replaceAt p (transaction n M s v ∷ []) (h .components) }))
 
 -- an attempt that is not settled yet can move at one of its nodes
@@ -63,7 +64,8 @@ MovesGoOn = EveryHall (λ t h.
 
 -- and a single end or retry leaf has none
 unfoldable pub SettledHasNoRule : Type 0
-SettledHasNoRule = (s : State) (u : Tree) → Settled u → (k : ℕ) (r : Rule) (v : Tree) → inner s u k ≡ evolves r v → ⊥
+SettledHasNoRule =
+    (s : State) (u : Tree) → Settled u → (k : ℕ) (r : Rule) (w : Shortage) (v : Tree) → inner s u k ≡ evolves r w v → ⊥
 
 -- whatever the order of the moves, one and the same tree stands at the end, its log and its term number included; from
 -- every tree, also one that no run reached

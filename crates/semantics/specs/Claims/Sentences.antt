@@ -1,22 +1,27 @@
--- What is claimed of the sentences (document 02, Q-1): each is short and printable, and no two choices with their
--- answers share one. Kind, position, node and number may be any bytes, whether a hall can give them or not.
+-- What is claimed of the sentences (document 02, Q-1 and Q-3): each is short and printable, and no two choices with their
+-- answers share one. Kind, position, node and the numbers told may be any bytes, whether a hall can give them or not.
 -- Assumes nothing.
 use Prim.Native.Nat.{ℕ, _≤_}
 use mathlib.Core.Path.{_≡_}
 use mathlib.Core.Logic.{_↔_}
-use mathlib.Core.List.{[], _∷_}
+use mathlib.Core.List.{List, [], _∷_}
 use lib.ListN.{length}
 use Rattle.semantics.specs.Definitions.Basics.{All, Bytes}
+use Rattle.semantics.specs.Definitions.Shortage.{Shortage, enough, short}
 use Rattle.semantics.specs.Definitions.Moves.{Reply, movedBy, refusedBy}
 use Rattle.semantics.specs.Definitions.Sentence.{sentence}
 
--- the number of a rule or of a refusal
-abbrev pub replyNumber : Reply → ℕ
-replyNumber (movedBy n) = n
-replyNumber (refusedBy n) = n
+-- the numbers that a reply tells
+abbrev pub shortNumbers : Shortage → List ℕ
+shortNumbers enough = []
+shortNumbers (short a k) = a ∷ k ∷ []
+
+abbrev pub replyNumbers : Reply → List ℕ
+replyNumbers (movedBy n w) = n ∷ shortNumbers w
+replyNumbers (refusedBy n) = n ∷ []
 
 abbrev pub AllBytes : (k p n : ℕ) → Reply → Type 0
-AllBytes k p n a = Bytes (k ∷ p ∷ n ∷ replyNumber a ∷ [])
+AllBytes k p n a = Bytes (k ∷ p ∷ n ∷ replyNumbers a)
 
 -- at most 96 bytes
 unfoldable pub SentencesAreShort : Type 0

@@ -8,9 +8,10 @@ use mathlib.Core.List.{List, [], _∷_, _++_, map}
 use lib.ListN.{length, take, getD}
 use lib.Dec.{eqb}
 use Rattle.semantics.specs.Definitions.Table.{Table, TableAnswer, accepted, refusedAt, readTable}
+use Rattle.semantics.specs.Definitions.Shortage.{Shortage, enough}
 use Rattle.semantics.specs.Definitions.Configuration.{Configuration, opening}
 use Rattle.semantics.specs.Definitions.Stored.{hallBytes, bytesOf, configurationOf}
-use Rattle.semantics.specs.Definitions.Moves.{Entry, ruleNumber}
+use Rattle.semantics.specs.Definitions.Moves.{Entry, Response, does, refuses, respondTo, ruleNumber}
 use Rattle.semantics.specs.Definitions.Run.{Counters, freshCounters, RunAnswer, run, schedule, entries, steps}
 
 -- accepted, or refused with a number and a place
@@ -147,11 +148,12 @@ stepBytes (suc zero) p k = 1 ∷ p ∷ []
 stepBytes (suc (suc zero)) p k = 2 ∷ p ∷ k ∷ []
 stepBytes (suc (suc (suc n))) p k = suc (suc (suc n)) ∷ []
 
--- the answer, with the number of the rule that moved (0 where refused), and what was lent afterwards
+-- the answer, with the number of the rule that moved (0 where refused) and what was short, and what was lent afterwards
 pub record StepCall : Type 0 where
   pub number : ℕ
   pub place : ℕ
   pub rule : ℕ
+  pub shortage : Shortage
   pub buffers : Buffers
 
 -- the number of the first rule done, 0 where none is
@@ -160,14 +162,26 @@ unfolding steps ruleNumber
 firstRule (notAdmitted n p) es = 0
 firstRule (admitted t h) es = getD (map (λ s. ruleNumber (s .rule)) (steps h es)) 0 0
 
+-- what the first choice was short of; enough where it is refused
+unfoldable pub shortageIn : Response → Shortage
+shortageIn (does r w h) = w
+shortageIn (refuses n) = enough
+
+unfoldable pub firstShortage : Admission → List Entry → Shortage
+unfolding shortageIn respondTo
+firstShortage (notAdmitted n p) es = enough
+firstShortage (admitted t h) [] = enough
+firstShortage (admitted t h) (e ∷ es) = shortageIn (respondTo h e)
+
 -- a run of that one choice
 unfoldable pub stepCall : (table : List ℕ) → Buffers → (kind position node : ℕ) → StepCall
-unfolding stepBytes runCall firstRule admission entries schedule
+unfolding stepBytes runCall firstRule firstShortage admission entries schedule
 stepCall table l kind position node =
     let choice = stepBytes kind position node in
     let a = runCall table l choice in
     let rule = firstRule (admission table (l .hall)) (entries (schedule choice)) in
-    record { number = a .number; place = a .place; rule = rule; buffers = a .buffers }
+    let shortage = firstShortage (admission table (l .hall)) (entries (schedule choice)) in
+    record { number = a .number; place = a .place; rule = rule; shortage = shortage; buffers = a .buffers }
 
 -- ---- a list of calls, with one table, one hall and one tally
 

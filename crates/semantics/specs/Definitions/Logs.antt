@@ -1,30 +1,30 @@
--- The one test of a log's reads against counts, and the paths of an expression (document 01, "Choices and moves").
+-- A log's reads held against counts, and the paths of an expression (document 01, "Choices and moves").
 -- Assumes nothing.
 use Prim.Native.Nat.{suc}
 use mathlib.Core.Bool.{Bool}
 use mathlib.Core.Option.{Option}
 use mathlib.Core.List.{List, [], _∷_, _++_, map}
 use lib.ListN.{set}
-use lib.Dec.{leb}
 use Rattle.calculus.specs.Syntax.{Name, rd, wt, Log, State}
-use Rattle.calculus.specs.State.{count, occurrences, without}
+use Rattle.calculus.specs.State.{count, without}
 use Rattle.calculus.specs.Log.{RD}
-use Rattle.semantics.specs.Definitions.Basics.{allOf, firstOf}
+use Rattle.semantics.specs.Definitions.Basics.{firstOf}
+use Rattle.semantics.specs.Definitions.Shortage.{Shortage, shortageOf, isEnough}
 use Rattle.semantics.specs.Definitions.Terms.{Expression, endT, retryT, rdT, wtT, orElseT}
 
 -- the log of an attempt just begun
 unfoldable pub emptyLog : Log
 emptyLog = []
 
--- the one test of reads against counts: no channel is read more often than it counts
-unfoldable pub readsWithin : List Name → State → Bool
-unfolding allOf occurrences
-readsWithin bs σ = allOf (λ a. leb (occurrences a bs) (count σ a)) bs
+-- what a log, or a path, is short of at given counts
+unfoldable pub shortage : State → Log → Shortage
+unfolding shortageOf RD
+shortage σ δ = shortageOf (RD δ) σ
 
--- a log, or a path, is readable at given counts
+-- it is readable there: nothing is short
 unfoldable pub readable : State → Log → Bool
-unfolding readsWithin RD
-readable σ δ = readsWithin (RD δ) σ
+unfolding isEnough shortage
+readable σ δ = isEnough (shortage σ δ)
 
 -- the paths of a block from left to right: the actions of each branch that ends in end; a branch that ends in retry is none
 unfoldable pub paths : Expression → List Log

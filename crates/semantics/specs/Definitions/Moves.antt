@@ -13,7 +13,8 @@ use Rattle.calculus.specs.Reduction.{Rule, OUT, IN, REP, ATST, ATRE, ATFAIL, AT
 use Rattle.semantics.specs.Definitions.Layout.{maxCount, maxComponents, noRecord}
 use Rattle.semantics.specs.Definitions.Basics.{replaceAt}
 use Rattle.semantics.specs.Definitions.Terms.{Expression, endT, retryT, rdT, wtT, orElseT}
-use Rattle.semantics.specs.Definitions.Logs.{emptyLog, readable, addToken, takeToken}
+use Rattle.semantics.specs.Definitions.Shortage.{Shortage, enough}
+use Rattle.semantics.specs.Definitions.Logs.{emptyLog, shortage, readable, addToken, takeToken}
 use Rattle.semantics.specs.Definitions.Configuration.{Idle, taking, repeating, block, output, Tree, leaf, fork, Component, idle, transaction, Configuration, opens}
 
 -- kind 1, act, at a position; kind 2, inside, a move inside the transaction at a position, at a node
@@ -23,32 +24,34 @@ pub data Entry : Type 0 where
 
 -- ---- a move of one component, which gives way to others
 
+-- beside its rule a move tells what was short, where a commit or a read failed (document 02, Q-3)
 pub data LocalAnswer : Type 0 where
-  moves : Rule → State → List Component → LocalAnswer
+  moves : Rule → Shortage → State → List Component → LocalAnswer
   blocked : ℕ → LocalAnswer
 
 -- refusal 18: nothing is there to take
 unfoldable pub takes : State → Name → Rule → List Idle → LocalAnswer
 unfolding takeToken
-takes σ a r cs = cond (eqb (count σ a) 0) (blocked 18) (moves r (takeToken σ a) (map idle cs))
+takes σ a r cs = cond (eqb (count σ a) 0) (blocked 18) (moves r enough (takeToken σ a) (map idle cs))
 
 -- refusal 20: the channel is full
 unfoldable pub puts : State → Name → LocalAnswer
 unfolding addToken
-puts σ a = cond (leb maxCount (count σ a)) (blocked 20) (moves (OUT a) (addToken σ a) [])
+puts σ a = cond (leb maxCount (count σ a)) (blocked 20) (moves (OUT a) enough (addToken σ a) [])
 
--- at a single end leaf: ATOK where the log is readable at the present counts, else ATFAIL. Each write becomes an output.
+-- at a single end leaf: ATOK where the log is readable at the present counts, else ATFAIL, with what is short of them.
+-- Each write becomes an output.
 unfoldable pub commits : State → ℕ → Expression → Log → LocalAnswer
-unfolding readable without RD WT
+unfolding readable shortage without RD WT
 commits σ n M δ =
-    cond (readable σ δ) (moves (ATOK δ) (without σ (RD δ)) (map (λ a. idle (output a)) (WT δ)))
-    (moves ATFAIL σ (idle (block n M) ∷ []))
+    cond (readable σ δ) (moves (ATOK δ) enough (without σ (RD δ)) (map (λ a. idle (output a)) (WT δ)))
+    (moves ATFAIL (shortage σ δ) σ (idle (block n M) ∷ []))
 
 -- kind 1 at a transaction's nodes; refusal 15 while it has more to do than one end or retry leaf
 unfoldable pub ends : State → ℕ → Expression → Tree → LocalAnswer
 unfolding commits
 ends σ n M (leaf (endT e) δ) = commits σ n M δ
-ends σ n M (leaf (retryT e) δ) = moves ATRE σ (idle (block n M) ∷ [])
+ends σ n M (leaf (retryT e) δ) = moves ATRE enough σ (idle (block n M) ∷ [])
 ends σ n M (leaf (rdT e a N) δ) = blocked 15
 ends σ n M (leaf (wtT e a N) δ) = blocked 15
 ends σ n M (leaf (orElseT e N N′) δ) = blocked 15
@@ -59,36 +62,36 @@ unfoldable pub acts : State → Component → LocalAnswer
 unfolding takes puts ends opens emptyLog
 acts σ (idle (taking n a P)) = takes σ a (IN a) (opens P)
 acts σ (idle (repeating n a P)) = takes σ a (REP a) (opens P ++ (repeating n a P ∷ []))
-acts σ (idle (block n M)) = moves ATST σ (transaction n M σ (leaf M emptyLog) ∷ [])
+acts σ (idle (block n M)) = moves ATST enough σ (transaction n M σ (leaf M emptyLog) ∷ [])
 acts σ (idle (output a)) = puts σ a
 acts σ (transaction n M s t) = ends σ n M t
 
 -- ---- a move inside a transaction, at a node counted in preorder
 
 pub data Inner : Type 0 where
-  evolves : Rule → Tree → Inner
+  evolves : Rule → Shortage → Tree → Inner
   noRule : Inner
   outOfRange : ℕ → Inner
 
--- ARDOK where the log with this read is readable at the snapshot, else ARDF
+-- ARDOK where the log with this read is readable at the snapshot, else ARDF, with what is short of it
 unfoldable pub reads : State → Name → Expression → Log → Inner
-unfolding readable
+unfolding readable shortage
 reads s a M δ =
-    cond (readable s (δ ++ (rd a ∷ []))) (evolves ARDOK (leaf M (δ ++ (rd a ∷ []))))
-    (evolves ARDF (leaf (retryT noRecord) δ))
+    cond (readable s (δ ++ (rd a ∷ []))) (evolves ARDOK enough (leaf M (δ ++ (rd a ∷ []))))
+    (evolves ARDF (shortage s (δ ++ (rd a ∷ []))) (leaf (retryT noRecord) δ))
 
 unfoldable pub atLeaf : State → Expression → Log → Inner
 unfolding reads
 atLeaf s (endT n) δ = noRule
 atLeaf s (retryT n) δ = noRule
 atLeaf s (rdT n a M) δ = reads s a M δ
-atLeaf s (wtT n a M) δ = evolves AWR (leaf M (δ ++ (wt a ∷ [])))
-atLeaf s (orElseT n M N) δ = evolves AOI (fork (leaf M δ) (leaf N δ))
+atLeaf s (wtT n a M) δ = evolves AWR enough (leaf M (δ ++ (wt a ∷ [])))
+atLeaf s (orElseT n M N) δ = evolves AOI enough (fork (leaf M δ) (leaf N δ))
 
 -- a fork is settled by its left side alone: AOF drops a left side that is a retry leaf, AOE keeps one that is an end leaf
 unfoldable pub atFork : Tree → Tree → Inner
-atFork (leaf (endT n) δ) r = evolves AOE (leaf (endT n) δ)
-atFork (leaf (retryT n) δ) r = evolves AOF r
+atFork (leaf (endT n) δ) r = evolves AOE enough (leaf (endT n) δ)
+atFork (leaf (retryT n) δ) r = evolves AOF enough r
 atFork (leaf (rdT n a M) δ) r = noRule
 atFork (leaf (wtT n a M) δ) r = noRule
 atFork (leaf (orElseT n M N) δ) r = noRule
@@ -96,13 +99,13 @@ atFork (fork l m) r = noRule
 
 -- what a fork makes of a move in its left side, or past it in its right side
 unfoldable pub inRight : Tree → Inner → Inner
-inRight l (evolves e r) = evolves e (fork l r)
+inRight l (evolves e w r) = evolves e w (fork l r)
 inRight l noRule = noRule
 inRight l (outOfRange k) = outOfRange k
 
 unfoldable pub inLeft : Tree → Inner → (ℕ → Inner) → Inner
 unfolding inRight
-inLeft r (evolves e l) right = evolves e (fork l r)
+inLeft r (evolves e w l) right = evolves e w (fork l r)
 inLeft r noRule right = noRule
 inLeft r (outOfRange k) right = right k
 
@@ -115,7 +118,7 @@ inner s (fork l r) (suc k) = inLeft r (inner s l k) (λ j. inRight l (inner s r 
 
 -- refusal 16 past the last node; refusal 17 where the node has nothing to do
 unfoldable pub innerLocal : State → ℕ → Expression → State → Inner → LocalAnswer
-innerLocal σ n M s (evolves r t) = moves r σ (transaction n M s t ∷ [])
+innerLocal σ n M s (evolves r w t) = moves r w σ (transaction n M s t ∷ [])
 innerLocal σ n M s noRule = blocked 17
 innerLocal σ n M s (outOfRange k) = blocked 16
 
@@ -127,28 +130,41 @@ actsInside σ (transaction n M s t) k = innerLocal σ n M s (inner s t k)
 
 -- ---- at a position
 
--- the answer to an entry: a rule with the configuration after it, or a refusal
+-- the response to an entry: a rule, what was short, and the configuration after it, or a refusal
+pub data Response : Type 0 where
+  does : Rule → Shortage → Configuration → Response
+  refuses : ℕ → Response
+
+-- refusal 19: too many components afterwards
+unfoldable pub applyAt : ℕ → LocalAnswer → Configuration → Response
+unfolding replaceAt
+applyAt p (blocked n) h = refuses n
+applyAt p (moves r w σ cs) h =
+    let after = replaceAt p cs (h .components) in
+    cond (leb (length after) maxComponents) (does r w (record { counts = σ; components = after })) (refuses 19)
+
+-- refusal 14: the position lies past the last component
+unfoldable pub atPosition : Option Component → (Component → Response) → Response
+atPosition none k = refuses 14
+atPosition (some c) k = k c
+
+unfoldable pub respondTo : Configuration → Entry → Response
+unfolding atPosition applyAt acts actsInside
+respondTo h (act p) = atPosition (getElem? (h .components) p) (λ c. applyAt p (acts (h .counts) c) h)
+respondTo h (inside p k) = atPosition (getElem? (h .components) p) (λ c. applyAt p (actsInside (h .counts) c k) h)
+
+-- the answer: the same without what was short. Runs go by it
 pub data Answer : Type 0 where
   moved : Rule → Configuration → Answer
   refused : ℕ → Answer
 
--- refusal 19: too many components afterwards
-unfoldable pub applyAt : ℕ → LocalAnswer → Configuration → Answer
-unfolding replaceAt
-applyAt p (blocked n) h = refused n
-applyAt p (moves r σ cs) h =
-    let after = replaceAt p cs (h .components) in
-    cond (leb (length after) maxComponents) (moved r (record { counts = σ; components = after })) (refused 19)
-
--- refusal 14: the position lies past the last component
-unfoldable pub atPosition : Option Component → (Component → Answer) → Answer
-atPosition none k = refused 14
-atPosition (some c) k = k c
+unfoldable pub answerOf : Response → Answer
+answerOf (does r w h) = moved r h
+answerOf (refuses n) = refused n
 
 unfoldable pub answerTo : Configuration → Entry → Answer
-unfolding atPosition applyAt acts actsInside
-answerTo h (act p) = atPosition (getElem? (h .components) p) (λ c. applyAt p (acts (h .counts) c) h)
-answerTo h (inside p k) = atPosition (getElem? (h .components) p) (λ c. applyAt p (actsInside (h .counts) c k) h)
+unfolding answerOf respondTo
+answerTo h e = answerOf (respondTo h e)
 
 unfoldable pub isMoved : Answer → Bool
 isMoved (moved r h) = true
@@ -188,10 +204,10 @@ ruleNumber r = (effectOf r) .number
 
 -- what a choice answers, for each case with its number
 pub data Reply : Type 0 where
-  movedBy : (rule : ℕ) → Reply
+  movedBy : (rule : ℕ) (shortage : Shortage) → Reply
   refusedBy : (number : ℕ) → Reply
 
-unfoldable pub replyOf : Answer → Reply
+unfoldable pub replyOf : Response → Reply
 unfolding ruleNumber
-replyOf (moved r h) = movedBy (ruleNumber r)
-replyOf (refused n) = refusedBy n
+replyOf (does r w h) = movedBy (ruleNumber r) w
+replyOf (refuses n) = refusedBy n

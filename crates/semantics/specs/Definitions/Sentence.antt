@@ -1,4 +1,4 @@
--- A choice and its answer as one English sentence, and the call that writes it (document 02, Q-1).
+-- A choice and its answer as one English sentence, and the call that writes it (document 02, Q-1 and Q-3).
 -- Assumes nothing.
 use Prim.Native.Nat.{ℕ, zero, suc}
 use Prim.Native.Char.{code}
@@ -8,6 +8,7 @@ use mathlib.Core.Bool.{cond}
 use mathlib.Core.List.{List, [], _∷_, _++_}
 use lib.ListN.{length, drop}
 use lib.Dec.{ltb, eqb}
+use Rattle.semantics.specs.Definitions.Shortage.{Shortage, enough, short}
 use Rattle.semantics.specs.Definitions.Moves.{Reply, movedBy, refusedBy}
 use Rattle.semantics.specs.Definitions.Report.{decimal}
 
@@ -58,9 +59,15 @@ unfoldable pub choiceNamed : (kind position node : ℕ) → List ℕ
 unfolding named nodeNamed
 choiceNamed k p n = named "Kind " k ++ (named " at station " p ++ nodeNamed k n)
 
+-- what was short, by its tray, where something was (document 02, Q-3)
+unfoldable pub shortNamed : Shortage → List ℕ
+unfolding named
+shortNamed enough = []
+shortNamed (short a k) = named ", tray " a ++ named " short by " k
+
 unfoldable pub replyNamed : Reply → List ℕ
-unfolding named wordsFor ruleWords refusalWords
-replyNamed (movedBy n) = named " moved by rule " n ++ wordsFor ruleWords n
+unfolding named wordsFor ruleWords refusalWords shortNamed
+replyNamed (movedBy n w) = (named " moved by rule " n ++ wordsFor ruleWords n) ++ shortNamed w
 replyNamed (refusedBy n) = named " met refusal " n ++ wordsFor refusalWords n
 
 unfoldable pub sentence : (kind position node : ℕ) → Reply → List ℕ

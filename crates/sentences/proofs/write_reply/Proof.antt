@@ -1,8 +1,9 @@
 -- Writing what a choice was answered meets its contract.
 -- Assumes nothing.
+use mathlib.Core.Path.{refl}
 use borrow.Author.Needs.{needs}
 use Rattle.semantics.specs.Definitions.Sentence.{ascii, named}
-use Rattle.sentences.proofs.Parts.{moved, refused, described-fits, described-written}
+use Rattle.sentences.proofs.Parts.{moved, refused, described-fits, short-fits, short-written, described-written}
 use Rattle.sentences.proofs.write_reply.Statement.{statement}
 use Rattle.sentences.proofs.write_reply.Tie as tie
 
@@ -17,8 +18,17 @@ unfolding named ascii
 write-described-requires c κs =
     let test = c .before .before .before in (
       c .rule-entry .ensures .0,
-      described-fits _ _ _ _ (moved _ _ (test .if1 .taken)) _ (c .rule-entry .ensures .1) _ _ (test .before .before .pre),
+      described-fits _ _ _ _ _ (moved _ _ _ (test .if1 .taken)) _ (c .rule-entry .ensures .1) _ _ (test .before .before .pre),
     )
+
+write-short-requires : tie.Need-write-short-requires
+unfolding named ascii
+write-short-requires c κs =
+    let written = c .before .before .before in
+    let looked = written .before in
+    let test = looked .before .before .before in
+    short-fits _ _ _ _ _ (moved _ _ _ (test .if1 .taken)) _ (looked .rule-entry .ensures .1) _ _ (test .before .before .pre) _ _ _
+    refl (written .write-described .ensures)
 
 same-length : tie.Need-same-length
 same-length c = search needs
@@ -26,10 +36,12 @@ same-length c = search needs
 returns : tie.Need-returns
 unfolding named ascii
 returns c =
-    let written = c .before .before in
+    let behind = c .before .before in
+    let written = behind .before .before .before .before in
     let looked = written .before in
-    described-written _ _ _ _ (moved _ _ (looked .before .before .before .if1 .taken)) _ (looked .rule-entry .ensures .1) _ _ _
-    _ (written .write-described .ensures)
+    let test = looked .before .before .before in
+    short-written _ _ _ _ _ (moved _ _ _ (test .if1 .taken)) _ (looked .rule-entry .ensures .1) _ _ (test .before .before .pre) _ _ _
+    refl (written .write-described .ensures) _ _ (behind .write-short .ensures)
 
 slice-aggregate-write-described-2 : tie.Need-slice-aggregate-write-described-2
 slice-aggregate-write-described-2 c = search needs
@@ -42,7 +54,7 @@ unfolding named ascii
 write-described-requires-2 c κs =
     let test = c .before .before .before in (
       c .refusal-entry .ensures .0,
-      described-fits _ _ _ _ (refused _ _ (test .if1 .left)) _ (c .refusal-entry .ensures .1) _ _ (test .before .before .pre),
+      described-fits _ _ _ _ _ (refused _ _ _ (test .if1 .left)) _ (c .refusal-entry .ensures .1) _ _ (test .before .before .pre),
     )
 
 same-length-2 : tie.Need-same-length-2
@@ -53,11 +65,12 @@ unfolding named ascii
 returns-2 c =
     let written = c .before .before in
     let looked = written .before in
-    described-written _ _ _ _ (refused _ _ (looked .before .before .before .if1 .left)) _ (looked .refusal-entry .ensures .1) _ _ _
-    _ (written .write-described2 .ensures)
+    described-written _ _ _ _ (refused _ _ _ (looked .before .before .before .if1 .left)) _ (looked .refusal-entry .ensures .1)
+    _ _ _ _ (written .write-described2 .ensures)
 
 pub write-reply-spec : {M : Type 1} → statement M
 write-reply-spec =
     tie.close
-    (tie.spec slice-aggregate-write-described rule-entry-requires write-described-requires same-length returns
-    slice-aggregate-write-described-2 refusal-entry-requires write-described-requires-2 same-length-2 returns-2)
+    (tie.spec slice-aggregate-write-described rule-entry-requires write-described-requires write-short-requires
+    same-length returns slice-aggregate-write-described-2 refusal-entry-requires write-described-requires-2 same-length-2
+    returns-2)

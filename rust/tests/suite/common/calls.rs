@@ -12,6 +12,7 @@ use reference::table::{read_table, Term};
 use ruonfidd::{ffi, HALL_BYTES};
 
 use super::choices::step_bytes;
+use super::shortages::{told_bytes, Seen, ShortMet, Told};
 use super::wrong_suggestions::{first_of, WRONG};
 
 /// What was met over many calls.
@@ -34,6 +35,8 @@ pub(crate) struct Met {
     pub(crate) of_several: usize,
     /// How often each wrong way to suggest would have given something else.
     pub(crate) wrong: [usize; WRONG.len()],
+    /// What steps told of shortages.
+    pub(crate) short: ShortMet,
 }
 
 impl Met {
@@ -53,6 +56,7 @@ impl Met {
         self.still += other.still;
         self.of_several += other.of_several;
         each(&mut self.wrong, &other.wrong);
+        self.short.add(&other.short);
     }
 
     /// Each rule, 1 to 13, was done so often.
@@ -97,7 +101,7 @@ impl fmt::Display for Met {
             out,
             "{} calls; rules 1 to 13 {:?}; numbers 0 to 20 {:?}; 19 at IN {}, REP {}, ATOK {}; \
              counters at the top {:?}; {} suggestions, {} of several, {} still; \
-             wrong ways to suggest that would be noticed {:?}",
+             wrong ways to suggest that would be noticed {:?}; {}",
             self.calls,
             &self.rules[1..],
             self.numbers,
@@ -108,7 +112,8 @@ impl fmt::Display for Met {
             self.suggested,
             self.of_several,
             self.still,
-            self.wrong
+            self.wrong,
+            self.short
         )
     }
 }
@@ -204,6 +209,12 @@ impl Sequence {
     /// Makes one choice of any kind: number, place and rule.
     #[track_caller]
     pub(crate) fn step(&mut self, choice: [u8; 3]) -> (u8, usize, u8) {
+        self.step_told(choice).0
+    }
+
+    /// The same, and what was short.
+    #[track_caller]
+    pub(crate) fn step_told(&mut self, choice: [u8; 3]) -> ((u8, usize, u8), Told) {
         let [kind, position, node] = choice;
         let bytes = match kind {
             1 => vec![kind, position],
@@ -211,14 +222,16 @@ impl Sequence {
             _ => vec![kind],
         };
         self.note_run(&bytes);
+        let seen = Seen::before(&self.table, &self.by_second, choice);
         let mut tally = words(self.tally);
-        let (mut place, mut rule) = (usize::MAX, u8::MAX);
+        let (mut place, mut rule, mut shortage) = (usize::MAX, u8::MAX, [u8::MAX; 2]);
         let number = ffi::step(
             &self.table,
             &mut self.hall,
             choice,
             &mut tally,
             &mut rule,
+            &mut shortage,
             &mut place,
         );
         let second = calls::step(
@@ -228,14 +241,22 @@ impl Sequence {
             &bytes,
         );
         self.set_tally(tally);
-        let expected = match second {
-            StepAnswer::Moved(rule) => (0, bytes.len(), rule),
-            StepAnswer::Refused(refusal) => (refusal.number, refusal.place, 0),
+        let (expected, told) = match second {
+            StepAnswer::Moved { rule, short } => (
+                (0, bytes.len(), rule),
+                short.map(|short| (short.tray, short.by)),
+            ),
+            StepAnswer::Refused(refusal) => ((refusal.number, refusal.place, 0), None),
         };
         let answer = (number, place, rule);
         assert_eq!(answer, expected, "{choice:?} on {self}");
+        assert_eq!(shortage, told_bytes(told), "{choice:?} on {self}");
+        match seen {
+            Some(seen) if number == 0 => self.met.short.note(&seen.moved_by(rule), told),
+            _ => assert_eq!(told, None, "{choice:?} on {self}"),
+        }
         self.compare(&choice);
-        answer
+        (answer, told)
     }
 
     /// The choice suggested, the first that is accepted; none where none is.

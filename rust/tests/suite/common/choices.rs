@@ -28,7 +28,7 @@ pub(crate) fn steered(
     for _ in 0..how_many {
         let mut moves = Vec::new();
         for choice in accepted_choices(table, &hall) {
-            if let Outcome::Moved { rule, hall } = make_move(table, &hall, choice) {
+            if let Outcome::Moved { rule, hall, .. } = make_move(table, &hall, choice) {
                 moves.push((choice, rule, hall));
             }
         }

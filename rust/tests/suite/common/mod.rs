@@ -1,4 +1,5 @@
-//! What the tests share: answers and calls compared, tables by chance, halls by hand.
+//! What the tests share: answers and calls compared, tables by chance, halls by hand,
+//! wrong ways that must be noticed.
 
 pub(crate) mod answers;
 pub(crate) mod by_chance;
@@ -6,4 +7,6 @@ pub(crate) mod by_hand;
 pub(crate) mod calls;
 pub(crate) mod choices;
 pub(crate) mod seeds;
+pub(crate) mod shortages;
+pub(crate) mod wrong_shortages;
 pub(crate) mod wrong_suggestions;

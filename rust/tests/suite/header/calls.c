@@ -27,12 +27,18 @@ static uint8_t report[RUONFIDD_REPORT_BYTES];
 static uint8_t board[RUONFIDD_SENTENCE_BYTES + 1], untouched[RUONFIDD_SENTENCE_BYTES + 1];
 static const char begun[] = "Kind 1 at station 0 moved by rule 4, attempt begun.";
 static const char unknown[] = "Kind 255 at station 0, node 9 met refusal 12, no such kind.";
+/* Two blocks that read tray 0 twice, and two tokens: both begin and read, the first is committed. */
+static const uint8_t rivals[] = {7, 9, 0, 0, 9, 0, 1, 6, 2, 5, 3, 3, 12, 0, 2, 13, 4};
+static const uint8_t both_read[] = {1, 0, 1, 1, 2, 0, 0, 2, 0, 0, 2, 1, 0, 2, 1, 0, 1, 0};
+static const char late[] = "Kind 1 at station 0 moved by rule 6, commit failed, tray 0 short by 2.";
+static const char lacking[] = "Kind 2 at station 0, node 0 moved by rule 9, read failed, tray 0 short by 1.";
+static const char longest[] = "Kind 255 at station 255, node 255 moved by rule 3, token taken, repeats, tray 255 short by 255.";
 
 int main(void) {
     const size_t unset = (size_t)-1;
     size_t place = unset, done = unset, length = unset;
     uint32_t tally[3] = {9, 9, 9};
-    uint8_t rule = 99, choice[3] = {99, 99, 99};
+    uint8_t rule = 99, shortage[2] = {99, 99}, choice[3] = {99, 99, 99};
 
     MUST(ruonfidd_check_table(table, sizeof table, &place) == 0 && place == 0);
     MUST(ruonfidd_check_table(table, 12, &place) == 9 && place == 12);
@@ -57,33 +63,43 @@ int main(void) {
 
     /* The first choice by a step, the second as it is suggested, the others in a run that is refused behind them. */
     place = unset;
-    MUST(ruonfidd_step(table, sizeof table, hall, sizeof hall, 1, 0, 200, tally, &rule, &place) == 0);
-    MUST(rule == 4 && place == 2 && hall[16] == 21);
+    MUST(ruonfidd_step(table, sizeof table, hall, sizeof hall, 1, 0, 200, tally, &rule, shortage, &place) == 0);
+    MUST(rule == 4 && shortage[0] == 0 && shortage[1] == 0 && place == 2 && hall[16] == 21);
     /* What it did, in words; behind them nothing is written. */
     memset(board, 99, sizeof board);
-    MUST(ruonfidd_sentence(1, 0, 200, 1, rule, board, RUONFIDD_SENTENCE_BYTES, &length) == 0);
+    MUST(ruonfidd_sentence(1, 0, 200, 1, rule, shortage[0], shortage[1], board, RUONFIDD_SENTENCE_BYTES,
+                           &length) == 0);
     MUST(length == sizeof begun - 1 && memcmp(board, begun, length) == 0 && board[length] == 99);
     MUST(board[sizeof board - 2] == 99 && board[sizeof board - 1] == 99);
     place = unset;
     MUST(ruonfidd_suggest(table, sizeof table, hall, sizeof hall, choice, &place) == 0 && place == 0);
     MUST(choice[0] == 2 && choice[1] == 0 && choice[2] == 0);
     MUST(ruonfidd_step(table, sizeof table, hall, sizeof hall, choice[0], choice[1], choice[2], tally,
-                       &rule, &place) == 0);
+                       &rule, shortage, &place) == 0);
     MUST(rule == 8 && place == 3);
-    MUST(ruonfidd_step(table, sizeof table, hall, sizeof hall, 255, 0, 0, tally, &rule, &place) == 12);
-    MUST(rule == 0 && place == 0);
-    MUST(ruonfidd_sentence(255, 0, 9, 0, 12, board, sizeof board, &length) == 0);
+    memset(shortage, 99, sizeof shortage);
+    MUST(ruonfidd_step(table, sizeof table, hall, sizeof hall, 255, 0, 0, tally, &rule, shortage, &place) == 12);
+    MUST(rule == 0 && shortage[0] == 0 && shortage[1] == 0 && place == 0);
+    MUST(ruonfidd_sentence(255, 0, 9, 0, 12, shortage[0], shortage[1], board, sizeof board, &length) == 0);
     MUST(length == sizeof unknown - 1 && memcmp(board, unknown, length) == 0 && board[length] == 99);
-    /* Any byte but 0 says that it moved. */
-    MUST(ruonfidd_sentence(1, 0, 0, 255, 4, board, sizeof board, &length) == 0);
+    /* Of a refused choice a shortage counts for nothing. */
+    MUST(ruonfidd_sentence(255, 0, 9, 0, 12, 3, 1, board, sizeof board, &length) == 0);
+    MUST(length == sizeof unknown - 1 && memcmp(board, unknown, length) == 0 && board[length] == 99);
+    /* Any byte but 0 says that it moved; a tray that is short by none counts for nothing. */
+    MUST(ruonfidd_sentence(1, 0, 0, 255, 4, 3, 0, board, sizeof board, &length) == 0);
     MUST(length == sizeof begun - 1 && memcmp(board, begun, length) == 0);
+    /* The longest sentence there is. */
+    memset(board, 99, sizeof board);
+    MUST(ruonfidd_sentence(255, 255, 255, 1, 3, 255, 255, board, RUONFIDD_SENTENCE_BYTES, &length) == 0);
+    MUST(length == sizeof longest - 1 && length == 95 && memcmp(board, longest, length) == 0);
+    MUST(board[length] == 99 && board[length + 1] == 99);
     /* A byte too short, and no memory at all: nothing is written, the length neither. */
     memset(board, 99, sizeof board);
     memset(untouched, 99, sizeof untouched);
     length = unset;
-    MUST(ruonfidd_sentence(1, 0, 0, 1, 4, board, RUONFIDD_SENTENCE_BYTES - 1, &length) == 21);
+    MUST(ruonfidd_sentence(1, 0, 0, 1, 6, 3, 1, board, RUONFIDD_SENTENCE_BYTES - 1, &length) == 21);
     MUST(length == unset && memcmp(board, untouched, sizeof board) == 0);
-    MUST(ruonfidd_sentence(1, 0, 0, 1, 4, NULL, 0, &length) == 21 && length == unset);
+    MUST(ruonfidd_sentence(1, 0, 0, 1, 6, 3, 1, NULL, 0, &length) == 21 && length == unset);
     place = done = unset;
     MUST(ruonfidd_run(table, sizeof table, hall, sizeof hall, choices + 5, sizeof choices - 5, tally, &place,
                       &done) == 0);
@@ -110,10 +126,28 @@ int main(void) {
         MUST(memcmp(choice, first[turn], sizeof choice) == 0);
         /* The put at the end, which is accepted too and is not suggested. */
         memcpy(before, hall, sizeof hall);
-        MUST(ruonfidd_step(several, sizeof several, before, sizeof before, 1, 2, 0, tally, &rule, &place) == 0);
+        MUST(ruonfidd_step(several, sizeof several, before, sizeof before, 1, 2, 0, tally, &rule, shortage,
+                           &place) == 0);
         MUST(ruonfidd_step(several, sizeof several, hall, sizeof hall, choice[0], choice[1], choice[2], tally,
-                           &rule, &place) == 0);
+                           &rule, shortage, &place) == 0);
     }
+
+    /* A commit that comes too late and then a read that finds nothing: which tray was short, and the two bytes
+     * handed on to the sentence. */
+    MUST(ruonfidd_open_hall(rivals, sizeof rivals, hall, sizeof hall, &place) == 0);
+    MUST(ruonfidd_run(rivals, sizeof rivals, hall, sizeof hall, both_read, sizeof both_read, tally, &place,
+                      &done) == 0);
+    memset(shortage, 99, sizeof shortage);
+    MUST(ruonfidd_step(rivals, sizeof rivals, hall, sizeof hall, 1, 0, 0, tally, &rule, shortage, &place) == 0);
+    MUST(rule == 6 && shortage[0] == 0 && shortage[1] == 2 && place == 2);
+    MUST(ruonfidd_sentence(1, 0, 0, 1, rule, shortage[0], shortage[1], board, sizeof board, &length) == 0);
+    MUST(length == sizeof late - 1 && memcmp(board, late, length) == 0);
+    MUST(ruonfidd_run(rivals, sizeof rivals, hall, sizeof hall, both_read, 2, tally, &place, &done) == 0);
+    memset(shortage, 99, sizeof shortage);
+    MUST(ruonfidd_step(rivals, sizeof rivals, hall, sizeof hall, 2, 0, 0, tally, &rule, shortage, &place) == 0);
+    MUST(rule == 9 && shortage[0] == 0 && shortage[1] == 1 && place == 3);
+    MUST(ruonfidd_sentence(2, 0, 0, 1, rule, shortage[0], shortage[1], board, sizeof board, &length) == 0);
+    MUST(length == sizeof lacking - 1 && memcmp(board, lacking, length) == 0);
 
     /* The printed run of table and choices; behind it nothing is written. */
     memset(report, 99, sizeof report);

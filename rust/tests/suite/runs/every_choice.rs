@@ -67,6 +67,8 @@ fn on_small_halls() {
     assert!(met.calls >= 100_000, "{met}");
     met.rules_at_least(100);
     met.numbers_at_least([12, 14, 15, 16, 17, 18, 20].into_iter(), 100);
+    met.short.several_at_least(15);
+    met.short.wrong_at_least(25);
 }
 
 /// Halls of 62 to 64 stations: near the limit of stations and of bytes.
@@ -90,4 +92,5 @@ fn on_nearly_full_halls() {
     assert!(met.calls >= 20_000, "{met}");
     met.rules_at_least(25);
     met.too_many_at_least(25);
+    met.short.wrong_at_least(20);
 }

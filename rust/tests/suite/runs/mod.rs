@@ -7,6 +7,7 @@ mod owned;
 mod refused;
 mod rehearsals;
 mod sequences;
+mod shortages;
 mod stored;
 mod suggestions;
 mod tallies;

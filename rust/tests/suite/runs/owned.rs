@@ -7,7 +7,7 @@ use reference::choice::{whole_choices, Choice as Second};
 use reference::generator::{self, Random};
 use reference::hall::{encode, opening};
 use reference::run::Tally as SecondTally;
-use ruonfidd::{Choice, Hall, Moved, Refusal, Tally, HALL_BYTES};
+use ruonfidd::{Choice, Hall, Moved, Refusal, Shortage, Tally, HALL_BYTES};
 
 use crate::common::by_chance::{accepted, any_table};
 use crate::common::by_hand::EXAMPLE;
@@ -82,6 +82,7 @@ fn steps_with_their_rules() {
         let moved = hall.step(&EXAMPLE, choice_of(choice), &mut tally);
         let moved = moved.expect("an accepted choice");
         assert_eq!(moved.choice, choice_of(choice));
+        assert_eq!(moved.shortage, None);
         answers.push((moved.rule, moved.place));
     }
     let expected = [
@@ -227,15 +228,20 @@ fn suggested_steps_leave_out_what_stands_behind() {
     let (mut hall, mut tally) = open(&bytes);
     let mut made = Vec::new();
     for step in hall.suggested_steps(&bytes, &mut tally).take(300) {
-        made.push(step.expect("an accepted choice").choice);
+        let moved = step.expect("an accepted choice");
+        made.push((moved.choice, moved.shortage));
     }
-    // It begins, finds nothing and gives up.
+    // It begins, finds nothing, which is told, and gives up.
     let act = Choice::Act { position: 0 };
     let inside = Choice::Inside {
         position: 0,
         node: 0,
     };
-    assert_eq!(made, [act, inside, act].repeat(100));
+    let short = Shortage::new(0, 1);
+    assert_eq!(
+        made,
+        [(act, None), (inside, short), (act, None)].repeat(100)
+    );
     assert_eq!((hall.counts()[0], tally.retries), (0, 100));
     // The put is made by hand, and the block ends.
     hall.step(&bytes, Choice::Act { position: 1 }, &mut tally)

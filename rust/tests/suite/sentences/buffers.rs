@@ -3,17 +3,22 @@
 use reference::calls;
 use ruonfidd::{ffi, say_into, Answer, Refusal, SENTENCE_BYTES};
 
-use super::{bare_forms, reply, Choice};
+use super::{bare_forms, moved_short, reply, Bare, Choice};
 
 /// Bytes on each side of the lent ones.
 const AROUND: usize = 64;
 
-/// A short sentence, one of the longest, and one that no hall gives.
-const SAID: [(Choice, Answer); 3] = [
-    ([1, 0, 0], Answer::Moved(1)),
-    ([255, 255, 255], Answer::Refused(15)),
-    ([0, 10, 99], Answer::Moved(0)),
-];
+/// A short sentence, the longest without and with a shortage, one of a commit
+/// that failed, and one that no hall gives.
+fn some_sentences() -> [(Choice, Answer); 5] {
+    [
+        ([1, 0, 0], Answer::moved(1)),
+        ([255, 255, 255], Answer::Refused(15)),
+        ([255, 255, 255], moved_short(3, [255, 255])),
+        ([1, 63, 0], moved_short(6, [15, 16])),
+        ([0, 10, 99], Answer::moved(0)),
+    ]
+}
 
 /// What a call answered: its number, 0 where it wrote, and the length, or one
 /// that no sentence has where none was set.
@@ -55,9 +60,9 @@ fn by_safe_call(choice: Choice, answer: Answer, buffer: &mut [u8]) -> Answered {
 }
 
 /// The length stands between two guards.
-fn by_bare_call(choice: Choice, (moved, number): (u8, u8), buffer: &mut [u8]) -> Answered {
+fn by_bare_call(choice: Choice, (moved, number, short): Bare, buffer: &mut [u8]) -> Answered {
     let mut lengths = [UNSET; 3];
-    let refused = ffi::sentence(choice, moved, number, buffer, &mut lengths[1]);
+    let refused = ffi::sentence(choice, moved, number, short, buffer, &mut lengths[1]);
     assert_eq!((lengths[0], lengths[2]), (UNSET, UNSET));
     (refused, lengths[1])
 }
@@ -68,7 +73,7 @@ fn by_bare_call(choice: Choice, (moved, number): (u8, u8), buffer: &mut [u8]) ->
 #[track_caller]
 fn lent(length: usize) -> u8 {
     let mut numbers = Vec::new();
-    for (choice, answer) in SAID {
+    for (choice, answer) in some_sentences() {
         for before in [0, 170] {
             let expected = among_others(length, before, |it| by_second(choice, answer, it));
             let safe = among_others(length, before, |it| by_safe_call(choice, answer, it));
@@ -91,7 +96,7 @@ fn of_no_bytes() {
     assert_eq!(lent(0), Refusal::BUFFER_TOO_SHORT);
 }
 
-/// Most sentences would fit; the buffer is refused all the same.
+/// Every sentence would fit; the buffer is refused all the same.
 #[test]
 fn one_byte_too_short() {
     assert_eq!(lent(95), Refusal::BUFFER_TOO_SHORT);
@@ -133,9 +138,10 @@ fn of_every_length_up_to_300() {
 #[test]
 fn one_sentence_over_another() {
     let mut buffer = [0; SENTENCE_BYTES];
-    let long = say_into([2, 255, 255], Answer::Refused(17), &mut buffer).expect("room");
+    let failed = moved_short(9, [15, 16]);
+    let long = say_into([2, 255, 255], failed, &mut buffer).expect("room");
     let before = buffer;
-    let short = say_into([1, 0, 0], Answer::Moved(1), &mut buffer).expect("room");
+    let short = say_into([1, 0, 0], Answer::moved(1), &mut buffer).expect("room");
     assert!(short < long);
     assert_eq!(
         buffer[..short],

@@ -1,9 +1,14 @@
 //! Sentences written out, one edge after the other.
 
-use ruonfidd::Answer::{self, Moved, Refused};
+use ruonfidd::Answer::{self, Refused};
 use ruonfidd::{say, Sentence};
 
 use super::{said, Choice};
+
+/// It moved, and nothing was short.
+fn moved(rule: u8) -> Answer {
+    Answer::moved(rule)
+}
 
 #[track_caller]
 fn gives(choice: Choice, answer: Answer, sentence: &str) {
@@ -31,12 +36,12 @@ fn of_every_rule() {
         let end = format!("moved by rule {rule}, {words}.");
         gives(
             [1, 5, 0],
-            Moved(rule),
+            moved(rule),
             &format!("Kind 1 at station 5 {end}"),
         );
         gives(
             [2, 5, 3],
-            Moved(rule),
+            moved(rule),
             &format!("Kind 2 at station 5, node 3 {end}"),
         );
     }
@@ -87,7 +92,7 @@ fn numbers_without_words() {
     for number in [0, 14, 15, 20, 21, 22, 99, 100, 255] {
         gives(
             [1, 0, 0],
-            Moved(number),
+            moved(number),
             &format!("Kind 1 at station 0 moved by rule {number}."),
         );
     }
@@ -107,7 +112,7 @@ fn positions() {
     for position in [0, 1, 9, 10, 11, 63, 64, 99, 100, 101, 199, 200, 254, 255] {
         gives(
             [1, position, 0],
-            Moved(2),
+            moved(2),
             &format!("Kind 1 at station {position} moved by rule 2, token taken."),
         );
     }
@@ -131,14 +136,14 @@ fn the_node_of_kind_1() {
     for node in [0, 1, 2, 9, 10, 99, 100, 255] {
         gives(
             [1, 3, node],
-            Moved(4),
+            moved(4),
             "Kind 1 at station 3 moved by rule 4, attempt begun.",
         );
     }
     for kind in [0, 2, 3, 10, 11, 100, 101, 255] {
         gives(
             [kind, 3, 7],
-            Moved(4),
+            moved(4),
             &format!("Kind {kind} at station 3, node 7 moved by rule 4, attempt begun."),
         );
     }
@@ -149,7 +154,7 @@ fn the_node_of_kind_1() {
 fn pairs_that_no_hall_gives() {
     gives(
         [0, 0, 0],
-        Moved(0),
+        moved(0),
         "Kind 0 at station 0, node 0 moved by rule 0.",
     );
     gives(
@@ -159,7 +164,7 @@ fn pairs_that_no_hall_gives() {
     );
     gives(
         [255, 255, 255],
-        Moved(255),
+        moved(255),
         "Kind 255 at station 255, node 255 moved by rule 255.",
     );
     gives(
@@ -171,12 +176,12 @@ fn pairs_that_no_hall_gives() {
     // a station that none has.
     gives(
         [2, 0, 0],
-        Moved(1),
+        moved(1),
         "Kind 2 at station 0, node 0 moved by rule 1, token put.",
     );
     gives(
         [1, 0, 0],
-        Moved(8),
+        moved(8),
         "Kind 1 at station 0 moved by rule 8, read noted.",
     );
     gives(
@@ -206,7 +211,7 @@ fn the_longest() {
     );
     gives(
         [255, 255, 255],
-        Moved(3),
+        moved(3),
         "Kind 255 at station 255, node 255 moved by rule 3, token taken, repeats.",
     );
 }
@@ -214,7 +219,7 @@ fn the_longest() {
 /// Width and precision are kept, as for other text.
 #[test]
 fn as_it_is_displayed() {
-    let sentence: Sentence = say([1, 0, 0], Moved(1));
+    let sentence: Sentence = say([1, 0, 0], moved(1));
     let text = "Kind 1 at station 0 moved by rule 1, token put.";
     assert_eq!(sentence.to_string(), text);
     assert_eq!(format!("{sentence:<50}|"), format!("{text}   |"));
@@ -227,7 +232,7 @@ fn as_it_is_displayed() {
 /// Equal where the text is.
 #[test]
 fn as_they_are_compared() {
-    assert_eq!(say([1, 0, 0], Moved(1)), say([1, 0, 9], Moved(1)));
-    assert_ne!(say([1, 0, 0], Moved(1)), say([1, 0, 0], Refused(1)));
-    assert_ne!(say([2, 0, 0], Moved(8)), say([2, 0, 9], Moved(8)));
+    assert_eq!(say([1, 0, 0], moved(1)), say([1, 0, 9], moved(1)));
+    assert_ne!(say([1, 0, 0], moved(1)), say([1, 0, 0], Refused(1)));
+    assert_ne!(say([2, 0, 0], moved(8)), say([2, 0, 9], moved(8)));
 }

@@ -1,8 +1,11 @@
-//! No sentence belongs to two pairs of choice and answer.
+//! No sentence belongs to two pairs of choice and answer, what was short
+//! included.
 
 use std::collections::HashMap;
 
 use ruonfidd::{say, Answer, Sentence};
+
+use super::moved_short;
 
 /// A choice and its answer as they count: kind 1 has no node.
 type Pair = (u8, u8, Option<u8>, Answer);
@@ -23,7 +26,7 @@ impl Heard {
 }
 
 fn both(number: u8) -> [Answer; 2] {
-    [Answer::Moved(number), Answer::Refused(number)]
+    [Answer::moved(number), Answer::Refused(number)]
 }
 
 /// Numbers whose digits run together in many ways: 1 and 12 as 11 and 2 do.
@@ -53,7 +56,7 @@ fn over_digits_that_run_together() {
 #[test]
 fn over_the_choices_of_a_hall() {
     let answers = (1..=13)
-        .map(Answer::Moved)
+        .map(Answer::moved)
         .chain((1..=20).map(Answer::Refused));
     let mut heard = Heard::default();
     for answer in answers {
@@ -79,12 +82,50 @@ fn over_kinds_and_numbers() {
     assert_eq!(heard.0.len(), 256 * 256 * 2);
 }
 
+/// Trays and shortages whose digits run together, beside answers without one: a
+/// tray that is short by none is no other than nothing.
+#[test]
+fn over_shortages() {
+    let bytes = [0, 1, 2, 10, 11, 12, 15, 16, 21, 111, 112, 121, 211, 255];
+    let mut heard = Heard::default();
+    for choice in [[1, 1, 0], [1, 11, 0], [2, 1, 1], [2, 1, 11], [2, 11, 1]] {
+        for number in [0, 1, 3, 6, 9, 13, 14, 61, 96, 255] {
+            heard.hear(choice, Answer::Refused(number));
+            for tray in bytes {
+                for by in bytes {
+                    heard.hear(choice, moved_short(number, [tray, by]));
+                }
+            }
+        }
+    }
+    // By none, by any of thirteen at any of fourteen trays, or refused.
+    assert_eq!(heard.0.len(), 5 * 10 * (1 + 14 * 13 + 1));
+}
+
+/// Everything that a step can tell of a failed commit or read, at every station
+/// and node.
+#[test]
+fn over_the_shortages_of_a_hall() {
+    let mut heard = Heard::default();
+    for tray in 0..16 {
+        for by in 1..=16 {
+            for position in 0..64 {
+                heard.hear([1, position, 0], moved_short(6, [tray, by]));
+                for node in 0..15 {
+                    heard.hear([2, position, node], moved_short(9, [tray, by]));
+                }
+            }
+        }
+    }
+    assert_eq!(heard.0.len(), 16 * 16 * 64 * 16);
+}
+
 /// What the tests above rest on: the same sentence of another pair is noticed.
 #[test]
 #[should_panic(expected = "moved by rule 1, token put")]
 fn a_shared_sentence_is_noticed() {
     let mut heard = Heard::default();
-    let shared = say([1, 0, 0], Answer::Moved(1));
-    heard.0.insert(shared, (1, 1, None, Answer::Moved(1)));
-    heard.hear([1, 0, 0], Answer::Moved(1));
+    let shared = say([1, 0, 0], Answer::moved(1));
+    heard.0.insert(shared, (1, 1, None, Answer::moved(1)));
+    heard.hear([1, 0, 0], Answer::moved(1));
 }

@@ -11,8 +11,9 @@ use reference::hall::opening;
 use reference::print::table_end;
 use reference::run::Tally as SecondTally;
 use reference::sentence::{sentence, Reply};
-use ruonfidd::{step, Choice, Hall, Moved, Refusal, Refused, Tally, HALL_BYTES};
+use ruonfidd::{step, Answer, Choice, Hall, Moved, Refusal, Refused, Tally, HALL_BYTES};
 
+use super::reply;
 use crate::common::by_chance::{accepted, any_table};
 use crate::common::by_hand::EXAMPLE;
 use crate::common::seeds::{say, seeds};
@@ -30,7 +31,11 @@ struct Met {
 impl Met {
     fn note(&mut self, reply: Reply) {
         match reply {
-            Reply::Moved(rule) => self.rules[usize::from(rule)] += 1,
+            Reply::Moved { rule, short } => {
+                self.rules[usize::from(rule)] += 1;
+                // The two rules that find too little, and no others.
+                assert_eq!(short.is_some(), matches!(rule, 6 | 9), "{reply:?}");
+            }
             Reply::Refused(number) => self.refusals[usize::from(number)] += 1,
         }
     }
@@ -72,7 +77,7 @@ impl Stepped {
             &choice.bytes(),
         );
         match answer {
-            StepAnswer::Moved(rule) => Reply::Moved(rule),
+            StepAnswer::Moved { rule, short } => Reply::Moved { rule, short },
             StepAnswer::Refused(refusal) => Reply::Refused(refusal.number),
         }
     }
@@ -93,12 +98,20 @@ impl Stepped {
         let expected = sentence(kind, position, node, reply);
         assert_eq!(displayed(answer), expected, "on {:?}", self.table);
         let answered = match answer {
-            Ok(moved) => (moved.choice, Reply::Moved(moved.rule)),
+            Ok(moved) => (moved.choice, reply_to(&moved)),
             Err(refused) => (refused.choice, Reply::Refused(refused.refusal.number)),
         };
         assert_eq!(answered, (choice, reply), "on {:?}", self.table);
         assert!(self.hall == self.by_second, "{expected}");
     }
+}
+
+/// What a step answered, as the second implementation takes it.
+fn reply_to(moved: &Moved) -> Reply {
+    reply(Answer::Moved {
+        rule: moved.rule,
+        shortage: moved.shortage,
+    })
 }
 
 /// What is displayed, by each way to it.
@@ -218,6 +231,50 @@ fn of_a_hall_that_owns_its_bytes() {
         refused.to_string(),
         "Kind 2 at station 9, node 200 met refusal 9, table: no start at end."
     );
+}
+
+/// Blocks that find too little, as a board shows them: one read of two, and one
+/// commit that another came before.
+#[test]
+fn of_failures() {
+    // Two blocks that read tray 2 twice, and one that reads it once; two tokens.
+    let table = [
+        7, 9, 2, 0, 9, 2, 1, 6, 2, 6, 1, 5, 3, 4, 5, 3, 5, 12, 2, 2, 13, 6,
+    ];
+    let (mut hall, mut tally) = Hall::open(&table).expect("an accepted table");
+    let mut board = Vec::new();
+    // All but the first begin; the last is committed, then the one before it is
+    // too late; the first begins now and finds one token.
+    let act = |position| Choice::Act { position };
+    let inside = |position| Choice::Inside { position, node: 0 };
+    for choice in [
+        act(1),
+        act(2),
+        inside(1),
+        inside(1),
+        inside(2),
+        act(2),
+        act(1),
+        act(0),
+        inside(0),
+        inside(0),
+    ] {
+        let moved = hall.step(&table, choice, &mut tally);
+        board.push(moved.expect("an accepted choice").to_string());
+    }
+    let expected = [
+        "Kind 1 at station 1 moved by rule 4, attempt begun.",
+        "Kind 1 at station 2 moved by rule 4, attempt begun.",
+        "Kind 2 at station 1, node 0 moved by rule 8, read noted.",
+        "Kind 2 at station 1, node 0 moved by rule 8, read noted.",
+        "Kind 2 at station 2, node 0 moved by rule 8, read noted.",
+        "Kind 1 at station 2 moved by rule 7, block committed.",
+        "Kind 1 at station 1 moved by rule 6, commit failed, tray 2 short by 1.",
+        "Kind 1 at station 0 moved by rule 4, attempt begun.",
+        "Kind 2 at station 0, node 0 moved by rule 8, read noted.",
+        "Kind 2 at station 0, node 0 moved by rule 9, read failed, tray 2 short by 1.",
+    ];
+    assert_eq!(board, expected);
 }
 
 /// The place, which no sentence names, is in the source.

@@ -3,7 +3,7 @@
 use reference::generator::Random;
 use ruonfidd::Answer;
 
-use super::said;
+use super::{moved_short, said};
 
 /// The call keeps nothing from one to the next.
 #[test]
@@ -15,7 +15,9 @@ fn several_threads() {
                 for _ in 0..5_000 {
                     let choice = [(); 3].map(|()| random.byte_below(256));
                     let number = random.byte_below(32);
-                    said(choice, Answer::Moved(number));
+                    said(choice, Answer::moved(number));
+                    let short = [(); 2].map(|()| random.byte_below(256));
+                    said(choice, moved_short(number, short));
                     said(choice, Answer::Refused(number));
                 }
             });

@@ -1,12 +1,13 @@
 //! Runs for programs: one object a line.
 
-use ruonfidd::{say, Answer, Choice, Refusal};
+use ruonfidd::{say, Answer, Choice, Refusal, Shortage};
 
 use super::still;
 use crate::commands::Failure;
 use crate::json::{self, Object};
 use crate::lesson::Lesson;
 use crate::rehearsal::{position_of, Happened};
+use crate::text::tree::Program;
 use crate::ways::count_of;
 
 /// The bytes of a choice.
@@ -22,19 +23,32 @@ pub(crate) fn moved_object(lesson: &Lesson<'_>, happened: &Happened, sentence: &
     let trays = program.trays.iter().fold(Object::new(), |object, tray| {
         object.number(&tray.name, count_of(&happened.after.counts, tray.number))
     });
-    Object::new()
+    let answer = Answer::Moved {
+        rule: happened.rule.number,
+        shortage: happened.shortage,
+    };
+    let object = Object::new()
         .raw("choice", bytes_of(happened.choice))
         .string("station", happened.before.names.name(happened.position()))
         .number("moved", happened.rule.number)
         .string("rule", happened.rule.calculus)
-        .string("word", happened.rule.word)
+        .string("word", happened.rule.word);
+    with_shortage(object, program, happened.shortage)
         .string("sentence", sentence)
-        .string(
-            "engine",
-            by_engine(happened.choice, Answer::Moved(happened.rule.number)),
-        )
+        .string("engine", by_engine(happened.choice, answer))
         .raw("trays", trays.written())
         .written()
+}
+
+/// With the tray that was short and by how many, where the engine told one.
+fn with_shortage(object: Object, program: &Program, shortage: Option<Shortage>) -> Object {
+    let Some(Shortage { tray, by }) = shortage else {
+        return object;
+    };
+    let short = Object::new()
+        .string("tray", program.tray_name(tray))
+        .number("by", by.get());
+    object.raw("short", short.written())
 }
 
 /// A choice that was refused, as the lesson expects.

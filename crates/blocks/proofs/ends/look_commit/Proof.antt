@@ -13,11 +13,17 @@ shared-slice-read-wide c = search length-inside
 wide-requires : tie.Need-wide-requires
 wide-requires c κs = search needs
 
-add-readable : tie.Need-add-readable
-add-readable c = search (needs, log-fits)
+add-shortage : tie.Need-add-shortage
+add-shortage c = search (needs, log-fits)
 
-readable-requires : tie.Need-readable-requires
-readable-requires c κs = (search log-few, search log-inside, search (counts-inside, snapshot-inside))
+shortage-requires : tie.Need-shortage-requires
+shortage-requires c κs = (search log-few, search log-inside, search (counts-inside, snapshot-inside))
+
+enum-known-channel : tie.Need-enum-known-channel
+enum-known-channel c = search needs
+
+enum-told : tie.Need-enum-told
+enum-told c = search needs
 
 add-outputs-of : tie.Need-add-outputs-of
 add-outputs-of c = search (needs, log-fits)
@@ -47,8 +53,10 @@ look-commit-spec =
     add-wide
     shared-slice-read-wide
     wide-requires
-    add-readable
-    readable-requires
+    add-shortage
+    shortage-requires
+    enum-known-channel
+    enum-told
     add-outputs-of
     outputs-of-requires
     sub-after

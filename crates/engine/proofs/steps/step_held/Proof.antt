@@ -16,6 +16,9 @@ enum-known-tally c = search needs
 rule-of-requires : tie.Need-rule-of-requires
 rule-of-requires c κs = search needs
 
+shortage-of-requires : tie.Need-shortage-of-requires
+shortage-of-requires c κs = search needs
+
 enum-known-number : tie.Need-enum-known-number
 enum-known-number c = search needs
 
@@ -39,6 +42,7 @@ step-held-spec =
     run-held-requires
     enum-known-tally
     rule-of-requires
+    shortage-of-requires
     enum-known-number
     same-length
     returns

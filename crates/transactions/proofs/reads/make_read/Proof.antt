@@ -4,8 +4,11 @@ use borrow.Author.Needs.{needs}
 use Rattle.transactions.proofs.reads.make_read.Statement.{statement}
 use Rattle.transactions.proofs.reads.make_read.Tie as tie
 
-is-readable-requires : tie.Need-is-readable-requires
-is-readable-requires c κs = search needs
+read-shortage-requires : tie.Need-read-shortage-requires
+read-shortage-requires c κs = search needs
+
+enum-told : tie.Need-enum-told
+enum-told c = search needs
 
 add-log-action : tie.Need-add-log-action
 add-log-action c = search needs
@@ -13,11 +16,8 @@ add-log-action c = search needs
 log-action-requires : tie.Need-log-action-requires
 log-action-requires c κs = search needs
 
-same-length : tie.Need-same-length
-same-length c = search needs
-
-returns : tie.Need-returns
-returns c = search read-logged
+enum-known-lacks : tie.Need-enum-known-lacks
+enum-known-lacks c = search needs
 
 add-hall : tie.Need-add-hall
 add-hall c = search needs
@@ -25,22 +25,30 @@ add-hall c = search needs
 slice-write-hall : tie.Need-slice-write-hall
 slice-write-hall c = search needs
 
+same-length : tie.Need-same-length
+same-length c = search needs
+
+returns : tie.Need-returns
+returns c = search (read-logged, read-fails)
+
 same-length-2 : tie.Need-same-length-2
 same-length-2 c = search needs
 
 returns-2 : tie.Need-returns-2
-returns-2 c = search read-fails
+returns-2 c = search (read-logged, read-fails)
 
 pub make-read-spec : {M : Type 1} → statement M
 make-read-spec =
     tie.close
     (tie.spec
-    is-readable-requires
+    read-shortage-requires
+    enum-told
     add-log-action
     log-action-requires
-    same-length
-    returns
+    enum-known-lacks
     add-hall
     slice-write-hall
+    same-length
+    returns
     same-length-2
     returns-2)

@@ -30,5 +30,6 @@ fn inside(position: u8, node: u8) -> Choice {
 /// Whether a step of the engine accepts a choice of these bytes. Refused, it has
 /// left the hall as it was.
 fn step_accepts(table: &[u8], hall: &mut [u8], choice: [u8; 3]) -> bool {
-    ffi::step(table, hall, choice, &mut [0; 3], &mut 0, &mut 0) == 0
+    let (tally, shortage) = (&mut [0; 3], &mut [0; 2]);
+    ffi::step(table, hall, choice, tally, &mut 0, shortage, &mut 0) == 0
 }
