@@ -22,7 +22,7 @@ use Rattle.theorems.proofs.Steps.{answered, step-turned-down, step-unknown, ste
 use Rattle.rules.specs.declared.Shortage as shortage
 use Rattle.rules.specs.declared.Reply.{Reply}
 use Rattle.rules.specs.declared.Reply.the-variants as reply
-use Rattle.rules.specs.Replies.{shortageIs, replyIs, ruleOf, shortageIn}
+use Rattle.rules.specs.Replies.{shortageIs, replyIs, ruleOf, shortageTold}
 use Rattle.counters.specs.declared.Counters as code
 use Rattle.counters.specs.Counted.{countersOf}
 use Rattle.index.specs.Holds.{Running}
@@ -80,7 +80,7 @@ run-of-one h t bytes e (refused n) one q = rw (one .says, q)
 -- the rule that a look told, and what was short
 rule-told : (r : Reply) (by : Rule) (lacks : Shortage) (h g : Configuration) (e : Entry) → replyIs r ≡ replyOf (respondTo h e) →
     respondTo h e ≡ does by lacks g →
-    (ruleNumber by ≡ ruleOf r) × (lacks ≡ shortageIs (shortageIn r))
+    (ruleNumber by ≡ ruleOf r) × (lacks ≡ shortageIs (shortageTold r))
 unfolding replyIs replyOf
 rule-told (reply.Moved rule w) by lacks h g e l q = let z = rw q at l in (cc, cc)
 rule-told (reply.Refused n) by lacks h g e l q =
@@ -90,7 +90,7 @@ module _ {d s starts : List ℕ} {n : ℕ} {e : Entry} {bytes : List ℕ} {t : c
     (one : OneEntry bytes e) where
   pub step-moved : {r : Reply} {a : RunAnswer} {place done rule : ℕ} {w : shortage.Shortage} {u : code.Counters} →
       Looked d s starts n e r → Ran d s starts n bytes (countersOf t) a s′ → a ≡ ran.Completed place done u → rule ≡ ruleOf r →
-      w ≡ shortageIn r → Stepped d s starts n e (length bytes) (countersOf t) (step.Moved rule w (length bytes) u) s′
+      w ≡ shortageTold r → Stepped d s starts n e (length bytes) (countersOf t) (step.Moved rule w (length bytes) u) s′
   unfolding runResult continueRun answerTo answerOf
   step-moved {r} {place = place} {done} {rule} {w} {u} l f is told short = record {
     found = λ ts h y x. go h (respondTo h e) refl (l .found ts h y x) ((rw is at f) .found ts h y x);

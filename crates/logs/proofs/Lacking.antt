@@ -3,9 +3,9 @@
 use Prim.Native.Nat.{ℕ, _+_, _-_, _≤_, _<_}
 use native.Mathlib.Omega.{arith}
 use native.Mathlib.Decide.{decLt}
-use mathlib.Core.Path.{_≡_, refl, sym, ap, _∙_}
+use mathlib.Core.Path.{_≡_, refl, sym, _∙_}
 use mathlib.Core.Bool.{Bool, true, false, cond}
-use mathlib.Core.List.{List, [], _∷_, _++_, map}
+use mathlib.Core.List.{List, [], _∷_, _++_}
 use lib.Dec.{ltb}
 use lib.ListN.{getD, take, drop, set, length-take}
 use lib.Seq.{getD-take, getD-drop}
@@ -13,7 +13,7 @@ use borrow.Author.Tests.{ltb-true, ltb-false}
 use Rattle.calculus.specs.State.{count, same, occurrences, Included}
 use Rattle.calculus.proofs.States.{same-other}
 use Rattle.semantics.specs.Definitions.Layout.{channels, writeOffset}
-use Rattle.semantics.specs.Definitions.Shortage.{enough, short, shortageOf}
+use Rattle.semantics.specs.Definitions.Shortage.{enough, short}
 use Rattle.theorems.proofs.Shortages.{found-is}
 use Rattle.rules.specs.declared.Shortage.{Shortage}
 use Rattle.rules.specs.declared.Shortage.the-variants.{Enough, Short}

@@ -29,9 +29,9 @@ ruleOf (Moved r w) = r
 ruleOf (Refused n) = 0
 
 -- what a move found short; enough for a refusal
-abbrev pub shortageIn : Reply → Shortage
-shortageIn (Moved r w) = w
-shortageIn (Refused n) = Enough
+abbrev pub shortageTold : Reply → Shortage
+shortageTold (Moved r w) = w
+shortageTold (Refused n) = Enough
 
 -- the number of a refusal; 0 for a move
 abbrev pub refusalOf : Reply → ℕ

@@ -4,7 +4,7 @@
 // The rules are those of the calculus, numbered as document 01 numbers them: 1 to 3 pass tokens, 4 to 7 begin and end a
 // transaction (attempt), 8 to 13 move inside one.
 ghost use mathlib.Core.Path.{_≡_};
-ghost use Rattle.rules.specs.Replies.{ruleOf, shortageIn, refusalOf};
+ghost use Rattle.rules.specs.Replies.{ruleOf, shortageTold, refusalOf};
 
 pub const OUT: u8 = 1;
 
@@ -78,7 +78,7 @@ pub fn rule_of(reply: Reply) -> u8
 
 // What a move found short; enough for a refusal.
 pub fn shortage_of(reply: Reply) -> Shortage
-    ensures { λ r. ⌜ r ≡ shortageIn reply ⌝ }
+    ensures { λ r. ⌜ r ≡ shortageTold reply ⌝ }
 {
     match reply {
         Reply::Moved(_, shortage) => shortage,

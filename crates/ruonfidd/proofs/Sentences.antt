@@ -1,20 +1,26 @@
 -- The cases of what a sentence's call answers, as numbers; and what that says.
 -- Assumes nothing.
 use Prim.Native.Nat.{ℕ, _≤_, _<_}
+use native.Mathlib.Omega.{arith}
 use mathlib.Core.Path.{_≡_, refl}
+use mathlib.Core.Bool.{Bool, true, false, cond}
 use mathlib.Core.List.{List}
-use lib.ListN.{length}
-use borrow.Author.Tests.{ne-eqb}
-use Rattle.semantics.specs.Definitions.Shortage.{enough, short}
+use lib.ListN.{length, getD}
+use lib.Dec.{eqb}
+use borrow.Author.Tests.{ne-eqb, eqb-true}
+use Rattle.semantics.specs.Definitions.Basics.{Bytes}
+use Rattle.semantics.specs.Definitions.Shortage.{Shortage, enough, short}
 use Rattle.semantics.specs.Definitions.Moves.{Reply, movedBy, refusedBy}
 use Rattle.semantics.specs.Definitions.Sentence.{sentence, sentenceCall}
 use Rattle.semantics.specs.Claims.Sentences.{AllBytes}
+use Rattle.semantics.specs.Definitions.Calls.{Buffers, stepCall}
+use Rattle.semantics.specs.Checks.Steps.{StepCallNumbers, stepReply}
 use Rattle.semantics.specs.Checks.Sentences.{ShortBuffersRefused, SentenceStands}
-use Rattle.theorems.proofs.Theorems.{short-buffers-refused, sentence-stands}
+use Rattle.theorems.proofs.Theorems.{step-call-numbers, short-buffers-refused, sentence-stands}
 use Rattle.sentences.specs.Answers.{sentenceCallOf}
 use Rattle.sentences.specs.declared.SentenceAnswer.{SentenceAnswer}
 use Rattle.sentences.specs.declared.SentenceAnswer.the-variants as answer
-use Rattle.ruonfidd.specs.Answered.{replyFrom, SentenceAnswered}
+use Rattle.ruonfidd.specs.Answered.{shortageWords, replyFrom, SentenceAnswered}
 
 module _ (k p n : ℕ) (r : Reply) (buffer buffer′ : List ℕ) (a : SentenceAnswer)
     (e : sentenceCallOf a buffer′ ≡ sentenceCall k p n r buffer) where
@@ -35,6 +41,30 @@ byte-0-refused number tray by = refl
 pub other-byte-moved : (m number tray by : ℕ) → ¬ (m ≡ 0) →
     (replyFrom m number tray 0 ≡ movedBy number enough) × (¬ (by ≡ 0) → replyFrom m number tray by ≡ movedBy number (short tray by))
 other-byte-moved m number tray by other = (rw (ne-eqb m 0 other) refl, λ some. rw (ne-eqb m 0 other, ne-eqb by 0 some) refl)
+
+-- the two bytes that a step set may be handed on as they are: with its rule, or with its refusal, they make the reply that
+-- it told
+handed : (n r : ℕ) (w : Shortage) → (n ≡ 0 → (a k : ℕ) → w ≡ short a k → 1 ≤ k) →
+    replyFrom (cond (eqb n 0) 1 0) (cond (eqb n 0) r n) (getD (shortageWords w) 0 0) (getD (shortageWords w) 1 0)
+    ≡ cond (eqb n 0) (movedBy r w) (refusedBy n)
+handed n r w some = go (eqb n 0) refl w some
+  where
+    go : (b : Bool) → eqb n 0 ≡ b → (v : Shortage) → (n ≡ 0 → (a k : ℕ) → v ≡ short a k → 1 ≤ k) →
+        replyFrom (cond b 1 0) (cond b r n) (getD (shortageWords v) 0 0) (getD (shortageWords v) 1 0) ≡ cond b (movedBy r v) (refusedBy n)
+    go false e v f = refl
+    go true e enough f = refl
+    go true e (short a k) f =
+        let l = f (eqb-true n 0 e) a k refl in rw (ne-eqb k 0 (λ z. omega arith)) refl
+
+pub handed-on : (table : List ℕ) (l : Buffers) → Bytes table → Bytes (l .hall) → (kind position node : ℕ) →
+    let a = stepCall table l kind position node in
+    let b = shortageWords (a .shortage) in
+    replyFrom (cond (eqb (a .number) 0) 1 0) (cond (eqb (a .number) 0) (a .rule) (a .number)) (getD b 0 0) (getD b 1 0) ≡ stepReply a
+unfolding StepCallNumbers
+handed-on table l tb hb kind position node =
+    let a = stepCall table l kind position node in
+    let f = step-call-numbers table l tb hb kind position node .1 in
+    handed (a .number) (a .rule) (a .shortage) (λ z tray by e. f z .4 tray by e .1)
 
 module _ (k p n : ℕ) (r : Reply) (buffer : List ℕ) (returned before after : ℕ) (buffer′ : List ℕ)
     (t : SentenceAnswered (sentenceCall k p n r buffer) returned before after buffer′) where

@@ -20,11 +20,11 @@ use Rattle.semantics.specs.Definitions.Basics.{replaceAt}
 use Rattle.semantics.specs.Definitions.Terms.{Expression, endT, retryT, rdT, wtT, orElseT}
 use Rattle.semantics.specs.Definitions.Shortage.{Shortage, enough}
 use Rattle.semantics.specs.Definitions.Logs.{emptyLog, shortage, readable, takeToken, addToken}
-use Rattle.semantics.specs.Definitions.Configuration.{Idle, taking, repeating, block, output, Tree, leaf, fork, Component, idle, transaction, Configuration, opens, nodes}
+use Rattle.semantics.specs.Definitions.Configuration.{Idle, taking, repeating, block, output, Tree, leaf, fork, Component, idle, transaction, Configuration, opens, nodes, preorder}
 use Rattle.semantics.specs.Definitions.Moves.{Entry, act, inside, moves, blocked, takes, puts, commits, ends, acts, Inner, evolves, noRule, outOfRange, reads, atLeaf, atFork, inLeft, inRight, inner, innerLocal, actsInside, Response, does, refuses, Answer, moved, refused, applyAt, atPosition, respondTo, answerOf, answerTo, isMoved, isAccepted}
 use Rattle.semantics.specs.Claims.ConverseRuns.{EmptyChannel, TooManyComponents, FullChannel}
 use Rattle.semantics.specs.Claims.InnerMoves.{Settled}
-use Rattle.semantics.specs.Checks.Conditions.{FirstCondition, preorder, NoRuleAtNode, ChoiceCondition, no-station, no-station-inside, unsettled, no-attempt, no-node, no-rule-there, in-empty, rep-empty, in-many, rep-many, commit-many, out-full, ChoiceNumbers}
+use Rattle.semantics.specs.Checks.Conditions.{FirstCondition, NoRuleAtNode, ChoiceCondition, no-station, no-station-inside, unsettled, no-attempt, no-node, no-rule-there, in-empty, rep-empty, in-many, rep-many, commit-many, out-full, ChoiceNumbers}
 use Rattle.theorems.proofs.Lists.{none-past, found-below, found-left, found-right, length-replaceAt}
 use Rattle.theorems.proofs.Readable.{readable-included, unreadable-not-included}
 use Rattle.theorems.proofs.Reading.{by-cases}

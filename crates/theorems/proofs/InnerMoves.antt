@@ -150,7 +150,7 @@ one-outcome s u v w m h n k =
 -- ---- the first readable path
 
 -- some moves inside keep a tree true to its block
-moves-keep : (s : State) (M : Expression) {t u : Tree} → Moves s t u → Faithful s M t → Faithful s M u
+pub moves-keep : (s : State) (M : Expression) {t u : Tree} → Moves s t u → Faithful s M t → Faithful s M u
 moves-keep s M unmoved f = f
 moves-keep s M (movedOn {t = t} {u = u} {w = w} k r e m) f =
     let one : StaysFaithful s M (evolves r w u) = rw e at (faithful-move s M t k f) in moves-keep s M m one

@@ -16,7 +16,7 @@ use Rattle.semantics.specs.Definitions.Moves.{Reply, movedBy, refusedBy}
 use Rattle.semantics.specs.Definitions.Report.{decimal}
 use Rattle.semantics.specs.Definitions.Sentence.{ascii, ruleWords, refusalWords, wordsFor, named, nodeNamed, shortNamed, replyNamed, sentence, told}
 use Rattle.semantics.specs.Claims.Sentences.{shortNumbers, replyNumbers, AllBytes, SentencesAreShort, SentencesArePrintable, SameChoiceAndReply, SentencesTellApart}
-use Rattle.semantics.specs.Checks.Sentences.{WordsEnd, ShortBuffersRefused, Stands, SentenceStands, RoomOfAShortage, RoomIsLeft}
+use Rattle.semantics.specs.Checks.Sentences.{WordsEnd, ShortBuffersRefused, Stands, SentenceStands, RoomOfAShortage, LongestSentence, RoomIsLeft}
 use Rattle.theorems.proofs.Lists.{all-append, all-weaken}
 use Rattle.theorems.proofs.Reading.{and-true}
 use Rattle.theorems.proofs.Decimals.{decimal-bytes, decimal-short, NoDigit, decimal-apart}
@@ -82,10 +82,10 @@ refusalNamed n = named " met refusal " n ++ wordsFor refusalWords n
 
 -- ---- short
 
--- longer words stand behind shorter numbers, so these are bounded together
-rule-short : (n : ℕ) → n ≤ 255 → length (ruleNamed n) ≤ 39
+-- longer words stand behind shorter numbers, so each number is bounded together with its words
+rule-short : (n : ℕ) → n ≤ 255 → length (ruleNamed n) ≤ 38
 unfolding everyBelow named wordsFor ruleWords
-rule-short n l = leb-true (length (ruleNamed n)) 39 (every-below 256 (λ n. leb (length (ruleNamed n)) 39) refl n (omega arith))
+rule-short n l = leb-true (length (ruleNamed n)) 38 (every-below 256 (λ n. leb (length (ruleNamed n)) 38) refl n (omega arith))
 
 refusal-short : (n : ℕ) → n ≤ 255 → length (refusalNamed n) ≤ 39
 unfolding everyBelow named wordsFor refusalWords
@@ -101,7 +101,7 @@ pub room-of-a-shortage : RoomOfAShortage
 unfolding RoomOfAShortage
 room-of-a-shortage = short-short
 
-reply-short : (a : Reply) → Bytes (replyNumbers a) → length (replyNamed a) ≤ 62
+reply-short : (a : Reply) → Bytes (replyNumbers a) → length (replyNamed a) ≤ 61
 unfolding replyNamed
 reply-short (movedBy n w) l =
     let x = rule-short n (l .0) in let y = short-short w (l .1) in let z = length-append (ruleNamed n) (shortNamed w) in omega arith
@@ -133,10 +133,14 @@ room-is-left k p n m bytes =
       sentence-short k p n (refusedBy m) named 39 (refusal-short m (omega arith)),
     )
 
+pub longest-sentence : LongestSentence
+unfolding LongestSentence
+longest-sentence k p n a bytes =
+    sentence-short k p n a (bytes .0, (bytes .1 .0, (bytes .1 .1 .0, tt))) 61 (reply-short a (bytes .1 .1 .1))
+
 pub sentences-are-short : SentencesAreShort
-unfolding SentencesAreShort
-sentences-are-short k p n a bytes =
-    sentence-short k p n a (bytes .0, (bytes .1 .0, (bytes .1 .1 .0, tt))) 62 (reply-short a (bytes .1 .1 .1))
+unfolding SentencesAreShort LongestSentence
+sentences-are-short k p n a bytes = let l = longest-sentence k p n a bytes in omega arith
 
 -- ---- printable
 

@@ -1,10 +1,10 @@
 -- The one test of reads against counts finds that all are there, or the lowest channel that is short and by how many; and it finds
 -- nothing else.
 -- Assumes nothing.
-use Prim.Native.Nat.{ℕ, zero, suc, _+_, _-_, _≤_, _<_}
+use Prim.Native.Nat.{ℕ, _+_, _-_, _≤_, _<_}
 use native.Mathlib.Omega.{arith}
 use native.Mathlib.Decide.{ℕ-discrete}
-use mathlib.Core.Path.{_≡_, refl, sym, ap, _∙_}
+use mathlib.Core.Path.{_≡_, refl, sym}
 use mathlib.Core.Logic.{_≢_}
 use mathlib.Core.Bool.{Bool, true, false, cond, true≢false}
 use mathlib.Core.List.{List, [], _∷_}
@@ -80,12 +80,12 @@ module _ (bs : List Name) (σ : State) where
       none : (b : Name) → occurrences b bs ≡ 0 → Enough b
       none b z = omega arith
 
-      all : (P : Type 0) (b : Name) → (0 < occurrences b bs → Enough b) → Enough b
-      all P b f = elim (ℕ-discrete (occurrences b bs) 0) [ yes z ↦ none b z | no z ↦ f (omega arith) ]
+      all : (b : Name) → (0 < occurrences b bs → Enough b) → Enough b
+      all b f = elim (ℕ-discrete (occurrences b bs) 0) [ yes z ↦ none b z | no z ↦ f (omega arith) ]
 
       go : (w : Shortage) → Among bs w → Found bs σ w
-      go enough f = λ b. all (Unit {0}) b (f b)
-      go (short a k) f = record { lacks = f .0; exact = f .1; none-lower = λ b l. all (Unit {0}) b (λ o. f .2 b o l) }
+      go enough f = λ b. all b (f b)
+      go (short a k) f = record { lacks = f .0; exact = f .1; none-lower = λ b l. all b (λ o. f .2 b o l) }
 
   -- ---- and nothing else is
 
@@ -117,7 +117,7 @@ module _ (bs : List Name) (σ : State) where
   unfolding Included
   included-not-short {a} i x = let e = x .exact in let s = x .lacks in let n = i a in omega arith
 
-  pub found-alone : (w v : Shortage) → Found bs σ w → Found bs σ v → w ≡ v
+  found-alone : (w v : Shortage) → Found bs σ w → Found bs σ v → w ≡ v
   found-alone enough enough f g = refl
   found-alone enough (short b m) f g = absurd (included-not-short f g)
   found-alone (short a k) enough f g = absurd (included-not-short g f)
@@ -133,7 +133,3 @@ pub enough-true : (w : Shortage) → isEnough w ≡ true → w ≡ enough
 unfolding isEnough
 enough-true enough e = refl
 enough-true (short a k) e = absurd (true≢false (sym e))
-
-pub enough-false : (w : Shortage) → isEnough w ≡ false → w ≢ enough
-unfolding isEnough
-enough-false w e q = true≢false (sym (ap isEnough q) ∙ e)

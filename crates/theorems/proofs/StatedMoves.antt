@@ -73,7 +73,7 @@ way-placed (further {d = d} w) = ap (_∷_ d) (way-placed w)
 -- ---- at a node
 
 -- from the definition: a node that is found, with its move, or that lies past the tree
-abbrev InnerPrinted : State → Tree → ℕ → Inner → Type 0
+abbrev pub InnerPrinted : State → Tree → ℕ → Inner → Type 0
 InnerPrinted s t k (evolves r w u) =
     (old : Tree) × (new : Tree) × NodeBecomes k old new t u × NodeMoves s old r (ruleNumber r) w new
 InnerPrinted s t k noRule = Unit {0}
@@ -119,7 +119,7 @@ left-printed s l r k noRule right h g = tt
 left-printed s l r k (outOfRange j) right h g = rw h (right-printed s l r j (right j) (g j))
 
 -- at any node
-inner-printed : (s : State) (t : Tree) (k : ℕ) → InnerPrinted s t k (inner s t k)
+pub inner-printed : (s : State) (t : Tree) (k : ℕ) → InnerPrinted s t k (inner s t k)
 unfolding inner nodes
 inner-printed s (leaf M δ) zero = leaf-printed s M δ
 inner-printed s (leaf M δ) (suc k) = omega arith

@@ -15,7 +15,7 @@ use Rattle.semantics.specs.Checks.Steps.{StepCallsAsStated, StepCallNumbers, St
 use Rattle.semantics.specs.Claims.Shortages.{ShortageIsLowest, ShortageIsExact, EnoughIsIncluded, ReadLacksOne, FailuresTellTheirTest, FailuresAloneName, ShortagesAreSmall}
 use Rattle.semantics.specs.Checks.ShortageExamples.{ShortageExamples}
 use Rattle.semantics.specs.Claims.Sentences.{SentencesAreShort, SentencesArePrintable, SentencesTellApart}
-use Rattle.semantics.specs.Checks.Sentences.{WordsEnd, ShortBuffersRefused, SentenceStands, RoomOfAShortage, RoomIsLeft, SentencesWorked, SentenceInBytes, CallsWorked}
+use Rattle.semantics.specs.Checks.Sentences.{WordsEnd, ShortBuffersRefused, SentenceStands, RoomOfAShortage, LongestSentence, RoomIsLeft, SentencesWorked, SentenceInBytes, CallsWorked}
 use mathlib.Core.Path.{refl, sym, ap, _∙_}
 use mathlib.Core.List.{map}
 use Rattle.semantics.specs.Definitions.Stored.{bytesOf, configurationOf}
@@ -356,6 +356,9 @@ sentence-stands = Saying.sentence-stands
 
 pub room-of-a-shortage : RoomOfAShortage
 room-of-a-shortage = Saying.room-of-a-shortage
+
+pub longest-sentence : LongestSentence
+longest-sentence = Saying.longest-sentence
 
 pub room-is-left : RoomIsLeft
 room-is-left = Saying.room-is-left

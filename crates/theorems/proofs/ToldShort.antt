@@ -1,10 +1,11 @@
--- What a choice tells short: rules 6 and 9 tell it of their own test, no other rule does, and it is small (specs/Claims/Shortages).
+-- The claims of specs/Claims/Shortages: the shortage of a log is exact and its tray the lowest; rules 6 and 9 tell that of their own
+-- test, and no other rule does; it is small, and a read of an attempt that a run opened lacks one.
 -- Assumes nothing.
-use Prim.Native.Nat.{ℕ, suc, _+_, _≤_, _<_}
+use Prim.Native.Nat.{ℕ, _+_, _≤_, _<_}
 use native.Mathlib.Omega.{arith}
 use mathlib.Core.Path.{_≡_, refl, sym, ap, _∙_}
-use mathlib.Core.Bool.{true, false}
-use mathlib.Core.Logic.{_⊎_, inl, inr, _↔_, _≢_}
+use mathlib.Core.Bool.{true}
+use mathlib.Core.Logic.{inl, inr, _↔_, _≢_}
 use mathlib.Core.Option.{some}
 use mathlib.Core.List.{List, [], _∷_, _++_}
 use native.Mathlib.Decide.{ℕ-discrete}
@@ -12,18 +13,18 @@ use lib.ListN.{length, getElem?, length-append}
 use Rattle.calculus.specs.Syntax.{Name, rd, wt, Log, State}
 use Rattle.calculus.specs.State.{count, same, occurrences, Included}
 use Rattle.calculus.specs.Log.{RD}
-use Rattle.calculus.specs.Reduction.{Rule}
-use Rattle.calculus.proofs.States.{same-self, same-other}
+use Rattle.calculus.specs.Reduction.{Rule, ARDF}
+use Rattle.calculus.proofs.States.{same-self, same-other, occurrences-append}
+use Rattle.calculus.proofs.Logs.{RD-append}
 use Rattle.semantics.specs.Definitions.Basics.{All}
-use Rattle.semantics.specs.Definitions.Shortage.{Shortage, enough, short}
-use Rattle.semantics.specs.Definitions.Terms.{rdT, Term}
-use Rattle.semantics.specs.Definitions.Logs.{shortage}
-use Rattle.semantics.specs.Definitions.Configuration.{Tree, leaf, fork, transaction, Configuration}
+use Rattle.semantics.specs.Definitions.Shortage.{Shortage, enough, short, shortageOf}
+use Rattle.semantics.specs.Definitions.Terms.{Expression, rdT, Term}
+use Rattle.semantics.specs.Definitions.Logs.{shortage, readable}
+use Rattle.semantics.specs.Definitions.Configuration.{Tree, leaf, fork, Configuration, preorder}
 use Rattle.semantics.specs.Definitions.Stored.{channelOf, TreeOk, ComponentOk, WellFormed}
-use Rattle.semantics.specs.Definitions.Moves.{Entry, does, respondTo, ruleNumber}
+use Rattle.semantics.specs.Definitions.Moves.{Entry, Inner, evolves, inner, does, respondTo, ruleNumber}
 use Rattle.semantics.specs.Claims.Shortages.{ShortageIsLowest, ShortageIsExact, EnoughIsIncluded, ReadLacksOne, Tests, commit-tests, read-tests, FailuresTellTheirTest, FailuresAloneName, ShortagesAreSmall}
 use Rattle.semantics.specs.Checks.AcceptedTables.{GoodTable}
-use Rattle.semantics.specs.Checks.Conditions.{preorder}
 use Rattle.semantics.specs.Checks.StatedMoves.{NodeBecomes, at-root, at-left, at-right, LowestShort, NodeMoves, ardok8, ardf9, awr10, aoi11, aof12, aoe13, MoveAsStated, out1, in2, rep3, atst4, atre5, atfail6, atok7, inside8-13}
 use Rattle.theorems.proofs.Lists.{found-below, all-at, all-append}
 use Rattle.theorems.proofs.GoodTable.{accepted-is-good}
@@ -31,7 +32,9 @@ use Rattle.theorems.proofs.Shortages.{Found, shortage-found, found-is}
 use Rattle.theorems.proofs.Readable.{readable-included, included-readable}
 use Rattle.theorems.proofs.WellFormedKept.{leaf-parts}
 use Rattle.theorems.proofs.ChoiceConditions.{length-preorder, node-left, node-right}
-use Rattle.theorems.proofs.StatedMoves.{way-found, chosen-printed}
+use Rattle.theorems.proofs.StatedMoves.{way-found, chosen-printed, InnerPrinted, inner-printed}
+use Rattle.theorems.proofs.Outcome.{LogsReadable, faithful-start}
+use Rattle.theorems.proofs.InnerMoves.{moves-keep}
 
 -- ---- of a log at given counts
 
@@ -64,10 +67,8 @@ enough-is-included σ δ = (
 
 -- the reads of a log and one more
 reads-snoc : (δ : Log) (a b : Name) → occurrences b (RD (δ ++ (rd a ∷ []))) ≡ occurrences b (RD δ) + occurrences b (a ∷ [])
-unfolding RD occurrences
-reads-snoc [] a b = omega arith
-reads-snoc (rd c ∷ δ) a b = let z = reads-snoc δ a b in omega arith
-reads-snoc (wt c ∷ δ) a b = reads-snoc δ a b
+unfolding RD
+reads-snoc δ a b = ap (occurrences b) (RD-append δ (rd a ∷ [])) ∙ occurrences-append b (RD δ) (a ∷ [])
 
 -- a name occurs once in a list of it alone, and another not at all
 once : (a : Name) → occurrences a (a ∷ []) ≡ 1
@@ -78,9 +79,11 @@ never : (a b : Name) → b ≢ a → occurrences b (a ∷ []) ≡ 0
 unfolding occurrences
 never a b q = let z = same-other b a q in omega arith
 
-pub read-lacks-one : ReadLacksOne
-unfolding ReadLacksOne shortage Included
-read-lacks-one s δ a there lacks = found-is (RD (δ ++ (rd a ∷ []))) s (short a 1) (record {
+-- where the log was there the read lacks one
+one-lacks : (s : State) (δ : Log) (a : Name) → Included (RD δ) s → ¬ Included (RD (δ ++ (rd a ∷ []))) s →
+    shortageOf (RD (δ ++ (rd a ∷ []))) s ≡ short a 1
+unfolding Included
+one-lacks s δ a there lacks = found-is (RD (δ ++ (rd a ∷ []))) s (short a 1) (record {
   lacks = omega arith;
   exact = elim (ℕ-discrete (count s a) (occurrences a (RD δ))) [ yes q ↦ all q | no q ↦ absurd (lacks (more q)) ];
   none-lower = λ b l. let z = reads-snoc δ a b in let y = never a b (λ e. omega arith) in let x = there b in omega arith;
@@ -110,22 +113,25 @@ node-found {old = old} (at-left {k} {l = l} {r = r} b) =
 node-found (at-right {k} {l = l} {r = r} b) = node-right l r k ∙ node-found b
 
 -- none is named by another rule than 6 and 9, and one is by these
+silent : (n : ℕ) → n ≢ 6 → n ≢ 9 → (enough ≡ enough) ↔ ((n ≢ 6) × (n ≢ 9))
+silent n six nine = (λ e. (six, nine), λ z. refl)
+
 node-names : {s : State} {old new : Tree} {r : Rule} {n : ℕ} {w : Shortage} → NodeMoves s old r n w new → (w ≡ enough) ↔ ((n ≢ 6) × (n ≢ 9))
-node-names (ardok8 i) = (λ e. (λ z. omega arith, λ z. omega arith), λ z. refl)
+node-names (ardok8 i) = silent 8 (λ z. omega arith) (λ z. omega arith)
 node-names (ardf9 f) = (λ e. absurd (let z : _≡_ {A = ℕ} 0 1 = cc in omega arith), λ z. absurd (z .1 refl))
-node-names awr10 = (λ e. (λ z. omega arith, λ z. omega arith), λ z. refl)
-node-names aoi11 = (λ e. (λ z. omega arith, λ z. omega arith), λ z. refl)
-node-names aof12 = (λ e. (λ z. omega arith, λ z. omega arith), λ z. refl)
-node-names aoe13 = (λ e. (λ z. omega arith, λ z. omega arith), λ z. refl)
+node-names awr10 = silent 10 (λ z. omega arith) (λ z. omega arith)
+node-names aoi11 = silent 11 (λ z. omega arith) (λ z. omega arith)
+node-names aof12 = silent 12 (λ z. omega arith) (λ z. omega arith)
+node-names aoe13 = silent 13 (λ z. omega arith) (λ z. omega arith)
 
 printed-names : {h g : Configuration} {e : Entry} {r : Rule} {n : ℕ} {w : Shortage} → MoveAsStated h e r n w g → (w ≡ enough) ↔ ((n ≢ 6) × (n ≢ 9))
-printed-names (out1 w b) = (λ e. (λ z. omega arith, λ z. omega arith), λ z. refl)
-printed-names (in2 w o q fits) = (λ e. (λ z. omega arith, λ z. omega arith), λ z. refl)
-printed-names (rep3 w o q fits) = (λ e. (λ z. omega arith, λ z. omega arith), λ z. refl)
-printed-names (atst4 w) = (λ e. (λ z. omega arith, λ z. omega arith), λ z. refl)
-printed-names (atre5 w) = (λ e. (λ z. omega arith, λ z. omega arith), λ z. refl)
+printed-names (out1 w b) = silent 1 (λ z. omega arith) (λ z. omega arith)
+printed-names (in2 w o q fits) = silent 2 (λ z. omega arith) (λ z. omega arith)
+printed-names (rep3 w o q fits) = silent 3 (λ z. omega arith) (λ z. omega arith)
+printed-names (atst4 w) = silent 4 (λ z. omega arith) (λ z. omega arith)
+printed-names (atre5 w) = silent 5 (λ z. omega arith) (λ z. omega arith)
 printed-names (atfail6 w f) = (λ e. absurd (let z : _≡_ {A = ℕ} 0 1 = cc in omega arith), λ z. absurd (z .0 refl))
-printed-names (atok7 w i fits) = (λ e. (λ z. omega arith, λ z. omega arith), λ z. refl)
+printed-names (atok7 w i fits) = silent 7 (λ z. omega arith) (λ z. omega arith)
 printed-names (inside8-13 w b m) = node-names m
 
 pub failures-alone-name : FailuresAloneName
@@ -133,7 +139,7 @@ unfolding FailuresAloneName
 failures-alone-name h g e r w q = printed-names (chosen-printed h e r w g q)
 
 -- where a tray is named, its test is this one
-pub told-test : {h g : Configuration} {e : Entry} {r : Rule} {n a k : ℕ} → MoveAsStated h e r n (short a k) g →
+told-test : {h g : Configuration} {e : Entry} {r : Rule} {n a k : ℕ} → MoveAsStated h e r n (short a k) g →
     (σ : State) × (δ : Log) × Tests h e σ δ × LowestShort (RD δ) σ a k
 told-test {h} (atfail6 {δ = δ} w f) = (h .counts, δ, commit-tests (way-found w), f)
 told-test (inside8-13 w b (ardf9 {a = a} {δ = δ} f)) = (_, δ ++ (rd a ∷ []), read-tests (way-found w) (node-found b), f)
@@ -146,6 +152,32 @@ failures-tell-their-test h g e r w q fails = go w (chosen-printed h e r w g q) (
         (σ : State) × (δ : Log) × Tests h e σ δ × (v ≡ shortage σ δ)
     go enough m none = absurd (elim fails [ inl z ↦ none refl .0 z | inr z ↦ none refl .1 z ])
     go (short a k) m none = let (σ, δ, t, f) = told-test m in (σ, δ, t, sym (found-is (RD δ) σ (short a k) f))
+
+-- ---- in an attempt that a run opened
+
+-- the log of a node is readable where those of its tree are
+node-readable : (s : State) {k n : ℕ} {a : Name} {N : Expression} {δ : Log} {new t u : Tree} →
+    NodeBecomes k (leaf (rdT n a N) δ) new t u → LogsReadable s t → readable s δ ≡ true
+unfolding LogsReadable
+node-readable s at-root logs = logs
+node-readable s (at-left b) logs = node-readable s b (logs .0)
+node-readable s (at-right b) logs = node-readable s b (logs .1)
+
+-- what a failed read tells there
+read-tells : (s : State) {k : ℕ} {old new t u : Tree} {w : Shortage} → NodeBecomes k old new t u → NodeMoves s old ARDF 9 w new →
+    LogsReadable s t →
+    (n : ℕ) × (a : Name) × (N : Expression) × (δ : Log) × (getElem? (preorder t) k ≡ some (leaf (rdT n a N) δ)) × (w ≡ short a 1)
+unfolding Included
+read-tells s b (ardf9 {n} {b = c} {k = j} {a} {M = N} {δ} f) logs =
+    let there = readable-included s δ (node-readable s b logs) in
+    let lacking : ¬ Included (RD (δ ++ (rd a ∷ []))) s = λ i. let x = f .exact in let y = f .lacks in let z = i c in omega arith in
+    (n, a, N, δ, node-found b, sym (found-is (RD (δ ++ (rd a ∷ []))) s (short c j) f) ∙ one-lacks s δ a there lacking)
+
+pub read-lacks-one : ReadLacksOne
+unfolding ReadLacksOne ruleNumber
+read-lacks-one s M u v moves k w e =
+    let p : InnerPrinted s u k (evolves ARDF w v) = rw e at (inner-printed s u k) in
+    read-tells s (p .2) (p .3) (moves-keep s M moves (faithful-start s M) .logs)
 
 -- ---- how much can be short
 

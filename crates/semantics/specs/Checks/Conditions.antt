@@ -15,7 +15,7 @@ use Rattle.calculus.specs.Log.{RD, WT}
 use Rattle.semantics.specs.Definitions.Basics.{replaceAt, Bytes}
 use Rattle.semantics.specs.Definitions.Terms.{Expression, endT, retryT, rdT, wtT, orElseT, Program, nilT, putT, takeT, repeatT, parT, atomT, Term, process, expression, width, branches, pathLength}
 use Rattle.semantics.specs.Definitions.Table.{Kind, kindByNumber, Field, channelF, programF, expressionF, amountF, fields, Reading, Content, termRecord, tokensRecord, startRecord, recordContent, Table, accepted, refusedAt, readTable}
-use Rattle.semantics.specs.Definitions.Configuration.{Idle, taking, repeating, output, Tree, leaf, fork, idle, transaction, Configuration, opens, opening, nodes}
+use Rattle.semantics.specs.Definitions.Configuration.{Idle, taking, repeating, output, Tree, leaf, fork, idle, transaction, Configuration, opens, opening, nodes, preorder}
 use Rattle.semantics.specs.Definitions.Stored.{WellFormed, bytesOf}
 use Rattle.semantics.specs.Definitions.Moves.{Entry, act, inside, refused, answerTo, isAccepted}
 use Rattle.semantics.specs.Definitions.Run.{Counters, RunAnswer, run, schedule, entries, scheduleBytes}
@@ -229,11 +229,6 @@ RefusalNumbers =
     (admission table hall ≡ notAdmitted n p → (1 ≤ n) × (n ≤ 11))
 
 -- ---- 12 to 20: a choice
-
--- the nodes of a tree in preorder: each before the sides below it, and what is left before what is right
-unfoldable pub preorder : Tree → List Tree
-preorder (leaf M δ) = leaf M δ ∷ []
-preorder (fork l r) = fork l r ∷ (preorder l ++ preorder r)
 
 -- a leaf that is settled (end or retry), or a fork whose left side is not
 abbrev pub NoRuleAtNode : Tree → Type 0

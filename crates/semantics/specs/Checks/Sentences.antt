@@ -50,6 +50,11 @@ unfoldable pub RoomOfAShortage : Type 0
 unfolding shortNamed
 RoomOfAShortage = (w : Shortage) → Bytes (shortNumbers w) → length (shortNamed w) ≤ 23
 
+-- no sentence has more than 95
+unfoldable pub LongestSentence : Type 0
+unfolding sentence
+LongestSentence = (k p n : ℕ) (a : Reply) → AllBytes k p n a → length (sentence k p n a) ≤ 95
+
 -- a sentence that names no tray is at least 23 bytes shorter than it may be, so that it can tell a tray and a count as
 -- well (Q-9: `, tray 255, count 255`)
 unfoldable pub RoomIsLeft : Type 0
@@ -73,7 +78,7 @@ said k p n a x = record { kind = k; position = p; node = n; reply = a; text = x 
 unfoldable pub sentenceRows : List SentenceRow
 unfolding said
 sentenceRows =
-    -- the thirteen rules
+    -- the thirteen rules, with nothing short, which no hall answers by 6 and 9
     said 1 1 0 (movedBy 1 enough) "Kind 1 at station 1 moved by rule 1, token put." ∷
     said 1 2 0 (movedBy 2 enough) "Kind 1 at station 2 moved by rule 2, token taken." ∷
     said 1 3 0 (movedBy 3 enough) "Kind 1 at station 3 moved by rule 3, token taken, repeats." ∷
@@ -150,16 +155,16 @@ SentenceInBytes =
 -- the call on buffers of 170s: how many, the answer, and the buffer afterwards
 unfoldable pub calledOn : ℕ → SentenceCall
 unfolding sentenceCall
-calledOn size = sentenceCall 1 0 7 (movedBy 6 enough) (replicate size 170)
+calledOn size = sentenceCall 1 0 7 (movedBy 6 (short 3 1)) (replicate size 170)
 
 unfoldable pub callRows : List (ℕ × SentenceAnswer × List ℕ)
 unfolding ascii
 callRows =
-    (0, notTold 21 0, []) ∷ (95, notTold 21 0, replicate 95 170) ∷ (96, told 51, toldIn 45) ∷ (97, told 51, toldIn 46) ∷
-    (200, told 51, toldIn 149) ∷ []
+    (0, notTold 21 0, []) ∷ (95, notTold 21 0, replicate 95 170) ∷ (96, told 70, toldIn 26) ∷ (97, told 70, toldIn 27) ∷
+    (200, told 70, toldIn 130) ∷ []
   where
     toldIn : ℕ → List ℕ
-    toldIn rest = ascii "Kind 1 at station 0 moved by rule 6, commit failed." ++ replicate rest 170
+    toldIn rest = ascii "Kind 1 at station 0 moved by rule 6, commit failed, tray 3 short by 1." ++ replicate rest 170
 
 unfoldable pub CallsWorked : Type 0
 unfolding callRows calledOn

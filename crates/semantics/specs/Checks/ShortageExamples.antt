@@ -1,15 +1,15 @@
 -- Worked examples of what is told short (document 02, Q-3): of reads and counts, and of choices, also on halls that no
 -- run reached.
 -- Assumes nothing.
-use Prim.Native.Nat.{ℕ, _-_}
+use Prim.Native.Nat.{_-_}
 use mathlib.Core.Path.{_≡_}
-use mathlib.Core.List.{List, [], _∷_, _++_, map}
+use mathlib.Core.List.{[], _∷_, map}
 use lib.ListN.{replicate, set}
 use Rattle.calculus.specs.Syntax.{rd, wt, State}
 use Rattle.semantics.specs.Definitions.Basics.{countUp}
 use Rattle.semantics.specs.Definitions.Shortage.{Shortage, enough, short, shortageOf}
 use Rattle.semantics.specs.Definitions.Terms.{Expression, endT, retryT, rdT, wtT}
-use Rattle.semantics.specs.Definitions.Configuration.{Tree, leaf, fork, transaction, Configuration}
+use Rattle.semantics.specs.Definitions.Configuration.{Tree, leaf, fork, transaction}
 use Rattle.semantics.specs.Definitions.Moves.{Entry, act, inside, respondTo}
 use Rattle.semantics.specs.Definitions.Calls.{shortageIn}
 use Rattle.semantics.specs.Checks.Examples.{numbers, trays}
@@ -57,8 +57,12 @@ pub record ChoicesShort : Type 0 where
   pub read-again : toldOn (trays "") (trays "0 0 0 0 0 1") (leaf readFive (rd 5 ∷ [])) (inside 0 0) ≡ short 5 1
   -- where the log itself was not there, another tray than the one read may be told, and more than one lacking
   pub read-of-another : toldOn (trays "") (trays "0 0 0 0 0 1") (leaf readFive (rd 2 ∷ rd 2 ∷ [])) (inside 0 0) ≡ short 2 2
-  pub read-of-a-higher : toldOn (trays "") (trays "") (leaf readFive (rd 7 ∷ rd 7 ∷ [])) (inside 0 0) ≡ short 5 1
+  -- a higher tray of the log lacks more, and the one that is read is told
+  pub read-is-lower : toldOn (trays "") (trays "") (leaf readFive (rd 7 ∷ rd 7 ∷ [])) (inside 0 0) ≡ short 5 1
   pub read-by-sixteen : toldOn (trays "") (trays "") (leaf readFive (replicate 15 (rd 5))) (inside 0 0) ≡ short 5 16
+  -- a write of the same tray, logged before, lends nothing
+  pub commit-behind-a-write : toldOn (trays "") (trays "") (leaf (endT 0) (wt 5 ∷ rd 5 ∷ [])) (act 0) ≡ short 5 1
+  pub read-behind-a-write : toldOn (trays "") (trays "") (leaf readFive (wt 5 ∷ [])) (inside 0 0) ≡ short 5 1
   -- at the node that is named
   pub read-at-a-node :
       toldOn (trays "") (trays "") (fork (leaf (endT 0) []) (leaf readFive (rd 3 ∷ []))) (inside 0 2) ≡ short 3 1

@@ -1,5 +1,5 @@
--- The thirteen moves as the scope prints them (document 01, "Choices and moves"), each with its number, said apart from
--- the executable definitions, and the claim that those accept exactly these moves. Demand 2 forgets term numbers; this
+-- The thirteen moves as the scope prints them (document 01, "Choices and moves"), each with its number and with what it
+-- tells short (document 02, Q-3), said apart from the executable definitions, and the claim that those accept exactly these moves. Demand 2 forgets term numbers; this
 -- says to the number what a move goes on with and what it goes back to.
 -- Assumes nothing.
 use Prim.Native.Nat.{ℕ, suc, _+_, _≤_, _<_}

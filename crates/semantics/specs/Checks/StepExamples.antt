@@ -8,7 +8,7 @@ use mathlib.Core.Path.{_≡_}
 use mathlib.Core.Option.{some}
 use mathlib.Core.List.{List, [], _∷_, map}
 use lib.ListN.{replicate}
-use Rattle.semantics.specs.Definitions.Shortage.{enough}
+use Rattle.semantics.specs.Definitions.Shortage.{Shortage, enough, short}
 use Rattle.semantics.specs.Definitions.Run.{Counters}
 use Rattle.semantics.specs.Definitions.Calls.{openHall, Buffers, StepCall, stepCall, runChoices, stepChoice}
 use Rattle.semantics.specs.Checks.Examples.{noise, numbers, trays, hallOf, attempt, leafOf, tally}
@@ -63,6 +63,17 @@ Rehearsed =
     stepRow 14 0 0 "0 1" [] (tally 4 4 5) ∷
     stepRow 14 0 0 "0 1" [] (tally 4 4 5) ∷ []
 
+-- rd 0, then end, with no token there: the attempt begins, the read fails and tells the tray, and a further step at that
+-- node, which is refused, tells none
+unfoldable pub Lacking : Type 0
+unfolding numbers noise openHall stepsInTurn tally
+Lacking =
+    let table = numbers "7 9 0 0 6 1 13 2" in
+    let l : Buffers = record { hall = (openHall table noise) .hall; counters = tally 0 0 0 } in
+    map {B = ℕ × ℕ × Shortage} (λ a. (a .number, a .rule, a .shortage))
+    (stepsInTurn table l ((1, 0, 0) ∷ (2, 0, 0) ∷ (2, 0, 0) ∷ []))
+    ≡ (0, 4, enough) ∷ (0, 9, short 0 1) ∷ (17, 0, enough) ∷ []
+
 -- a table that is refused, a hall of another size, and bytes that are no hall: their number and place come first, also
 -- before that of an unknown kind, and what was lent stays
 unfoldable pub Rejected : Type 0
@@ -96,5 +107,6 @@ Mixed =
 
 pub record StepExamples : Type 0 where
   pub rehearsed : Rehearsed
+  pub lacking : Lacking
   pub rejected : Rejected
   pub mixed : Mixed

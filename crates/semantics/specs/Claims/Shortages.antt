@@ -11,14 +11,14 @@ use lib.ListN.{getElem?}
 use Rattle.calculus.specs.Syntax.{Name, rd, Log, State}
 use Rattle.calculus.specs.State.{count, occurrences, Included}
 use Rattle.calculus.specs.Log.{RD}
-use Rattle.calculus.specs.Reduction.{Rule}
+use Rattle.calculus.specs.Reduction.{Rule, ARDF}
 use Rattle.semantics.specs.Definitions.Shortage.{Shortage, enough, short}
 use Rattle.semantics.specs.Definitions.Terms.{Expression, endT, rdT}
-use Rattle.semantics.specs.Definitions.Logs.{shortage, readable}
-use Rattle.semantics.specs.Definitions.Configuration.{Tree, leaf, transaction, Configuration}
-use Rattle.semantics.specs.Definitions.Moves.{Entry, act, inside, does, respondTo, ruleNumber}
+use Rattle.semantics.specs.Definitions.Logs.{emptyLog, shortage, readable}
+use Rattle.semantics.specs.Definitions.Configuration.{Tree, leaf, transaction, Configuration, preorder}
+use Rattle.semantics.specs.Definitions.Moves.{Entry, act, inside, evolves, inner, does, respondTo, ruleNumber}
 use Rattle.semantics.specs.Claims.Correspondence.{EveryHall}
-use Rattle.semantics.specs.Checks.Conditions.{preorder}
+use Rattle.semantics.specs.Claims.InnerMoves.{Moves}
 
 -- ---- of a log at given counts
 
@@ -47,13 +47,6 @@ unfolding shortage readable
 EnoughIsIncluded =
     (σ : State) (δ : Log) → ((shortage σ δ ≡ enough) ↔ Included (RD δ) σ) × ((readable σ δ ≡ true) ↔ Included (RD δ) σ)
 
--- where all that was read before was there, as in every hall that a run reached, the tray of the read itself lacks one
-unfoldable pub ReadLacksOne : Type 0
-unfolding shortage
-ReadLacksOne =
-    (s : State) (δ : Log) (a : Name) → Included (RD δ) s → ¬ Included (RD (δ ++ (rd a ∷ []))) s →
-    shortage s (δ ++ (rd a ∷ [])) ≡ short a 1
-
 -- ---- of a choice, on every configuration, also one that no run reached
 
 -- the counts and the log that it holds against one another: at a single end leaf the counts of now and the leaf's log; at
@@ -78,6 +71,15 @@ unfolding respondTo ruleNumber
 FailuresAloneName =
     (h g : Configuration) (e : Entry) (r : Rule) (w : Shortage) → respondTo h e ≡ does r w g →
     (w ≡ enough) ↔ ((ruleNumber r ≢ 6) × (ruleNumber r ≢ 9))
+
+-- in an attempt that a run opened, whatever the order of its moves, a read that fails lacks one of the tray that it reads
+unfoldable pub ReadLacksOne : Type 0
+unfolding emptyLog inner
+ReadLacksOne =
+    (s : State) (M : Expression) (u v : Tree) → Moves s (leaf M emptyLog) u →
+    (k : ℕ) (w : Shortage) → inner s u k ≡ evolves ARDF w v →
+    (n : ℕ) × (a : Name) × (N : Expression) × (δ : Log) × (getElem? (preorder u) k ≡ some (leaf (rdT n a N) δ)) ×
+    (w ≡ short a 1)
 
 -- on a well-formed hall the tray is one of the 16, and it lacks between 1 and 16 tokens
 unfoldable pub ShortagesAreSmall : Type 0

@@ -162,11 +162,12 @@ unfolding steps ruleNumber
 firstRule (notAdmitted n p) es = 0
 firstRule (admitted t h) es = getD (map (λ s. ruleNumber (s .rule)) (steps h es)) 0 0
 
--- what the first choice was short of; enough where it is refused
+-- what was short, by a response; enough where it refuses
 unfoldable pub shortageIn : Response → Shortage
 shortageIn (does r w h) = w
 shortageIn (refuses n) = enough
 
+-- what the first choice was short of (document 02, Q-3)
 unfoldable pub firstShortage : Admission → List Entry → Shortage
 unfolding shortageIn respondTo
 firstShortage (notAdmitted n p) es = enough

@@ -37,6 +37,11 @@ unfoldable pub nodes : Tree → ℕ
 nodes (leaf M δ) = 1
 nodes (fork l r) = 1 + (nodes l + nodes r)
 
+-- the nodes of a tree in preorder: each before the sides below it, and what is left before what is right
+unfoldable pub preorder : Tree → List Tree
+preorder (leaf M δ) = leaf M δ ∷ []
+preorder (fork l r) = fork l r ∷ (preorder l ++ preorder r)
+
 -- what a process opens into, from left to right; nil leaves nothing
 unfoldable pub opens : Program → List Idle
 opens (nilT n) = []

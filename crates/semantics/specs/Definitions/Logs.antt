@@ -16,7 +16,7 @@ use Rattle.semantics.specs.Definitions.Terms.{Expression, endT, retryT, 
 unfoldable pub emptyLog : Log
 emptyLog = []
 
--- what a log, or a path, is short of at given counts
+-- what a log, or a path, is short of at given counts (document 02, Q-3)
 unfoldable pub shortage : State → Log → Shortage
 unfolding shortageOf RD
 shortage σ δ = shortageOf (RD δ) σ
