@@ -117,9 +117,9 @@ uint8_t ruonfidd_run(const uint8_t *table, size_t table_length, uint8_t *hall, s
  * 4 ATST, 5 ATRE, 6 ATFAIL, 7 ATOK, 8 ARDOK, 9 ARDF, 10 AWR, 11 AOI, 12 AOF or 13 AOE.
  * shortage: by rules 6 and 9 a tray, 0 to 15, and by how many it was short, 1 to 16.  By rule 6 the
  * reads of the log were held against the counts of now, by rule 9 the reads of the log and this one
- * against the attempt's snapshot; of all trays that have fewer it is the lowest.  So rule 9 tells the
- * tray that it reads, short by 1; in a hall that no run reached it may tell another, or more.  By
- * every other rule nothing was short, and both bytes are 0.
+ * against the attempt's snapshot; of all trays that have fewer it is the lowest.  In a hall that calls
+ * have led to from its opening, rule 9 tells the tray that it reads, short by 1; in any other hall it
+ * may tell another, or more.  Every other rule tells no tray: both bytes are 0.
  * Refused: 1 to 12 or 14 to 20, and the place, which is 0 from 10 on; the rule is 0, the shortage
  * 0, 0; hall and tally are as they were. */
 uint8_t ruonfidd_step(const uint8_t *table, size_t table_length, uint8_t *hall, size_t hall_length,
@@ -147,9 +147,9 @@ uint8_t ruonfidd_suggest(const uint8_t *table, size_t table_length, const uint8_
  * moved: 0 where the choice was refused with the number, any other byte where it moved by the rule of
  * that number.  A step that returned 0 has moved by its rule; any other was refused with what it
  * returned.  For kind 1 the node counts for nothing.
- * tray, short_by: what was short, at any rule; nothing was where short_by is 0, and then the tray
- * counts for nothing, as both do where the choice was refused.  The two bytes that a step has set are
- * handed on as they are, whatever it answered.
+ * tray, short_by: which tray was short and by how many, named at any rule.  0 and 0 name none; every
+ * other pair is named as it is, also one that no step tells.  Where the choice was refused both count
+ * for nothing.  The two bytes that a step has set are handed on as they are, whatever it answered.
  * The sentence names kind, position, node and number in decimal, behind them the tray and by how many
  * it was short, and says in words what rules 1 to 13 and refusals 1 to 20 mean.  All bytes are taken,
  * also those that no hall gives; no two choices or answers that differ have the same sentence.

@@ -1,6 +1,6 @@
 // One entry of a schedule (document 01's choice) on a configuration (hall) that a run holds: looked at, or made.
 //
-// A look only reads and answers by which rule an entry would move; suggestions and steps look. What is made answers the
+// A look only reads and answers by which rule an entry would move, and what is short; suggestions and steps look. What is made answers the
 // same. Both go by what stands at the position (`acts`) or at the node (`inside`), and by the same tests.
 mod inside;
 

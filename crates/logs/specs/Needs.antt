@@ -57,7 +57,7 @@ unfoldable pub withinFirst : (need s : List ℕ) → (at n : ℕ) → Bool
 withinFirst need s at zero = true
 withinFirst need s at (suc n) = withinFirst need s at n && leb (getD need n 0) (getD s (at + n) 0)
 
--- the test's first half
+-- whether counts suffice: the test's first half, said by needs
 unfoldable pub withinAt : (need s : List ℕ) → (at : ℕ) → Bool
 unfolding withinFirst
 withinAt need s at = withinFirst need s at channels

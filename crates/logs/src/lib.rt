@@ -1,9 +1,10 @@
 // Logs (document 01, "The stored hall" and "Choices and moves"): as values, and what a stored log needs and writes.
 //
 // What the reads of a log come to is an array of needs, one for each channel (tray), which a commit takes from the
-// counts. One test, `shortage`, tells what counts lack for the reads, whatever the counts are: the hall's own or a
-// snapshot. It takes the reads one by one from a copy of the counts (`left_of`), and only where these do not suffice
-// looks for the lowest channel that is short. A stored log is read where it stands, at an offset of a hall's bytes.
+// counts. One test tells what counts lack for the reads of a log (`shortage`), or of a log with one read more
+// (`shortage_with`), whatever the counts are: the hall's own or a snapshot. It takes the reads one by one from a copy of
+// the counts (`left_of`), and only where these do not suffice looks for the lowest channel that is short
+// (`lowest_short`). A stored log is read where it stands, at an offset of a hall's bytes.
 use buffer::wide;
 use rules::Shortage;
 use stored::CHANNELS;

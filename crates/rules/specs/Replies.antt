@@ -28,7 +28,7 @@ abbrev pub ruleOf : Reply → ℕ
 ruleOf (Moved r w) = r
 ruleOf (Refused n) = 0
 
--- what a move found short; enough for a refusal
+-- the shortage that a move tells; enough for a refusal
 abbrev pub shortageTold : Reply → Shortage
 shortageTold (Moved r w) = w
 shortageTold (Refused n) = Enough

@@ -60,7 +60,8 @@ pub enum Shortage {
     Short { channel: u8, by: u8 },
 }
 
-// Moved by the rule of this number, with what its test found short; or refused with this number.
+// Moved by the rule of this number, with what its test found short (a rule that makes none tells enough); or refused with
+// this number.
 pub enum Reply {
     Moved(u8, Shortage),
     Refused(u8),
@@ -76,7 +77,7 @@ pub fn rule_of(reply: Reply) -> u8
     }
 }
 
-// What a move found short; enough for a refusal.
+// The shortage that a move tells; enough for a refusal.
 pub fn shortage_of(reply: Reply) -> Shortage
     ensures { λ r. ⌜ r ≡ shortageTold reply ⌝ }
 {

@@ -1,9 +1,9 @@
 -- The cases of what a sentence's call answers, as numbers; and what that says.
 -- Assumes nothing.
-use Prim.Native.Nat.{ℕ, _≤_, _<_}
+use Prim.Native.Nat.{ℕ, zero, suc, _+_, _≤_, _<_}
 use native.Mathlib.Omega.{arith}
 use mathlib.Core.Path.{_≡_, refl}
-use mathlib.Core.Bool.{Bool, true, false, cond}
+use mathlib.Core.Bool.{Bool, true, false, cond, not}
 use mathlib.Core.List.{List}
 use lib.ListN.{length, getD}
 use lib.Dec.{eqb}
@@ -17,30 +17,44 @@ use Rattle.semantics.specs.Definitions.Calls.{Buffers, stepCall}
 use Rattle.semantics.specs.Checks.Steps.{StepCallNumbers, stepReply}
 use Rattle.semantics.specs.Checks.Sentences.{ShortBuffersRefused, SentenceStands}
 use Rattle.theorems.proofs.Theorems.{step-call-numbers, short-buffers-refused, sentence-stands}
-use Rattle.sentences.specs.Answers.{sentenceCallOf}
+use Rattle.sentences.specs.Answers.{shortageFrom, replyIn, sentenceCallOf}
 use Rattle.sentences.specs.declared.SentenceAnswer.{SentenceAnswer}
 use Rattle.sentences.specs.declared.SentenceAnswer.the-variants as answer
-use Rattle.ruonfidd.specs.Answered.{shortageWords, replyFrom, SentenceAnswered}
+use Rattle.ruonfidd.specs.Answered.{shortageWords, tellsShort, replyFrom, SentenceAnswered}
 
-module _ (k p n : ℕ) (r : Reply) (buffer buffer′ : List ℕ) (a : SentenceAnswer)
-    (e : sentenceCallOf a buffer′ ≡ sentenceCall k p n r buffer) where
+-- whether two bytes tell a shortage: the tray does where it is not 0, and where it is, the number does
+pub tray-tells : (a k : ℕ) → ¬ (a ≡ 0) → true ≡ tellsShort a k
+tray-tells a k other = rw (ne-eqb a 0 other) refl
+
+pub by-tells : (a k : ℕ) → a ≡ 0 → not (eqb k 0) ≡ tellsShort a k
+by-tells a k none = rw none refl
+
+module _ (k p n m number tray by : ℕ) (short : Bool) (told : short ≡ tellsShort tray by) (buffer buffer′ : List ℕ)
+    (a : SentenceAnswer)
+    (e : sentenceCallOf a buffer′ ≡ sentenceCall k p n (replyIn (not (eqb m 0)) number (shortageFrom short tray by)) buffer) where
   pub sentence-told : (l before : ℕ) → a ≡ answer.Told l →
-      SentenceAnswered (sentenceCall k p n r buffer) 0 before l buffer′
-  sentence-told l before h = rw (← e, h) (record { number = refl; length = refl; bytes = refl })
+      SentenceAnswered (sentenceCall k p n (replyFrom m number tray by) buffer) 0 before l buffer′
+  sentence-told l before h = rw (← told, ← e, h) (record { number = refl; length = refl; bytes = refl })
 
-  pub sentence-refused : (number place before : ℕ) → a ≡ answer.Refused number place →
-      SentenceAnswered (sentenceCall k p n r buffer) number before before buffer′
-  sentence-refused number place before h = rw (← e, h) (record { number = refl; length = refl; bytes = refl })
+  pub sentence-refused : (refusal place before : ℕ) → a ≡ answer.Refused refusal place →
+      SentenceAnswered (sentenceCall k p n (replyFrom m number tray by) buffer) refusal before before buffer′
+  sentence-refused refusal place before h = rw (← told, ← e, h) (record { number = refl; length = refl; bytes = refl })
 
 -- ---- what a caller in C may rely on
+
+-- two bytes that are not 0 0 tell a shortage
+tells : (a k : ℕ) → ¬ (a + k ≡ 0) → true ≡ tellsShort a k
+tells zero k some = rw (ne-eqb k 0 (λ e. some (omega arith))) refl
+tells (suc a) k some = tray-tells (suc a) k (λ e. omega arith)
 
 pub byte-0-refused : (number tray by : ℕ) → replyFrom 0 number tray by ≡ refusedBy number
 byte-0-refused number tray by = refl
 
--- by 0 no tray was short, by any other byte this one
+-- by 0 0 no tray was short, by any other two bytes this one
 pub other-byte-moved : (m number tray by : ℕ) → ¬ (m ≡ 0) →
-    (replyFrom m number tray 0 ≡ movedBy number enough) × (¬ (by ≡ 0) → replyFrom m number tray by ≡ movedBy number (short tray by))
-other-byte-moved m number tray by other = (rw (ne-eqb m 0 other) refl, λ some. rw (ne-eqb m 0 other, ne-eqb by 0 some) refl)
+    (replyFrom m number 0 0 ≡ movedBy number enough) ×
+    (¬ (tray + by ≡ 0) → replyFrom m number tray by ≡ movedBy number (short tray by))
+other-byte-moved m number tray by other = (rw (ne-eqb m 0 other) refl, λ some. rw (ne-eqb m 0 other, ← tells tray by some) refl)
 
 -- the two bytes that a step set may be handed on as they are: with its rule, or with its refusal, they make the reply that
 -- it told
@@ -54,7 +68,7 @@ handed n r w some = go (eqb n 0) refl w some
     go false e v f = refl
     go true e enough f = refl
     go true e (short a k) f =
-        let l = f (eqb-true n 0 e) a k refl in rw (ne-eqb k 0 (λ z. omega arith)) refl
+        let l = f (eqb-true n 0 e) a k refl in rw (← tells a k (λ z. omega arith)) refl
 
 pub handed-on : (table : List ℕ) (l : Buffers) → Bytes table → Bytes (l .hall) → (kind position node : ℕ) →
     let a = stepCall table l kind position node in

@@ -3,7 +3,7 @@
 -- Assumes nothing.
 use Prim.Native.Nat.{ℕ}
 use mathlib.Core.Path.{_≡_}
-use mathlib.Core.Bool.{not}
+use mathlib.Core.Bool.{Bool, not, _&&_}
 use mathlib.Core.List.{List, [], _∷_}
 use lib.ListN.{getD}
 use lib.Dec.{eqb}
@@ -61,10 +61,10 @@ abbrev pub shortageWords : Shortage → List ℕ
 shortageWords enough = 0 ∷ 0 ∷ []
 shortageWords (short a k) = a ∷ k ∷ []
 
-pub record StepSet (n at by : ℕ) (lacks : Shortage) (t : Counters) (returned p r : ℕ) (b w : List ℕ) : Type 0 where
+pub record StepSet (n at moved-by : ℕ) (lacks : Shortage) (t : Counters) (returned p r : ℕ) (b w : List ℕ) : Type 0 where
   pub number : returned ≡ n
   pub place : p ≡ at
-  pub rule : r ≡ by
+  pub rule : r ≡ moved-by
   pub shortage : b ≡ shortageWords lacks
   pub tally : w ≡ tallyWords t
 
@@ -102,10 +102,14 @@ pub record SuggestionAnswered (a : SuggestAnswer) (returned p : ℕ) (w : List �
 
 -- ---- a sentence
 
--- a byte that tells whether the choice moved, 0 that it did not, and the number of the rule or of the refusal; then a
--- tray and by how many it was short, 0 that nothing was
+-- whether the two bytes of a shortage tell one: 0 0 tell none, and all others are taken as they are
+abbrev pub tellsShort : (tray by : ℕ) → Bool
+tellsShort a k = not (eqb a 0 && eqb k 0)
+
+-- a byte that tells whether the choice moved, 0 that it did not, the number of the rule or of the refusal, and the two
+-- bytes of a shortage
 abbrev pub replyFrom : (moved number tray by : ℕ) → Reply
-replyFrom m n a k = replyIn (not (eqb m 0)) n (shortageFrom (not (eqb k 0)) a k)
+replyFrom m n a k = replyIn (not (eqb m 0)) n (shortageFrom (tellsShort a k) a k)
 
 -- what is returned, and the lent length afterwards: as it was where nothing is told
 abbrev pub sentenceNumber : SentenceAnswer → ℕ

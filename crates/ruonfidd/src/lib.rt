@@ -4,7 +4,8 @@
 // A `&[u8]` is passed as a pointer and a length, a `&mut` of a number or of an array as a pointer to what the call
 // sets. An enum does not pass to C: a call returns the number, 0 for none, and sets the rest in every case. A tally is
 // three numbers: commits, failed, retries; runs and steps count on from what it holds. A suggestion is three bytes:
-// kind, position, node; a shortage is two: a tray and by how many, 0 0 for none. Only a sentence that is refused sets nothing: its buffer and its length stay as they were.
+// kind, position, node; a shortage is two: a tray and by how many, 0 0 for none. Only a sentence that is refused sets
+// nothing: its buffer and its length stay as they were.
 use counters::Counters;
 use engine::HallVerdict;
 use engine::OpenAnswer;
@@ -31,7 +32,7 @@ ghost use Rattle.rules.specs.Replies.{shortageIs};
 ghost use Rattle.counters.specs.Counted.{countersOf};
 ghost use Rattle.schedule.specs.Entries.{entryOf};
 ghost use Rattle.sections.specs.Limits.{linesMost};
-ghost use Rattle.ruonfidd.specs.Answered.{VerdictAnswered, OpeningAnswered, tallyWords, countersIn, buffersIn, RunAnswered, shortageWords, StepAnswered, choiceWords, SuggestionAnswered, replyFrom, SentenceAnswered};
+ghost use Rattle.ruonfidd.specs.Answered.{VerdictAnswered, OpeningAnswered, tallyWords, countersIn, buffersIn, RunAnswered, shortageWords, StepAnswered, choiceWords, SuggestionAnswered, tellsShort, replyFrom, SentenceAnswered};
 
 // Whether a table is accepted: 0, and place 0; or the number of the first refusal, and its place.
 #[no_mangle]
@@ -162,13 +163,13 @@ pub extern "C" fn ruonfidd_step(
     let before = counters_in(tally);
     match engine::step(table, hall, kind, position, node, before) {
         StepAnswer::Moved {
-            rule: by,
+            rule: moved_by,
             shortage: lacks,
             place: at,
             counters,
         } => {
             *place = at;
-            *rule = by;
+            *rule = moved_by;
             *shortage = shortage_bytes(lacks);
             *tally = tally_of(counters);
             0
@@ -233,10 +234,20 @@ pub extern "C" fn ruonfidd_report(input: &[u8], output: &mut [u8; OUTPUT], lengt
     *length = written;
 }
 
+// Whether the two bytes of a shortage tell one. Only 0 0 tell none, so that no two pairs have the same sentence.
+fn tells_shortage(tray: u8, by: u8) -> bool
+    ensures { λ r. ⌜ r ≡ tellsShort tray by ⌝ }
+{
+    if tray != 0 {
+        return true;
+    }
+    by != 0
+}
+
 // Writes the sentence of a choice and its answer to the front of a buffer, whose other bytes are left: 0, and its
 // length. `moved` is 0 where the choice was refused with this number, and any other byte where it moved by the rule of
-// this number; then `by` says how many the tray lacked, and 0 that none was short. Or 21, whose place is always 0: the
-// buffer is too short, and neither it nor the length is written.
+// this number; then `tray` was short by `by`, and none was by 0 0. Or 21, whose place is always 0: the buffer is too
+// short, and neither it nor the length is written.
 #[no_mangle]
 pub extern "C" fn ruonfidd_sentence(
     kind: u8,
@@ -253,13 +264,14 @@ pub extern "C" fn ruonfidd_sentence(
         (sentenceCall kind position node (replyFrom moved number tray by) (now (buffer .entry)))
         r (now (length .entry)) (now (length .exit)) (now (buffer .exit)) ⌝ }
 {
+    let short = tells_shortage(tray, by);
     match sentences::sentence(
         kind,
         position,
         node,
         moved != 0,
         number,
-        by != 0,
+        short,
         tray,
         by,
         buffer,

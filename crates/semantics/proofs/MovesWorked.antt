@@ -2,10 +2,10 @@
 -- Assumes nothing.
 use mathlib.Core.Path.{refl}
 use Rattle.semantics.specs.Definitions.Moves.{respondTo}
-use Rattle.semantics.specs.Checks.StatedMoves.{tried, both, GivesShort, GivesInside, MovesWorked}
+use Rattle.semantics.specs.Checks.StatedMoves.{tried, both, GivesTold, GivesInside, MovesWorked}
 
 pub moves-worked : MovesWorked
-unfolding GivesShort GivesInside tried both respondTo
+unfolding GivesTold GivesInside tried both respondTo
 moves-worked =
     record {
       OUT-1 = refl;

@@ -16,9 +16,16 @@ use Rattle.semantics.specs.Claims.Shortages.{ShortageIsLowest, ShortageIsExact,
 use Rattle.semantics.specs.Checks.ShortageExamples.{ShortageExamples}
 use Rattle.semantics.specs.Claims.Sentences.{SentencesAreShort, SentencesArePrintable, SentencesTellApart}
 use Rattle.semantics.specs.Checks.Sentences.{WordsEnd, ShortBuffersRefused, SentenceStands, RoomOfAShortage, LongestSentence, RoomIsLeft, SentencesWorked, SentenceInBytes, CallsWorked}
-use mathlib.Core.Path.{refl, sym, ap, _∙_}
+use mathlib.Core.Path.{_≡_, refl, sym, ap, _∙_}
 use mathlib.Core.List.{map}
+use native.Mathlib.Omega.{arith}
+use lib.ListN.{length, take}
+use lib.Seq.{take-length}
+use Rattle.calculus.specs.Reduction.{ARDF}
+use Rattle.semantics.specs.Definitions.Configuration.{opening}
 use Rattle.semantics.specs.Definitions.Stored.{bytesOf, configurationOf}
+use Rattle.semantics.specs.Definitions.Moves.{inside, ruleNumber}
+use Rattle.semantics.specs.Definitions.Run.{steps, finalConfiguration}
 use Rattle.semantics.specs.Claims.NumberedRun.{NumberedIsAtomic}
 use Rattle.semantics.specs.Checks.Notes.{NotesAtBlocks}
 use Rattle.semantics.specs.Checks.PrintedRun.{TableFound, AcceptedIsFound, PrintedLong, PrintedRefused, PrintedAsCalls}
@@ -320,7 +327,17 @@ pub enough-is-included : EnoughIsIncluded
 enough-is-included = Lacking.enough-is-included
 
 pub read-lacks-one : ReadLacksOne
-read-lacks-one = Lacking.read-lacks-one
+unfolding ReadLacksOne finalBuffers initialBuffers firstBuffers allDone ruleNumber
+read-lacks-one table t accepts buffer size first cs h g read p k w q =
+    let all = opened-calls table t accepts buffer size first cs in
+    let led = runs-steps (all .runs) in
+    let es = allDone table t buffer first cs in
+    let back = ap (configurationOf (t .terms)) (all .hall) ∙ read-back (t .terms) (all .after) (accepted-is-good table t (accepts .1)) (all .well-formed) in
+    let same : h ≡ all .after = cc in
+    let whole : finalConfiguration (opening t) (take (length (steps (opening t) es)) (steps (opening t) es)) ≡ h =
+    rw (take-length (steps (opening t) es)) (led .1 ∙ sym same) in
+    Lacking.opened-lacks-one (Printing.chosen-printed h (inside p k) ARDF w g q)
+    (λ n M s u f. attempts-ok t first es (length (steps (opening t) es)) (omega arith) p n M s u (rw whole f) .2)
 
 pub failures-tell-their-test : FailuresTellTheirTest
 failures-tell-their-test = Lacking.failures-tell-their-test

@@ -19,11 +19,12 @@ use Rattle.calculus.proofs.Logs.{RD-append}
 use Rattle.semantics.specs.Definitions.Basics.{All}
 use Rattle.semantics.specs.Definitions.Shortage.{Shortage, enough, short, shortageOf}
 use Rattle.semantics.specs.Definitions.Terms.{Expression, rdT, Term}
-use Rattle.semantics.specs.Definitions.Logs.{shortage, readable}
-use Rattle.semantics.specs.Definitions.Configuration.{Tree, leaf, fork, Configuration, preorder}
+use Rattle.semantics.specs.Definitions.Logs.{emptyLog, shortage, readable}
+use Rattle.semantics.specs.Definitions.Configuration.{Tree, leaf, fork, transaction, Configuration, preorder}
 use Rattle.semantics.specs.Definitions.Stored.{channelOf, TreeOk, ComponentOk, WellFormed}
-use Rattle.semantics.specs.Definitions.Moves.{Entry, Inner, evolves, inner, does, respondTo, ruleNumber}
-use Rattle.semantics.specs.Claims.Shortages.{ShortageIsLowest, ShortageIsExact, EnoughIsIncluded, ReadLacksOne, Tests, commit-tests, read-tests, FailuresTellTheirTest, FailuresAloneName, ShortagesAreSmall}
+use Rattle.semantics.specs.Definitions.Moves.{Entry, inside, does, respondTo, ruleNumber}
+use Rattle.semantics.specs.Claims.Shortages.{ShortageIsLowest, ShortageIsExact, EnoughIsIncluded, Tests, commit-tests, read-tests, FailuresTellTheirTest, FailuresAloneName, ShortagesAreSmall}
+use Rattle.semantics.specs.Claims.InnerMoves.{Moves}
 use Rattle.semantics.specs.Checks.AcceptedTables.{GoodTable}
 use Rattle.semantics.specs.Checks.StatedMoves.{NodeBecomes, at-root, at-left, at-right, LowestShort, NodeMoves, ardok8, ardf9, awr10, aoi11, aof12, aoe13, MoveAsStated, out1, in2, rep3, atst4, atre5, atfail6, atok7, inside8-13}
 use Rattle.theorems.proofs.Lists.{found-below, all-at, all-append}
@@ -32,7 +33,7 @@ use Rattle.theorems.proofs.Shortages.{Found, shortage-found, found-is}
 use Rattle.theorems.proofs.Readable.{readable-included, included-readable}
 use Rattle.theorems.proofs.WellFormedKept.{leaf-parts}
 use Rattle.theorems.proofs.ChoiceConditions.{length-preorder, node-left, node-right}
-use Rattle.theorems.proofs.StatedMoves.{way-found, chosen-printed, InnerPrinted, inner-printed}
+use Rattle.theorems.proofs.StatedMoves.{way-found, chosen-printed}
 use Rattle.theorems.proofs.Outcome.{LogsReadable, faithful-start}
 use Rattle.theorems.proofs.InnerMoves.{moves-keep}
 
@@ -163,21 +164,21 @@ node-readable s at-root logs = logs
 node-readable s (at-left b) logs = node-readable s b (logs .0)
 node-readable s (at-right b) logs = node-readable s b (logs .1)
 
--- what a failed read tells there
-read-tells : (s : State) {k : ℕ} {old new t u : Tree} {w : Shortage} → NodeBecomes k old new t u → NodeMoves s old ARDF 9 w new →
-    LogsReadable s t →
-    (n : ℕ) × (a : Name) × (N : Expression) × (δ : Log) × (getElem? (preorder t) k ≡ some (leaf (rdT n a N) δ)) × (w ≡ short a 1)
+-- what a failed read tells where every attempt has come from its block by moves inside it
+pub opened-lacks-one : {h g : Configuration} {p k : ℕ} {w : Shortage} → MoveAsStated h (inside p k) ARDF 9 w g →
+    ((n : ℕ) (M : Expression) (s : State) (u : Tree) → getElem? (h .components) p ≡ some (transaction n M s u) → Moves s (leaf M emptyLog) u) →
+    (s : State) × (δ : Log) × (a : Name) × Tests h (inside p k) s (δ ++ (rd a ∷ [])) × (w ≡ short a 1)
 unfolding Included
-read-tells s b (ardf9 {n} {b = c} {k = j} {a} {M = N} {δ} f) logs =
+opened-lacks-one (inside8-13 {n = n} {M = M} {s = s} {t = t} way b (ardf9 {b = c} {k = j} {a} {δ = δ} f)) from =
+    let logs = moves-keep s M (from n M s t (way-found way)) (faithful-start s M) .logs in
     let there = readable-included s δ (node-readable s b logs) in
-    let lacking : ¬ Included (RD (δ ++ (rd a ∷ []))) s = λ i. let x = f .exact in let y = f .lacks in let z = i c in omega arith in
-    (n, a, N, δ, node-found b, sym (found-is (RD (δ ++ (rd a ∷ []))) s (short c j) f) ∙ one-lacks s δ a there lacking)
-
-pub read-lacks-one : ReadLacksOne
-unfolding ReadLacksOne ruleNumber
-read-lacks-one s M u v moves k w e =
-    let p : InnerPrinted s u k (evolves ARDF w v) = rw e at (inner-printed s u k) in
-    read-tells s (p .2) (p .3) (moves-keep s M moves (faithful-start s M) .logs)
+    let lacking : ¬ Included (RD (δ ++ (rd a ∷ []))) s = λ i. let x = f .exact in let y = f .lacks in let z = i c in omega arith in (
+      s,
+      δ,
+      a,
+      read-tests (way-found way) (node-found b),
+      sym (found-is (RD (δ ++ (rd a ∷ []))) s (short c j) f) ∙ one-lacks s δ a there lacking,
+    )
 
 -- ---- how much can be short
 

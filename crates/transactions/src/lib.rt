@@ -1,6 +1,6 @@
 // Moves inside an open transaction (attempt): rules 8 to 13, at a node of its tree.
 //
-// `rule_at` only reads and tells the rule; `move_at` makes the move. Both go by the redex at the node, which redexes
+// `rule_at` only reads and tells the rule with what is short; `move_at` makes the move. Both go by the redex at the node, which redexes
 // decides, and try a read against the transaction's snapshot by one test, in reads. The rules of one kind stand in a
 // file of their own: reads (ARDOK or ARDF), actions (what ARDOK and AWR store), alternatives (AOI, AOF, AOE).
 mod actions;
@@ -24,7 +24,8 @@ use terms::DECODED;
 ghost use Rattle.transactions.specs.Finding.{NodeHeld, RuleRead};
 ghost use Rattle.transactions.specs.Moving.{NodeStands, NodeMoved};
 
-// The rule for the node that begins at an offset, of a transaction with its snapshot at another, or that there is none.
+// The rule for the node that begins at an offset, of a transaction with its snapshot at another, and what is short; or
+// that there is none.
 pub fn rule_at(decoded: &[u8; DECODED], hall: &[u8], snapshot: usize, at: usize) -> Reply
     requires { ⌜ NodeHeld (now decoded) (now hall) snapshot at ⌝ }
     ensures { λ r. ⌜ RuleRead (now (decoded .entry)) (now (hall .entry)) snapshot at r ⌝ }

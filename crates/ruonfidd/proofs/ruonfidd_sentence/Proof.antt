@@ -5,6 +5,9 @@ use Rattle.ruonfidd.proofs.Sentences.{sentence-told, sentence-refused}
 use Rattle.ruonfidd.proofs.ruonfidd_sentence.Statement.{statement}
 use Rattle.ruonfidd.proofs.ruonfidd_sentence.Tie as tie
 
+tells-shortage-requires : tie.Need-tells-shortage-requires
+tells-shortage-requires c κs = search needs
+
 sentence-requires : tie.Need-sentence-requires
 sentence-requires c κs = search needs
 
@@ -29,4 +32,4 @@ returns-2 c = search sentence-refused
 pub ruonfidd-sentence-spec : {M : Type 1} → statement M
 ruonfidd-sentence-spec =
     tie.close
-    (tie.spec sentence-requires enum-known-bytes enum-known-refusal same-length returns same-length-2 returns-2)
+    (tie.spec tells-shortage-requires sentence-requires enum-known-bytes enum-known-refusal same-length returns same-length-2 returns-2)

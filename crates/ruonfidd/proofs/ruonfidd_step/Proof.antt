@@ -11,8 +11,8 @@ counters-in-requires c κs = search needs
 step-requires : tie.Need-step-requires
 step-requires c κs = search needs
 
-enum-known-by : tie.Need-enum-known-by
-enum-known-by c = search needs
+enum-known-moved-by : tie.Need-enum-known-moved-by
+enum-known-moved-by c = search needs
 
 shortage-bytes-requires : tie.Need-shortage-bytes-requires
 shortage-bytes-requires c κs = search needs
@@ -44,7 +44,7 @@ ruonfidd-step-spec =
     (tie.spec
     counters-in-requires
     step-requires
-    enum-known-by
+    enum-known-moved-by
     shortage-bytes-requires
     tally-of-requires
     enum-known-number

@@ -1,5 +1,6 @@
--- The sentences and the call that writes them, said a second time (document 02, Q-1 and Q-3): where words end; refusal 21 and
--- the buffer byte by byte; the room that is left; and worked examples, with the words of each rule and of each refusal.
+-- The sentences and the call that writes them, said a second time (document 02, Q-1 and Q-3): where words end; refusal
+-- 21 and the buffer byte by byte; the room that is left; and worked examples, with the words of each rule and of each
+-- refusal.
 -- The examples are proved in proofs/Sentences, the others in the crate theorems.
 -- Assumes nothing.
 use Prim.Native.Nat.{ℕ, _≤_, _<_}

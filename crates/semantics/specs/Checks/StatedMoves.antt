@@ -1,6 +1,6 @@
 -- The thirteen moves as the scope prints them (document 01, "Choices and moves"), each with its number and with what it
--- tells short (document 02, Q-3), said apart from the executable definitions, and the claim that those accept exactly these moves. Demand 2 forgets term numbers; this
--- says to the number what a move goes on with and what it goes back to.
+-- tells short (document 02, Q-3), said apart from the executable definitions, and the claim that those accept exactly
+-- these moves. Demand 2 forgets term numbers; this says to the number what a move goes on with and what it goes back to.
 -- Assumes nothing.
 use Prim.Native.Nat.{ℕ, suc, _+_, _≤_, _<_}
 use mathlib.Core.Path.{_≡_}
@@ -61,7 +61,8 @@ pub data NodeMoves (s : State) : (old : Tree) → Rule → (number : ℕ) → Sh
   -- all that the log reads, this read added, was there at the snapshot: the read is logged
   ardok8 : {n : ℕ} {a : Name} {M : Expression} {δ : Log} → Included (RD (δ ++ (rd a ∷ []))) s →
       NodeMoves s (leaf (rdT n a M) δ) ARDOK 8 enough (leaf M (δ ++ (rd a ∷ [])))
-  -- of some tray too little was there at the snapshot: retry, by byte 255, with the log as it was; the lowest such tray is told
+  -- of some tray too little was there at the snapshot: retry, by byte 255, with the log as it was; the lowest such tray
+  -- is told
   ardf9 : {n b k : ℕ} {a : Name} {M : Expression} {δ : Log} → LowestShort (RD (δ ++ (rd a ∷ []))) s b k →
       NodeMoves s (leaf (rdT n a M) δ) ARDF 9 (short b k) (leaf (retryT 255) δ)
   -- the write is logged
@@ -146,20 +147,20 @@ both = parT 7 (atomT 5 tried) (putT 6 1)
 
 -- a station alone, one token in tray 0 and none in tray 1: the choice, its rule, what is short, the counts and stations
 -- afterwards
-unfoldable pub GivesShort : Component → Entry → Rule → Shortage → State → List Component → Type 0
+unfoldable pub GivesTold : Component → Entry → Rule → Shortage → State → List Component → Type 0
 unfolding respondTo
-GivesShort c e r w σ cs =
+GivesTold c e r w σ cs =
     respondTo (record { counts = 1 ∷ 0 ∷ []; components = c ∷ [] }) e ≡
     does r w (record { counts = σ; components = cs })
 
 abbrev pub Gives : Component → Entry → Rule → State → List Component → Type 0
-Gives c e r σ cs = GivesShort c e r enough σ cs
+Gives c e r σ cs = GivesTold c e r enough σ cs
 
 -- the same of a node of an attempt that was opened with none in tray 0 and one in tray 1
 unfoldable pub GivesInside : Tree → ℕ → Rule → Shortage → Tree → Type 0
-unfolding GivesShort tried
+unfolding GivesTold tried
 GivesInside t k r w u =
-    GivesShort (transaction 5 tried (0 ∷ 1 ∷ []) t) (inside 0 k) r w (1 ∷ 0 ∷ [])
+    GivesTold (transaction 5 tried (0 ∷ 1 ∷ []) t) (inside 0 k) r w (1 ∷ 0 ∷ [])
     (transaction 5 tried (0 ∷ 1 ∷ []) u ∷ [])
 
 pub record MovesWorked : Type 0 where
@@ -172,7 +173,7 @@ pub record MovesWorked : Type 0 where
       (transaction 5 tried (1 ∷ 0 ∷ []) (leaf tried []) ∷ [])
   pub ATRE-5 : Gives (transaction 5 tried (0 ∷ 1 ∷ []) (leaf (retryT 0) (rd 1 ∷ []))) (act 0) ATRE (1 ∷ 0 ∷ [])
       (idle (block 5 tried) ∷ [])
-  pub ATFAIL-6 : GivesShort (transaction 5 tried (2 ∷ 0 ∷ []) (leaf (endT 1) (rd 0 ∷ rd 0 ∷ []))) (act 0) ATFAIL
+  pub ATFAIL-6 : GivesTold (transaction 5 tried (2 ∷ 0 ∷ []) (leaf (endT 1) (rd 0 ∷ rd 0 ∷ []))) (act 0) ATFAIL
       (short 0 1) (1 ∷ 0 ∷ []) (idle (block 5 tried) ∷ [])
   pub ATOK-7 : Gives (transaction 5 tried (2 ∷ 0 ∷ []) (leaf (endT 1) (wt 1 ∷ rd 0 ∷ wt 0 ∷ []))) (act 0)
       (ATOK (wt 1 ∷ rd 0 ∷ wt 0 ∷ [])) (0 ∷ 0 ∷ []) (idle (output 1) ∷ idle (output 0) ∷ [])

@@ -6,7 +6,7 @@ use Prim.Native.Nat.{ℕ}
 use Prim.Native.String.{String}
 use mathlib.Core.Path.{_≡_}
 use mathlib.Core.Option.{some}
-use mathlib.Core.List.{List, [], _∷_, map}
+use mathlib.Core.List.{List, [], _∷_, _++_}
 use lib.ListN.{replicate}
 use Rattle.semantics.specs.Definitions.Shortage.{Shortage, enough, short}
 use Rattle.semantics.specs.Definitions.Run.{Counters}
@@ -26,21 +26,26 @@ stepsInTurn table l [] = []
 stepsInTurn table l (c ∷ cs) =
     let a = stepCall table l (c .0) (c .1) (c .2) in a ∷ stepsInTurn table (a .buffers) cs
 
--- an answer with nothing short, and the counts, stations and tally that it leaves
-unfoldable pub stepRow : (number place rule : ℕ) (counts : String) (stations : List ℕ) → Counters → StepCall
+-- an answer, and the counts, stations and tally that it leaves
+unfoldable pub toldRow : Shortage → (number place rule : ℕ) (counts : String) (stations : List ℕ) → Counters → StepCall
 unfolding trays hallOf
-stepRow n p r counts stations c =
+toldRow w n p r counts stations c =
     record {
       number = n;
       place = p;
       rule = r;
-      shortage = enough;
+      shortage = w;
       buffers = record { hall = hallOf (trays counts) stations; counters = c };
     }
 
+-- one that tells no shortage
+unfoldable pub stepRow : (number place rule : ℕ) (counts : String) (stations : List ℕ) → Counters → StepCall
+unfolding toldRow
+stepRow = toldRow enough
+
 -- rehearsal 1, with its block as term 3, step by step, with steps that are refused in between
 unfoldable pub Rehearsed : Type 0
-unfolding blockTable noise openHall stepsInTurn stepRow attempt leafOf numbers tally
+unfolding blockTable noise openHall stepsInTurn toldRow stepRow attempt leafOf numbers tally
 Rehearsed =
     stepsInTurn blockTable (record { hall = (openHall blockTable noise) .hall; counters = tally 3 4 5 })
     ((1, 0, 9) ∷ (2, 0, 0) ∷ (2, 0, 1) ∷ (1, 0, 0) ∷ (0, 0, 0) ∷ (3, 0, 0) ∷ (2, 0, 0) ∷ (2, 0, 0) ∷ (1, 0, 255) ∷
@@ -63,16 +68,22 @@ Rehearsed =
     stepRow 14 0 0 "0 1" [] (tally 4 4 5) ∷
     stepRow 14 0 0 "0 1" [] (tally 4 4 5) ∷ []
 
--- rd 0, then end, with no token there: the attempt begins, the read fails and tells the tray, and a further step at that
--- node, which is refused, tells none
+-- an attempt at rd 0.end whose snapshot has no token, and one that has read 5, 3 and 3 and come to its end; no tray has a
+-- token. The read fails and tells its tray; a further step at that leaf, which is refused, tells none; the commit fails
+-- and tells the lower of its trays
 unfoldable pub Lacking : Type 0
-unfolding numbers noise openHall stepsInTurn tally
+unfolding numbers trays hallOf attempt leafOf stepsInTurn toldRow stepRow tally
 Lacking =
-    let table = numbers "7 9 0 0 6 1 13 2" in
-    let l : Buffers = record { hall = (openHall table noise) .hall; counters = tally 0 0 0 } in
-    map {B = ℕ × ℕ × Shortage} (λ a. (a .number, a .rule, a .shortage))
-    (stepsInTurn table l ((1, 0, 0) ∷ (2, 0, 0) ∷ (2, 0, 0) ∷ []))
-    ≡ (0, 4, enough) ∷ (0, 9, short 0 1) ∷ (17, 0, enough) ∷ []
+    stepsInTurn (numbers "7 9 0 0 6 1 13 2")
+    (record { hall = hallOf (trays "") (attempt 2 "" (leafOf 1 0 "") ++ ended); counters = tally 3 4 5 })
+    ((2, 0, 0) ∷ (2, 0, 0) ∷ (1, 1, 0) ∷ [])
+    ≡
+    toldRow (short 0 1) 0 3 9 "" (attempt 2 "" (leafOf 255 0 "") ++ ended) (tally 3 4 5) ∷
+    stepRow 17 0 0 "" (attempt 2 "" (leafOf 255 0 "") ++ ended) (tally 3 4 5) ∷
+    toldRow (short 3 2) 0 2 6 "" (attempt 2 "" (leafOf 255 0 "") ++ numbers "20 2") (tally 3 5 5) ∷ []
+  where
+    ended : List ℕ
+    ended = attempt 2 "9 9 9 9 9 9" (leafOf 0 3 "5 3 3")
 
 -- a table that is refused, a hall of another size, and bytes that are no hall: their number and place come first, also
 -- before that of an unknown kind, and what was lent stays

@@ -35,7 +35,7 @@ pub data StepCallAsStated (table : List ℕ) (l : Buffers) (kind position node :
   is-refused : {t : Table} {h : Configuration} {e : Entry} {size n : ℕ} → admission table (l .hall) ≡ admitted t h →
       Names kind position node e size → respondTo h e ≡ refuses n →
       StepCallAsStated table l kind position node (record { number = n; place = 0; rule = 0; shortage = enough; buffers = l })
-  -- it moved: the number of its rule, what it was short of, the hall behind it, the tally with that rule counted; its
+  -- it moved: the number of its rule, the shortage told, the hall behind it, the tally with that rule counted; its
   -- place is its end
   has-moved : {t : Table} {h g : Configuration} {e : Entry} {size : ℕ} {r : Rule} {w : Shortage} →
       admission table (l .hall) ≡ admitted t h → Names kind position node e size → respondTo h e ≡ does r w g →
@@ -54,9 +54,9 @@ StepCallsAsStated =
     (table : List ℕ) (l : Buffers) → Bytes table → Bytes (l .hall) → (kind position node : ℕ) (a : StepCall) →
     (stepCall table l kind position node ≡ a) ↔ StepCallAsStated table l kind position node a
 
--- refused, under any number: no rule, nothing short, hall and tally as they were; 12, or 14 to 20, at place 0 (13 cannot
--- come); done: number 0, a rule from 1 to 13, and the place 2 for kind 1 and 3 for kind 2; something is short exactly at
--- rules 6 and 9, one of the 16 trays by 1 to 16
+-- refused, under any number: no rule, no shortage told, hall and tally as they were; 12, or 14 to 20, at place 0 (13
+-- cannot come); done: number 0, a rule from 1 to 13, and the place 2 for kind 1 and 3 for kind 2; a shortage is told
+-- exactly at rules 6 and 9, of one of the 16 trays, by 1 to 16
 unfoldable pub StepCallNumbers : Type 0
 StepCallNumbers =
     (table : List ℕ) (l : Buffers) → Bytes table → Bytes (l .hall) → (kind position node : ℕ) →

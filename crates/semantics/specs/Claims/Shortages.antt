@@ -6,19 +6,24 @@ use mathlib.Core.Path.{_≡_}
 use mathlib.Core.Bool.{true}
 use mathlib.Core.Logic.{_⊎_, _↔_, _≢_}
 use mathlib.Core.Option.{some}
-use mathlib.Core.List.{[], _∷_, _++_}
-use lib.ListN.{getElem?}
+use mathlib.Core.List.{List, [], _∷_, _++_}
+use lib.ListN.{length, getElem?}
 use Rattle.calculus.specs.Syntax.{Name, rd, Log, State}
 use Rattle.calculus.specs.State.{count, occurrences, Included}
 use Rattle.calculus.specs.Log.{RD}
 use Rattle.calculus.specs.Reduction.{Rule, ARDF}
-use Rattle.semantics.specs.Definitions.Shortage.{Shortage, enough, short}
+use Rattle.semantics.specs.Definitions.Layout.{hallBytes}
 use Rattle.semantics.specs.Definitions.Terms.{Expression, endT, rdT}
-use Rattle.semantics.specs.Definitions.Logs.{emptyLog, shortage, readable}
+use Rattle.semantics.specs.Definitions.Table.{Table}
+use Rattle.semantics.specs.Definitions.Shortage.{Shortage, enough, short}
+use Rattle.semantics.specs.Definitions.Logs.{shortage, readable}
 use Rattle.semantics.specs.Definitions.Configuration.{Tree, leaf, transaction, Configuration, preorder}
-use Rattle.semantics.specs.Definitions.Moves.{Entry, act, inside, evolves, inner, does, respondTo, ruleNumber}
-use Rattle.semantics.specs.Claims.Correspondence.{EveryHall}
-use Rattle.semantics.specs.Claims.InnerMoves.{Moves}
+use Rattle.semantics.specs.Definitions.Stored.{configurationOf}
+use Rattle.semantics.specs.Definitions.Moves.{Entry, act, inside, does, respondTo, ruleNumber}
+use Rattle.semantics.specs.Definitions.Run.{Counters}
+use Rattle.semantics.specs.Definitions.Calls.{Call}
+use Rattle.semantics.specs.Claims.Correspondence.{AcceptsTable, EveryHall}
+use Rattle.semantics.specs.Claims.Atomicity.{finalBuffers}
 
 -- ---- of a log at given counts
 
@@ -72,14 +77,15 @@ FailuresAloneName =
     (h g : Configuration) (e : Entry) (r : Rule) (w : Shortage) → respondTo h e ≡ does r w g →
     (w ≡ enough) ↔ ((ruleNumber r ≢ 6) × (ruleNumber r ≢ 9))
 
--- in an attempt that a run opened, whatever the order of its moves, a read that fails lacks one of the tray that it reads
+-- on a hall that calls have led to from its opening, a read that fails lacks one of the tray that it reads
 unfoldable pub ReadLacksOne : Type 0
-unfolding emptyLog inner
+unfolding finalBuffers respondTo
 ReadLacksOne =
-    (s : State) (M : Expression) (u v : Tree) → Moves s (leaf M emptyLog) u →
-    (k : ℕ) (w : Shortage) → inner s u k ≡ evolves ARDF w v →
-    (n : ℕ) × (a : Name) × (N : Expression) × (δ : Log) × (getElem? (preorder u) k ≡ some (leaf (rdT n a N) δ)) ×
-    (w ≡ short a 1)
+    (table : List ℕ) (t : Table) → AcceptsTable table t → (buffer : List ℕ) → length buffer ≡ hallBytes →
+    (first : Counters) (cs : List Call) (h g : Configuration) →
+    configurationOf (t .terms) (finalBuffers table t buffer first cs .hall) ≡ some h →
+    (p k : ℕ) (w : Shortage) → respondTo h (inside p k) ≡ does ARDF w g →
+    (s : State) × (δ : Log) × (a : Name) × Tests h (inside p k) s (δ ++ (rd a ∷ [])) × (w ≡ short a 1)
 
 -- on a well-formed hall the tray is one of the 16, and it lacks between 1 and 16 tokens
 unfoldable pub ShortagesAreSmall : Type 0

@@ -148,7 +148,8 @@ stepBytes (suc zero) p k = 1 ∷ p ∷ []
 stepBytes (suc (suc zero)) p k = 2 ∷ p ∷ k ∷ []
 stepBytes (suc (suc (suc n))) p k = suc (suc (suc n)) ∷ []
 
--- the answer, with the number of the rule that moved (0 where refused) and what was short, and what was lent afterwards
+-- the answer, with the number of the rule that moved (0 where refused) and the shortage told, and what was lent
+-- afterwards
 pub record StepCall : Type 0 where
   pub number : ℕ
   pub place : ℕ
@@ -162,12 +163,12 @@ unfolding steps ruleNumber
 firstRule (notAdmitted n p) es = 0
 firstRule (admitted t h) es = getD (map (λ s. ruleNumber (s .rule)) (steps h es)) 0 0
 
--- what was short, by a response; enough where it refuses
+-- the shortage that a response tells; a refusal tells none
 unfoldable pub shortageIn : Response → Shortage
 shortageIn (does r w h) = w
 shortageIn (refuses n) = enough
 
--- what the first choice was short of (document 02, Q-3)
+-- the shortage that the first choice tells (document 02, Q-3)
 unfoldable pub firstShortage : Admission → List Entry → Shortage
 unfolding shortageIn respondTo
 firstShortage (notAdmitted n p) es = enough

@@ -24,7 +24,7 @@ pub data Entry : Type 0 where
 
 -- ---- a move of one component, which gives way to others
 
--- beside its rule a move tells what was short, where a commit or a read failed (document 02, Q-3)
+-- beside its rule a move tells what was short, where a commit or a read failed; all others tell enough (document 02, Q-3)
 pub data LocalAnswer : Type 0 where
   moves : Rule → Shortage → State → List Component → LocalAnswer
   blocked : ℕ → LocalAnswer
@@ -130,7 +130,7 @@ actsInside σ (transaction n M s t) k = innerLocal σ n M s (inner s t k)
 
 -- ---- at a position
 
--- the response to an entry: a rule, what was short, and the configuration after it, or a refusal
+-- the response to an entry: a rule, the shortage told, and the configuration after it, or a refusal
 pub data Response : Type 0 where
   does : Rule → Shortage → Configuration → Response
   refuses : ℕ → Response
@@ -202,7 +202,7 @@ unfoldable pub ruleNumber : Rule → ℕ
 unfolding effectOf
 ruleNumber r = (effectOf r) .number
 
--- what a choice answers, for each case with its number
+-- what a choice answers, for each case with its number; a rule with what was short
 pub data Reply : Type 0 where
   movedBy : (rule : ℕ) (shortage : Shortage) → Reply
   refusedBy : (number : ℕ) → Reply
