@@ -206,7 +206,6 @@ fn by_hand() {
             entries: actions.clone(),
         };
         assert_eq!(log.shortage(&counts), expected, "{actions:?}");
-        assert_eq!(log.reads_within(&counts), expected.is_none());
         assert_eq!(lowest(&missing(&actions, &counts)), expected);
         assert_eq!(by_the_calculus(&actions, &counts), expected);
     }
