@@ -508,7 +508,7 @@ fn with_kind_1_the_node_counts_for_nothing() {
 /// Numbers whose digits could run into those of a neighbour are among these.
 const DIGITS: [u8; 3] = [1, 11, 111];
 
-/// Rule, tray and how many, each of every number that repeats one digit.
+/// Rule, tray and how many, each of numbers that repeat one digit, 0, 1 or 2.
 fn all_of_digits() -> Vec<(u8, u8, u8)> {
     const NUMBERS: [u8; 7] = [1, 2, 11, 22, 111, 222, 0];
     let mut all = Vec::new();
