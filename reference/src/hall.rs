@@ -86,11 +86,6 @@ impl Log {
             })
         })
     }
-
-    /// True when nothing is short.
-    pub fn reads_within(&self, counts: &Counts) -> bool {
-        self.shortage(counts).is_none()
-    }
 }
 
 /// What a leaf has still to do.

@@ -229,9 +229,12 @@ pub fn report(input: &[u8], output: &mut [u8; REPORT_BYTES], written: &mut usize
     unsafe { library::ruonfidd_report(input.as_ptr(), input.len(), output, written) }
 }
 
-/// The sentence of a choice, in its three bytes, and of its answer: refused with
-/// `number` where `moved` is 0, else moved by the rule `number`, with this tray
-/// short by so many. By 0, nothing was short; so it is too where it was refused.
+/// The sentence of a choice, in its three bytes, and of its answer.
+///
+/// Where `moved` is 0, the choice was refused with `number`, and the two bytes of
+/// what was short count for nothing. Where it is any other byte, the choice moved
+/// by the rule `number`: two zeros say that nothing was short, and every other pair
+/// is named as it is, a tray that is short by 0 as well.
 ///
 /// The number, 0 or 21. Where it is 0, the sentence stands at the front of the
 /// buffer and its length in `length`; what follows it in the buffer is as it was.
@@ -581,8 +584,15 @@ mod tests {
                 [1, 0, 7],
                 1,
                 4,
-                [9, 0],
+                [0, 0],
                 &b"Kind 1 at station 0 moved by rule 4, attempt begun."[..],
+            ),
+            (
+                [1, 0, 7],
+                2,
+                4,
+                [9, 0],
+                b"Kind 1 at station 0 moved by rule 4, attempt begun, tray 9 short by 0.",
             ),
             (
                 [2, 63, 14],

@@ -94,10 +94,10 @@ fn examples_of_the_byte_forms() {
         assert!(agrees(block), "{block:?}");
     }
     let sentences = blocks("docs/FORMAT.md", "say");
-    assert!(
-        sentences.len() >= 3,
-        "a rule, a refusal, a number alone: {}",
-        sentences.len()
+    assert_eq!(
+        sentences.len(),
+        5,
+        "a rule, a shortage, a refusal, a number alone, the longest"
     );
     for block in &sentences {
         assert!(says(block), "{block:?}");

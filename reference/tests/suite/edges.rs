@@ -209,8 +209,8 @@ fn every_sort_of_suggestion_is_named() {
     assert!(times(|choice| choice[2] > 0) >= 2, "{named:?}");
 }
 
-/// Names say that the lowest and the highest tray is short, by one and by as many
-/// as a log can read, of commits and of reads, and that nothing is short.
+/// Names say that a commit lacks the lowest and the highest tray, and a read the
+/// highest, by one and by as many as a log can read; and that nothing is short.
 #[test]
 fn every_sort_of_shortage_is_named() {
     let named: Vec<(usize, usize, usize)> = edges()

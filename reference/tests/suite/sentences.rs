@@ -346,8 +346,8 @@ fn told(table: &[u8], choices: &[u8]) -> Vec<String> {
     told
 }
 
-/// Two blocks read one token of tray 3 and one of tray 5, and one of them looks
-/// for a second of tray 5 as well.
+/// Three blocks each read one token of tray 3 and one of tray 5, of which there is
+/// one; the third looks for a second of tray 5 as well.
 #[test]
 fn failures_told_in_sentences() {
     let mut table = Builder::new();
@@ -355,10 +355,10 @@ fn failures_told_in_sentences() {
     let five = table.rd(5, end);
     let both = table.rd(3, five);
     let more = table.rd(5, both);
-    let first = table.atom(both);
-    let second = table.atom(more);
-    let all = table.copies(first, 2);
-    let all = table.side_by_side(all, second);
+    let block = table.atom(both);
+    let third = table.atom(more);
+    let two = table.copies(block, 2);
+    let all = table.side_by_side(two, third);
     table.tokens(3, 1);
     table.tokens(5, 1);
     let begun = [1, 0, 1, 1, 1, 2];
@@ -508,7 +508,7 @@ fn with_kind_1_the_node_counts_for_nothing() {
 /// Numbers whose digits could run into those of a neighbour are among these.
 const DIGITS: [u8; 3] = [1, 11, 111];
 
-/// Rule, tray and how many, each of every number that repeats one digit.
+/// Rule, tray and how many, each of numbers that repeat one digit, 0, 1 or 2.
 fn all_of_digits() -> Vec<(u8, u8, u8)> {
     const NUMBERS: [u8; 7] = [1, 2, 11, 22, 111, 222, 0];
     let mut all = Vec::new();

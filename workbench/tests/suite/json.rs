@@ -288,40 +288,131 @@ fn the_engine_s_sentences_for_programs() {
     assert!(moved >= 300 && refused >= 5, "{moved} {refused}");
 }
 
-/// The objects of failed commits and takes, and no others, have what was short: the
-/// counts that people are told show that it is so.
+/// A tray that a sentence for people names as short: by how many, how many were to
+/// be taken and how many there were.
+#[derive(Debug)]
+struct Named<'a> {
+    tray: &'a str,
+    by: u64,
+    wanted: u64,
+    there: u64,
+}
+
+impl<'a> Named<'a> {
+    fn new(tray: &'a str, [by, wanted, there]: [&str; 3]) -> Option<Named<'a>> {
+        Some(Named {
+            tray,
+            by: by.parse().ok()?,
+            wanted: wanted.parse().ok()?,
+            there: there.parse().ok()?,
+        })
+    }
+
+    /// `sheet is short by 1 (2 noted, 1 there now)`
+    fn of_commit(words: &'a str) -> Option<Named<'a>> {
+        let (tray, rest) = words.split_once(" is short by ")?;
+        let (by, rest) = rest.split_once(" (")?;
+        let (wanted, rest) = rest.split_once(" noted, ")?;
+        Named::new(tray, [by, wanted, rest.strip_suffix(" there now)")?])
+    }
+
+    /// `1 of sheet: it would take 2 and remembers 1`
+    fn of_take(words: &'a str) -> Option<Named<'a>> {
+        let (by, rest) = words.split_once(" of ")?;
+        let (tray, rest) = rest.split_once(": it would take ")?;
+        let (wanted, there) = rest.split_once(" and remembers ")?;
+        Named::new(tray, [by, wanted, there])
+    }
+}
+
+/// The trays that people are told were short, in the order in which they are told.
+fn named(rule: u64, sentence: &str) -> Option<Vec<Named<'_>>> {
+    if rule == 9 {
+        let (_, rest) = sentence.split_once(" lacks ")?;
+        let (words, _) = rest.split_once(". ")?;
+        return Some(vec![Named::of_take(words)?]);
+    }
+    let (_, rest) = sentence.split_once(" fails to commit: ")?;
+    let (words, _) = rest.split_once(". ")?;
+    words
+        .split_inclusive(')')
+        .map(|words| Named::of_commit(words.trim_start_matches(", ")))
+        .collect()
+}
+
+/// What was short in this object is the first tray that people are told of, and the
+/// counts that they are told show that it is so. How many trays they are told of.
+#[track_caller]
+fn short_as_told(rule: u64, choice: &Value) -> usize {
+    let all = named(rule, choice.words("sentence"));
+    let all = all.unwrap_or_else(|| panic!("nothing is named short: {choice:?}"));
+    for it in &all {
+        // Where there is enough, nothing or 0 is left.
+        assert_eq!(it.wanted.checked_sub(it.there), Some(it.by), "{choice:?}");
+        assert!(it.by > 0, "{choice:?}");
+        // A commit that fails leaves the trays as they are.
+        let now = choice.field("trays").number(it.tray);
+        assert!(rule == 9 || it.there == now, "{choice:?}");
+    }
+    let trays = choice.field("trays").fields();
+    let place = |it: &Named<'_>| trays.iter().position(|(tray, _)| tray == it.tray);
+    assert!(
+        all.windows(2).all(|two| place(&two[0]) < place(&two[1])),
+        "not in the order of the trays: {choice:?}"
+    );
+    let short = choice.field("short");
+    assert_eq!(
+        (short.words("tray"), short.number("by")),
+        (all[0].tray, all[0].by),
+        "{choice:?}"
+    );
+    all.len()
+}
+
+/// A commit that lacks two of the first tray and one of the second, which is noted
+/// first; then a take that lacks one of the second.
+const LATE: &str = "
+tray a has 2
+tray b has 1
+rule desk is block (take b, take a, take a, end)
+rule guest is take a then take a then take b then nothing
+start desk beside guest
+choices
+  act desk  step desk  step desk  step desk
+  act guest  act guest  act guest
+  act desk => fails
+  act desk  step desk => lacks
+";
+
+/// The objects of failed commits and takes, and no others, have what was short.
 #[test]
 fn what_was_short_for_programs() {
     let folder = package().join("examples");
-    let mut met = [0; 14];
-    for file in files(&folder, "hall") {
-        let name = name_of(&file);
-        let objects = hall_in(&folder, &["run", "--json", name], b"").out;
-        for choice in objects.lines().map(parsed) {
-            if !choice.has("moved") {
+    let mut runs = vec![(
+        "late",
+        hall_in(&folder, &["run", "--json", "-"], LATE.as_bytes()),
+    )];
+    let files = files(&folder, "hall");
+    for name in files.iter().map(|file| name_of(file)) {
+        runs.push((name, hall_in(&folder, &["run", "--json", name], b"")));
+    }
+    let (mut fails, mut lacks, mut several, mut by_more) = (0, 0, 0, 0);
+    for (name, run) in runs {
+        for choice in run.out.lines().map(parsed) {
+            let rule = choice.has("moved").then(|| choice.number("moved"));
+            let Some(rule) = rule.filter(|rule| [6, 9].contains(rule)) else {
                 assert!(!choice.has("short"), "{name}: {choice:?}");
                 continue;
-            }
-            let rule = choice.number("moved");
-            assert_eq!(
-                choice.has("short"),
-                rule == 6 || rule == 9,
-                "{name}: {choice:?}"
-            );
-            if choice.has("short") {
-                let short = choice.field("short");
-                let (tray, by) = (short.words("tray"), short.number("by"));
-                let words = if rule == 6 {
-                    format!("{tray} is short by {by} (")
-                } else {
-                    format!("lacks {by} of {tray}: ")
-                };
-                assert!(choice.words("sentence").contains(&words), "{choice:?}");
-                met[byte(choice.field("moved")) as usize] += 1;
-            }
+            };
+            let trays = short_as_told(rule, &choice);
+            fails += usize::from(rule == 6);
+            lacks += usize::from(rule == 9);
+            several += usize::from(trays > 1);
+            by_more += usize::from(choice.field("short").number("by") > 1);
         }
     }
-    assert!(met[6] >= 3 && met[9] >= 5, "{met:?}");
+    assert!(fails >= 4 && lacks >= 6, "{fails} {lacks}");
+    assert!(several >= 2 && by_more >= 1, "{several} {by_more}");
 }
 
 /// What goes wrong in a run is an object too, and the last line still comes.

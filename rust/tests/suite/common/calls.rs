@@ -39,23 +39,25 @@ pub(crate) struct Met {
     pub(crate) short: ShortMet,
 }
 
+/// Adds numbers that were counted elsewhere, each to its own.
+pub(crate) fn add_each<const N: usize>(sums: &mut [usize; N], more: &[usize; N]) {
+    for (sum, more) in sums.iter_mut().zip(more) {
+        *sum += more;
+    }
+}
+
 impl Met {
     /// What was met here or there.
     pub(crate) fn add(&mut self, other: &Met) {
-        fn each<const N: usize>(sum: &mut [usize; N], more: &[usize; N]) {
-            for (sum, more) in sum.iter_mut().zip(more) {
-                *sum += more;
-            }
-        }
         self.calls += other.calls;
-        each(&mut self.rules, &other.rules);
-        each(&mut self.numbers, &other.numbers);
-        each(&mut self.too_many, &other.too_many);
-        each(&mut self.at_the_top, &other.at_the_top);
+        add_each(&mut self.rules, &other.rules);
+        add_each(&mut self.numbers, &other.numbers);
+        add_each(&mut self.too_many, &other.too_many);
+        add_each(&mut self.at_the_top, &other.at_the_top);
         self.suggested += other.suggested;
         self.still += other.still;
         self.of_several += other.of_several;
-        each(&mut self.wrong, &other.wrong);
+        add_each(&mut self.wrong, &other.wrong);
         self.short.add(&other.short);
     }
 

@@ -6,6 +6,7 @@ use reference::hall::{decode, Action, Node, Rest, Station};
 use reference::moves::{ARDF, ATFAIL};
 use reference::table::{read_table, Counts, Term};
 
+use super::calls::add_each;
 use super::wrong_shortages::WRONG;
 
 /// The two rules that tell something, in the order in which they are counted here.
@@ -79,9 +80,15 @@ impl Seen {
         counted(self.trays_logged())
     }
 
+    /// The trays that are read, one for each read: by the log in its order, then by
+    /// this step.
+    pub(crate) fn trays_read(&self) -> impl Iterator<Item = u8> + '_ {
+        self.trays_logged().chain(self.read)
+    }
+
     /// The reads of the log, and the one that this step makes.
     pub(crate) fn reads(&self) -> Counts {
-        counted(self.trays_logged().chain(self.read))
+        counted(self.trays_read())
     }
 
     /// The writes of the log.
@@ -90,11 +97,6 @@ impl Seen {
             Action::Write(tray) => Some(*tray),
             Action::Read(_) => None,
         }))
-    }
-
-    /// The tray that is read last: by this step, or in the log.
-    pub(crate) fn read_last(&self) -> Option<u8> {
-        self.trays_logged().chain(self.read).last()
     }
 
     /// What the reads are held against: inside an attempt the snapshot, at its end
@@ -175,18 +177,13 @@ impl ShortMet {
 
     /// What was met here or there.
     pub(crate) fn add(&mut self, other: &ShortMet) {
-        fn each(sum: &mut [usize], more: &[usize]) {
-            for (sum, more) in sum.iter_mut().zip(more) {
-                *sum += more;
-            }
-        }
         for rule in 0..TELLING.len() {
-            each(&mut self.trays[rule], &other.trays[rule]);
-            each(&mut self.by[rule], &other.by[rule]);
+            add_each(&mut self.trays[rule], &other.trays[rule]);
+            add_each(&mut self.by[rule], &other.by[rule]);
         }
-        each(&mut self.of_several, &other.of_several);
+        add_each(&mut self.of_several, &other.of_several);
         self.another += other.another;
-        each(&mut self.wrong, &other.wrong);
+        add_each(&mut self.wrong, &other.wrong);
     }
 
     /// Each of both rules told each tray so often.

@@ -21,7 +21,7 @@ pub(crate) struct Wrong {
 }
 
 /// None of them is right on every hall.
-pub(crate) const WRONG: [Wrong; 17] = [
+pub(crate) const WRONG: [Wrong; 18] = [
     Wrong {
         name: "nothing by rule 6",
         tells: |seen| but_at(seen, ATFAIL, || None),
@@ -66,9 +66,17 @@ pub(crate) const WRONG: [Wrong; 17] = [
         },
     },
     Wrong {
+        name: "the short tray that is read first",
+        tells: |seen| {
+            let all = seen.all_short();
+            let its_own = |read| all.iter().find(|(tray, _)| *tray == read).copied();
+            seen.told().and(seen.trays_read().find_map(its_own))
+        },
+    },
+    Wrong {
         name: "the tray that is read last",
         tells: |seen| {
-            let last = seen.read_last();
+            let last = seen.trays_read().last();
             let all = seen.all_short();
             let its_own = all.iter().find(|(tray, _)| Some(*tray) == last).copied();
             seen.told().and(its_own.or(last.map(|tray| (tray, 1))))

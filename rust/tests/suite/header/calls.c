@@ -26,6 +26,7 @@ static uint8_t report[RUONFIDD_REPORT_BYTES];
 /* One byte more than must be lent. */
 static uint8_t board[RUONFIDD_SENTENCE_BYTES + 1], untouched[RUONFIDD_SENTENCE_BYTES + 1];
 static const char begun[] = "Kind 1 at station 0 moved by rule 4, attempt begun.";
+static const char by_none[] = "Kind 1 at station 0 moved by rule 4, attempt begun, tray 3 short by 0.";
 static const char unknown[] = "Kind 255 at station 0, node 9 met refusal 12, no such kind.";
 /* Two blocks that read tray 0 twice, and two tokens: both begin and read, the first is committed. */
 static const uint8_t rivals[] = {7, 9, 0, 0, 9, 0, 1, 6, 2, 5, 3, 3, 12, 0, 2, 13, 4};
@@ -85,9 +86,11 @@ int main(void) {
     /* Of a refused choice a shortage counts for nothing. */
     MUST(ruonfidd_sentence(255, 0, 9, 0, 12, 3, 1, board, sizeof board, &length) == 0);
     MUST(length == sizeof unknown - 1 && memcmp(board, unknown, length) == 0 && board[length] == 99);
-    /* Any byte but 0 says that it moved; a tray that is short by none counts for nothing. */
-    MUST(ruonfidd_sentence(1, 0, 0, 255, 4, 3, 0, board, sizeof board, &length) == 0);
+    /* Any byte but 0 says that it moved. Two zeros alone say that nothing was short. */
+    MUST(ruonfidd_sentence(1, 0, 0, 255, 4, 0, 0, board, sizeof board, &length) == 0);
     MUST(length == sizeof begun - 1 && memcmp(board, begun, length) == 0);
+    MUST(ruonfidd_sentence(1, 0, 0, 255, 4, 3, 0, board, sizeof board, &length) == 0);
+    MUST(length == sizeof by_none - 1 && memcmp(board, by_none, length) == 0);
     /* The longest sentence there is. */
     memset(board, 99, sizeof board);
     MUST(ruonfidd_sentence(255, 255, 255, 1, 3, 255, 255, board, RUONFIDD_SENTENCE_BYTES, &length) == 0);

@@ -5,11 +5,6 @@ use ruonfidd::{say, Sentence};
 
 use super::{said, Choice};
 
-/// It moved, and nothing was short.
-fn moved(rule: u8) -> Answer {
-    Answer::moved(rule)
-}
-
 #[track_caller]
 fn gives(choice: Choice, answer: Answer, sentence: &str) {
     assert_eq!(said(choice, answer), sentence);
@@ -36,12 +31,12 @@ fn of_every_rule() {
         let end = format!("moved by rule {rule}, {words}.");
         gives(
             [1, 5, 0],
-            moved(rule),
+            Answer::moved(rule),
             &format!("Kind 1 at station 5 {end}"),
         );
         gives(
             [2, 5, 3],
-            moved(rule),
+            Answer::moved(rule),
             &format!("Kind 2 at station 5, node 3 {end}"),
         );
     }
@@ -92,7 +87,7 @@ fn numbers_without_words() {
     for number in [0, 14, 15, 20, 21, 22, 99, 100, 255] {
         gives(
             [1, 0, 0],
-            moved(number),
+            Answer::moved(number),
             &format!("Kind 1 at station 0 moved by rule {number}."),
         );
     }
@@ -112,7 +107,7 @@ fn positions() {
     for position in [0, 1, 9, 10, 11, 63, 64, 99, 100, 101, 199, 200, 254, 255] {
         gives(
             [1, position, 0],
-            moved(2),
+            Answer::moved(2),
             &format!("Kind 1 at station {position} moved by rule 2, token taken."),
         );
     }
@@ -136,14 +131,14 @@ fn the_node_of_kind_1() {
     for node in [0, 1, 2, 9, 10, 99, 100, 255] {
         gives(
             [1, 3, node],
-            moved(4),
+            Answer::moved(4),
             "Kind 1 at station 3 moved by rule 4, attempt begun.",
         );
     }
     for kind in [0, 2, 3, 10, 11, 100, 101, 255] {
         gives(
             [kind, 3, 7],
-            moved(4),
+            Answer::moved(4),
             &format!("Kind {kind} at station 3, node 7 moved by rule 4, attempt begun."),
         );
     }
@@ -154,7 +149,7 @@ fn the_node_of_kind_1() {
 fn pairs_that_no_hall_gives() {
     gives(
         [0, 0, 0],
-        moved(0),
+        Answer::moved(0),
         "Kind 0 at station 0, node 0 moved by rule 0.",
     );
     gives(
@@ -164,7 +159,7 @@ fn pairs_that_no_hall_gives() {
     );
     gives(
         [255, 255, 255],
-        moved(255),
+        Answer::moved(255),
         "Kind 255 at station 255, node 255 moved by rule 255.",
     );
     gives(
@@ -176,12 +171,12 @@ fn pairs_that_no_hall_gives() {
     // a station that none has.
     gives(
         [2, 0, 0],
-        moved(1),
+        Answer::moved(1),
         "Kind 2 at station 0, node 0 moved by rule 1, token put.",
     );
     gives(
         [1, 0, 0],
-        moved(8),
+        Answer::moved(8),
         "Kind 1 at station 0 moved by rule 8, read noted.",
     );
     gives(
@@ -211,7 +206,7 @@ fn the_longest() {
     );
     gives(
         [255, 255, 255],
-        moved(3),
+        Answer::moved(3),
         "Kind 255 at station 255, node 255 moved by rule 3, token taken, repeats.",
     );
 }
@@ -219,7 +214,7 @@ fn the_longest() {
 /// Width and precision are kept, as for other text.
 #[test]
 fn as_it_is_displayed() {
-    let sentence: Sentence = say([1, 0, 0], moved(1));
+    let sentence: Sentence = say([1, 0, 0], Answer::moved(1));
     let text = "Kind 1 at station 0 moved by rule 1, token put.";
     assert_eq!(sentence.to_string(), text);
     assert_eq!(format!("{sentence:<50}|"), format!("{text}   |"));
@@ -232,7 +227,13 @@ fn as_it_is_displayed() {
 /// Equal where the text is.
 #[test]
 fn as_they_are_compared() {
-    assert_eq!(say([1, 0, 0], moved(1)), say([1, 0, 9], moved(1)));
-    assert_ne!(say([1, 0, 0], moved(1)), say([1, 0, 0], Refused(1)));
-    assert_ne!(say([2, 0, 0], moved(8)), say([2, 0, 9], moved(8)));
+    assert_eq!(
+        say([1, 0, 0], Answer::moved(1)),
+        say([1, 0, 9], Answer::moved(1))
+    );
+    assert_ne!(say([1, 0, 0], Answer::moved(1)), say([1, 0, 0], Refused(1)));
+    assert_ne!(
+        say([2, 0, 0], Answer::moved(8)),
+        say([2, 0, 9], Answer::moved(8))
+    );
 }

@@ -1,9 +1,9 @@
 //! Every byte in each of its places, beside the second implementation; and the
 //! numbers read back from the sentence.
 
-use ruonfidd::{ffi, Answer, SENTENCE_BYTES};
+use ruonfidd::Answer;
 
-use super::{moved_short, said, Choice};
+use super::{moved_short, said, said_bare, Choice};
 
 /// Positions and nodes of one digit, of two and of three.
 const PAIRS: [[u8; 2]; 8] = [
@@ -116,12 +116,12 @@ fn every_choice_of_a_hall_with_every_number() {
 }
 
 /// At the rules that tell one, at the one with most words, and at one without: no
-/// byte is passed over but a tray that is short by none.
+/// byte is passed over.
 #[test]
 fn every_tray_with_every_shortage() {
     let lengths = [3, 6, 9, 255].into_iter().flat_map(|rule| {
         (0..=255).flat_map(move |tray| {
-            (0..=255).flat_map(move |by| {
+            (1..=255).flat_map(move |by| {
                 [[1, 63, 0], [255, 255, 255]]
                     .map(|choice| names_its_bytes(choice, moved_short(rule, [tray, by])))
             })
@@ -150,21 +150,18 @@ fn every_byte_beside_a_shortage() {
     longest(lengths, LONGEST_SHORT);
 }
 
-/// Of the byte that tells whether the choice moved, 0 alone says that it did not.
+/// Of the byte that tells whether the choice moved, 0 alone says that it did not;
+/// what was short is not named then.
 #[test]
 fn every_byte_for_moved() {
-    let choice = [2, 10, 9];
     for moved in 0..=255 {
         for number in [0, 6, 17, 200] {
             for short in [[0, 0], [7, 0], [0, 1], [7, 200]] {
-                let answer = match moved {
-                    0 => Answer::Refused(number),
-                    _ => moved_short(number, short),
-                };
-                let (mut buffer, mut length) = ([0; SENTENCE_BYTES], 0);
-                let refused = ffi::sentence(choice, moved, number, short, &mut buffer, &mut length);
-                assert_eq!(refused, 0);
-                assert_eq!(buffer[..length], *said(choice, answer).as_bytes());
+                let sentence = said_bare([2, 10, 9], (moved, number, short));
+                let named = moved != 0 && short != [0, 0];
+                assert_eq!(sentence.contains(" moved by rule "), moved != 0);
+                assert_eq!(sentence.contains(" met refusal "), moved == 0);
+                assert_eq!(sentence.contains(" short by "), named, "{sentence}");
             }
         }
     }

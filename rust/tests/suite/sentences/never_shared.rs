@@ -1,11 +1,11 @@
 //! No sentence belongs to two pairs of choice and answer, what was short
 //! included.
 
-use std::collections::HashMap;
+use std::collections::{HashMap, HashSet};
 
 use ruonfidd::{say, Answer, Sentence};
 
-use super::moved_short;
+use super::{moved_short, said_bare};
 
 /// A choice and its answer as they count: kind 1 has no node.
 type Pair = (u8, u8, Option<u8>, Answer);
@@ -82,24 +82,46 @@ fn over_kinds_and_numbers() {
     assert_eq!(heard.0.len(), 256 * 256 * 2);
 }
 
-/// Trays and shortages whose digits run together, beside answers without one: a
-/// tray that is short by none is no other than nothing.
+/// Trays and shortages whose digits run together, beside answers without one.
 #[test]
 fn over_shortages() {
-    let bytes = [0, 1, 2, 10, 11, 12, 15, 16, 21, 111, 112, 121, 211, 255];
+    let numbers = [1, 2, 10, 11, 12, 15, 16, 21, 111, 112, 121, 211, 255];
     let mut heard = Heard::default();
     for choice in [[1, 1, 0], [1, 11, 0], [2, 1, 1], [2, 1, 11], [2, 11, 1]] {
         for number in [0, 1, 3, 6, 9, 13, 14, 61, 96, 255] {
-            heard.hear(choice, Answer::Refused(number));
-            for tray in bytes {
-                for by in bytes {
+            for answer in both(number) {
+                heard.hear(choice, answer);
+            }
+            for tray in [0].into_iter().chain(numbers) {
+                for by in numbers {
                     heard.hear(choice, moved_short(number, [tray, by]));
                 }
             }
         }
     }
-    // By none, by any of thirteen at any of fourteen trays, or refused.
-    assert_eq!(heard.0.len(), 5 * 10 * (1 + 14 * 13 + 1));
+    // Nothing short, or refused, or any of fourteen trays by any of thirteen.
+    assert_eq!(heard.0.len(), 5 * 10 * (2 + 14 * 13));
+}
+
+/// Every two bytes that the bare call takes for what was short: two zeros, which
+/// name nothing, and a tray that is short by 0 are among them.
+#[test]
+fn over_every_two_bytes_of_a_shortage() {
+    let mut heard = HashSet::new();
+    for (choice, rule) in [
+        ([1, 63, 0], 6),
+        ([2, 63, 14], 9),
+        ([255, 255, 255], 3),
+        ([1, 0, 0], 255),
+    ] {
+        for tray in 0..=255 {
+            for by in 0..=255 {
+                let sentence = said_bare(choice, (1, rule, [tray, by]));
+                let again = heard.replace(sentence);
+                assert_eq!(again, None, "of [{tray}, {by}] and of others");
+            }
+        }
+    }
 }
 
 /// Everything that a step can tell of a failed commit or read, at every station

@@ -2,7 +2,7 @@
 
 use ruonfidd::{say, Answer, Shortage};
 
-use super::{moved_short, said, Choice};
+use super::{moved_short, said, said_bare, Choice};
 
 #[track_caller]
 fn gives(choice: Choice, rule: u8, short: [u8; 2], sentence: &str) {
@@ -74,15 +74,33 @@ fn at_any_rule() {
     }
 }
 
-/// By none, nothing is named, whichever the tray.
+/// Of the bare call's bytes, two zeros alone name nothing. Any other tray that is
+/// short by 0 is named, and tray 0 by any other number. (The safe calls have no
+/// tray that is short by 0.)
 #[test]
 fn short_by_none() {
-    for tray in [0, 1, 15, 16, 255] {
-        gives(
-            [1, 0, 0],
-            6,
-            [tray, 0],
-            "Kind 1 at station 0 moved by rule 6, commit failed.",
+    let committing = |short| said_bare([1, 0, 0], (1, 6, short));
+    let without = "Kind 1 at station 0 moved by rule 6, commit failed";
+    assert_eq!(committing([0, 0]), format!("{without}."));
+    assert_eq!(committing([0, 1]), format!("{without}, tray 0 short by 1."));
+    for tray in [1, 5, 15, 16, 255] {
+        assert_eq!(
+            committing([tray, 0]),
+            format!("{without}, tray {tray} short by 0.")
+        );
+    }
+    for tray in 0..=255 {
+        assert_eq!(Shortage::new(tray, 0), None);
+    }
+}
+
+/// Where it was refused, neither byte counts.
+#[test]
+fn of_a_refusal() {
+    for short in [[0, 0], [0, 1], [5, 0], [3, 1], [255, 255]] {
+        assert_eq!(
+            said_bare([1, 0, 0], (0, 18, short)),
+            "Kind 1 at station 0 met refusal 18, tray empty."
         );
     }
 }

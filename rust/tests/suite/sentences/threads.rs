@@ -3,7 +3,7 @@
 use reference::generator::Random;
 use ruonfidd::Answer;
 
-use super::{moved_short, said};
+use super::{said, said_bare};
 
 /// The call keeps nothing from one to the next.
 #[test]
@@ -17,7 +17,7 @@ fn several_threads() {
                     let number = random.byte_below(32);
                     said(choice, Answer::moved(number));
                     let short = [(); 2].map(|()| random.byte_below(256));
-                    said(choice, moved_short(number, short));
+                    said_bare(choice, (1, number, short));
                     said(choice, Answer::Refused(number));
                 }
             });

@@ -3,9 +3,10 @@
 
 use reference::generator::{self, Random};
 use reference::hall::{encode, opening, Hall};
+use reference::moves::{ARDF, ATFAIL};
 use reference::run::Tally;
 
-use super::{choices_of_attempts, short_hall, ARDF, ATFAIL};
+use super::{choices_of_attempts, short_hall};
 use crate::common::by_chance::{accepted, any_hall, any_table};
 use crate::common::calls::{Met, Sequence};
 use crate::common::choices::{steered, step_bytes};

@@ -1,23 +1,20 @@
 //! Every tray and every shortage that a log can come to, at both rules, in halls
 //! by hand.
 
-use std::collections::HashSet;
+use reference::moves::{ARDOK, ATOK};
 
-use super::{commit, commit_fails, counts, log, read, read_fails, ARDOK, ATOK};
+use super::{commit, commit_fails, counts, log, read, read_fails};
 
-/// Calls with every tray, every number of reads and every count below it.
+/// Calls with every tray, every number of reads and every count below it, and with
+/// how many are missing then: each tray is short by 1 to 16.
 fn every_shortage(mut call: impl FnMut(u8, usize, u8, u8)) {
-    let mut met = HashSet::new();
     for tray in 0..16 {
         for (reads, most) in (1..=16).zip(1..) {
             for count in 0..most {
                 call(tray, reads, count, most - count);
-                met.insert((tray, most - count));
             }
         }
     }
-    // Each tray by 1 to 16.
-    assert_eq!(met.len(), 16 * 16);
 }
 
 #[test]

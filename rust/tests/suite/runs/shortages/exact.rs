@@ -3,9 +3,10 @@
 
 use reference::generator::Random;
 use reference::hall::{decode, encode, Hall, Station};
+use reference::moves::{ARDF, ATFAIL};
 use reference::run::Tally;
 
-use super::{choices_of_attempts, short_hall, ARDF, ATFAIL};
+use super::{choices_of_attempts, short_hall};
 use crate::common::by_chance::{accepted, any_hall, any_table};
 use crate::common::calls::Sequence;
 use crate::common::seeds::{say, seeds};

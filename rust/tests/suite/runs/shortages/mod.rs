@@ -10,17 +10,13 @@ mod which;
 use reference::build::Builder;
 use reference::generator::Random;
 use reference::hall::{Hall, Station};
+use reference::moves::{ARDF, ATFAIL};
 use reference::run::Tally;
 use reference::table::byte_of;
 
 use crate::common::by_hand::{attempt, hall, leaf, BARE_RETRY};
 use crate::common::calls::Sequence;
 use crate::common::shortages::Told;
-
-const ATFAIL: u8 = 6;
-const ATOK: u8 = 7;
-const ARDOK: u8 = 8;
-const ARDF: u8 = 9;
 
 /// The term of an end.
 const END: u8 = 0;

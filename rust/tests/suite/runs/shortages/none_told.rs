@@ -33,7 +33,7 @@ fn none_told(table: &[u8], hall: &[u8], choice: [u8; 3], number: u8, rule: u8) {
     }
 }
 
-/// A stored hall with these counts in every tray and these stations, of the table
+/// A stored hall with this count in every tray and these stations, of the table
 /// with a term of each kind.
 fn stored(count: u8, stations: &[u8]) -> Vec<u8> {
     let mut bytes = hall(stations);
@@ -45,13 +45,13 @@ fn of_block(nodes: &[u8]) -> Vec<u8> {
     attempt(each_kind::BLOCK, nodes)
 }
 
-/// Each rule but 6 and 9, on a hall whose attempt would be short by now and by its
-/// snapshot where that is not what the rule goes by.
+/// Each rule but 6 and 9. An attempt, where the rule has one, is short by the counts
+/// of now and by its snapshot, but not by those that the rule itself goes by.
 #[test]
 fn by_every_other_rule() {
     use each_kind::{BLOCK, END, OR_ELSE, RD, REPEATED_TAKE, RETRY, TAKE, WT};
     let table = each_kind::table();
-    // Reads of trays that nobody has.
+    // Reads of trays that are empty where a hall has no tokens.
     let log = [9, 9, 10];
     let with_log = |term| leaf(term, 3, &log);
     let fork = |left: &[u8]| joined(&[&[FORK], left, &with_log(RD)]);
@@ -102,7 +102,8 @@ fn by_every_other_rule() {
     assert_eq!(answer, (0, Moved::ARDF, [2, 1]));
 }
 
-/// Refusals by table, hall and choice, on a hall where the attempt is short.
+/// Refusals by table, hall and choice, most of them on a hall where an attempt is
+/// short. (13 is of lists of choices, and no step's.)
 #[test]
 fn by_every_refusal() {
     use each_kind::{END, RD, REPEATED_TAKE, TAKE, WT};

@@ -2,10 +2,10 @@
 
 use reference::choice::whole_choices;
 use reference::edges::{lines, Line};
+use reference::moves::{ARDF, ARDOK, ATFAIL, ATOK};
 use reference::print::table_end;
 
-use super::{commit, commit_fails, counts, log, made, read, read_fails, reads};
-use super::{ARDF, ARDOK, ATFAIL, ATOK, BLOCK, END};
+use super::{commit, commit_fails, counts, log, made, read, read_fails, reads, BLOCK, END};
 use crate::common::by_hand::{attempt, hall, joined, leaf, leaning_right};
 use crate::common::by_hand::{FORK, PUTTING, WAITING};
 use crate::common::calls::Sequence;
