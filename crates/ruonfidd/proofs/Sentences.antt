@@ -29,15 +29,16 @@ tray-tells a k other = rw (ne-eqb a 0 other) refl
 pub by-tells : (a k : ℕ) → a ≡ 0 → not (eqb k 0) ≡ tellsShort a k
 by-tells a k none = rw none refl
 
-module _ (k p n m number tray by : ℕ) (short : Bool) (told : short ≡ tellsShort tray by) (buffer buffer′ : List ℕ)
+module _ (k p n number tray by : ℕ) (moved short : Bool) (told : short ≡ tellsShort tray by) (buffer buffer′ : List ℕ)
     (a : SentenceAnswer)
-    (e : sentenceCallOf a buffer′ ≡ sentenceCall k p n (replyIn (not (eqb m 0)) number (shortageFrom short tray by)) buffer) where
+    (e : sentenceCallOf a buffer′ ≡ sentenceCall k p n (replyIn moved number (shortageFrom short tray by)) buffer) where
   pub sentence-told : (l before : ℕ) → a ≡ answer.Told l →
-      SentenceAnswered (sentenceCall k p n (replyFrom m number tray by) buffer) 0 before l buffer′
+      SentenceAnswered (sentenceCall k p n (replyIn moved number (shortageFrom (tellsShort tray by) tray by)) buffer) 0 before l buffer′
   sentence-told l before h = rw (← told, ← e, h) (record { number = refl; length = refl; bytes = refl })
 
   pub sentence-refused : (refusal place before : ℕ) → a ≡ answer.Refused refusal place →
-      SentenceAnswered (sentenceCall k p n (replyFrom m number tray by) buffer) refusal before before buffer′
+      SentenceAnswered (sentenceCall k p n (replyIn moved number (shortageFrom (tellsShort tray by) tray by)) buffer) refusal before before
+      buffer′
   sentence-refused refusal place before h = rw (← told, ← e, h) (record { number = refl; length = refl; bytes = refl })
 
 -- ---- what a caller in C may rely on
