@@ -10,7 +10,7 @@ use Rattle.semantics.specs.Definitions.Report.{printedRun}
 use Rattle.semantics.specs.Checks.EdgeExamples.{repliesOn, trials, tableSeen, widths, branchings, lengths, bodies}
 use Rattle.semantics.specs.Checks.EdgeExamples.{termsAndTrays, references, classes, tokensAndStarts, printedRuns}
 use Rattle.semantics.specs.Checks.EdgeExamples.{storedTable, formIn, stationForms, cutForms, leafForms, treeForms}
-use Rattle.semantics.specs.Checks.EdgeExamples.{HallsChecked, LeftAlone, SeveralCalls, HandoverLimits, RulesNumbered}
+use Rattle.semantics.specs.Checks.EdgeExamples.{LeftAlone, SeveralCalls, HandoverLimits, RulesNumbered}
 use Rattle.semantics.specs.Checks.EdgeExamples.{EdgeExamples}
 
 handover : HandoverLimits
@@ -19,7 +19,7 @@ handover = ((((omega arith, tt), omega arith), (omega arith, tt)), λ h. let z :
 
 pub edge-examples : EdgeExamples
 unfolding repliesOn trials tableSeen widths branchings lengths bodies termsAndTrays references classes tokensAndStarts
-    printedRuns storedTable formIn stationForms cutForms leafForms treeForms HallsChecked LeftAlone SeveralCalls
+    printedRuns storedTable formIn stationForms cutForms leafForms treeForms LeftAlone SeveralCalls
     RulesNumbered readTable printedRun
 edge-examples = record {
   single-choices = (refl, (refl, (refl, (refl, (refl, (refl, (refl, (refl, (refl, tt)))))))));
@@ -32,12 +32,11 @@ edge-examples = record {
   classes = (refl, (refl, (refl, (refl, (refl, (refl, (refl, (refl, (refl, (refl, tt))))))))));
   tokens-and-starts = (refl, (refl, (refl, (refl, (refl, tt)))));
   printed-runs =
-      (refl, (refl, (refl, (refl, (refl, (refl, (refl, (refl, (refl, (refl, (refl, (refl, (refl, (refl, tt))))))))))))));
+      (refl, (refl, (refl, (refl, (refl, (refl, (refl, (refl, (refl, (refl, (refl, tt)))))))))));
   station-forms = (refl, (refl, (refl, (refl, (refl, (refl, (refl, (refl, (refl, (refl, (refl, (refl, tt))))))))))));
   cut-forms = (refl, (refl, (refl, (refl, (refl, (refl, tt))))));
   leaf-forms = (refl, (refl, (refl, (refl, (refl, (refl, (refl, (refl, (refl, (refl, (refl, tt)))))))))));
   tree-forms = (refl, (refl, (refl, (refl, tt))));
-  halls-checked = refl;
   left-alone = ((refl, (refl, (refl, tt))), refl, refl, refl, refl);
   several-calls = refl;
   handover-limits = handover;

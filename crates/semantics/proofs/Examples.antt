@@ -8,5 +8,5 @@ unfolding observed rehearsals furtherRuns
 worked-examples = record {
   the-ten =
       (refl, (refl, (refl, (refl, (refl, (refl, (refl, (refl, (refl, (refl, (refl, (refl, (refl, (refl, tt))))))))))))));
-  beyond = (refl, (refl, (refl, (refl, (refl, (refl, (refl, (refl, (refl, (refl, tt))))))))));
+  beyond = (refl, (refl, (refl, tt)));
 }

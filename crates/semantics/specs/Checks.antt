@@ -16,6 +16,7 @@ pub mod StatedSuggestions
 pub mod EdgeExamples
 pub mod SuggestionExamples
 pub mod StepExamples
+pub mod LongExamples
 pub mod ShortageExamples
 pub mod ConverseExamples
 pub mod DenotationExamples

@@ -44,3 +44,4 @@ pub mod Decimals
 pub mod Sentences
 pub mod Theorems
 pub mod PrintedRun
+pub mod LongExamples

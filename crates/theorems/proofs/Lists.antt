@@ -9,13 +9,6 @@ use mathlib.Core.Option.{none, some, Option·map}
 use mathlib.Core.List.{List, [], _∷_, _++_, map, append-assoc, map-append}
 use lib.ListN.{length, getD, drop, set, replicate, getElem?, length-append}
 use Rattle.semantics.specs.Definitions.Basics.{replaceAt, All}
--- the worked examples are checked before any law, so that a wrong definition is first refused by a row that shows it
-use Rattle.semantics.proofs.Examples as Worked
-use Rattle.semantics.proofs.GainExamples as WorkedHistories
-use Rattle.semantics.proofs.EdgeExamples as Edges
-use Rattle.semantics.proofs.MovesWorked as WorkedMoves
-use Rattle.semantics.proofs.SuggestionExamples as WorkedSuggestions
-use Rattle.semantics.proofs.StepExamples as WorkedSteps
 
 -- ---- the element at a position
 

@@ -11,13 +11,6 @@ use lib.Dec.{eqb}
 use borrow.Author.Tests.{eqb-true}
 use Rattle.semantics.specs.Definitions.Basics.{onlyIf, allOf, zeros}
 use mathlib.Core.Option.{bind}
--- the worked examples are checked before any law, so that a wrong definition is first refused by a row that shows it
-use Rattle.semantics.proofs.Examples as Worked
-use Rattle.semantics.proofs.GainExamples as WorkedHistories
-use Rattle.semantics.proofs.EdgeExamples as Edges
-use Rattle.semantics.proofs.MovesWorked as WorkedMoves
-use Rattle.semantics.proofs.SuggestionExamples as WorkedSuggestions
-use Rattle.semantics.proofs.StepExamples as WorkedSteps
 
 -- ---- tests
 

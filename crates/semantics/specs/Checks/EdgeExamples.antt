@@ -1,6 +1,7 @@
 -- Worked examples beside the table of specs/Checks/Examples, for the edges at which a definition could be off by one or miss a
 -- case while everything else is still proved: answers to single choices, tables, printed runs, stored halls, several
--- calls, and the rules. Each row goes through the calls that it is about. Proved in proofs/EdgeExamples.
+-- calls, and the rules. Each row goes through the calls that it is about. Longer ones stand in specs/Checks/LongExamples.
+-- Proved in proofs/EdgeExamples.
 -- Assumes nothing.
 use Prim.Native.Nat.{ℕ, zero, suc, _+_}
 use Prim.Native.String.{String}
@@ -278,15 +279,8 @@ printedRuns =
     prints (numbers "8 6 0 13 1 1 0 1") "R 13 2 1\nC 0 0 0\nA 1 1\n" ∷
     prints (numbers "8 6 0 13 1 1 0 2") "R 13 2 1\nC 0 0 0\nA 1 1\n" ∷
     prints (numbers "8 6 0 13 1 1 0 2 0") "R 13 2 1\nC 0 0 0\nA 1 1\n" ∷
-    -- the net at both ends: rep 1.put 0 with 255 tokens in tray 1, all of them moved to tray 0
-    prints (numbers "2 0 4 1 0 12 1 255 13 1" ++ times 255 (numbers "1 0 1 0"))
-    "R 0 1020 510\nC 0 0 0\nT 0 0 255 255\nT 1 255 -255 0\nW 1\n" ∷
     -- a net below 0 where tokens are left: take 0.nil, three of them
     prints (numbers "1 3 0 0 12 0 3 13 1 1 0") "R 0 2 1\nC 0 0 0\nT 0 3 -1 2\n" ∷
-    -- 16,384 bytes are read, here with 8,189 choices and the last cut short; one byte more is too long
-    prints (numbers "8 6 0 13 1" ++ (times 8189 (numbers "1 0") ++ numbers "1"))
-    "R 13 16378 8189\nC 0 0 4094\nA 1 1\n" ∷
-    prints (numbers "8 6 0 13 1" ++ times 8190 (numbers "1 0")) "long\n" ∷
     []
 
 -- ---- stored halls
@@ -399,15 +393,6 @@ treeForms =
     damaged (tree (22 ∷ leafOf 0 0 "")) ∷
     damaged (tree (leafOf 0 0 "" ++ leafOf 0 0 "")) ∷
     []
-
--- a hall that is full to its last byte, with 64 attempts of 8 leaves; halls of another size; noise
-unfoldable pub HallsChecked : Type 0
-unfolding storedTable times leafOf attempt forks verdict noise checkHall
-HallsChecked =
-    map (checkHall storedTable)
-    ((replicate 16 255 ++ times 64 (attempt 5 "255" (forks 7 (leafOf 0 0 "") (leafOf 0 0 "")))) ∷ replicate 11343 0 ∷
-    replicate 11345 0 ∷ noise ∷ [])
-    ≡ verdict 0 0 ∷ verdict 10 0 ∷ verdict 10 0 ∷ verdict 11 0 ∷ []
 
 -- turned down, opening and a run leave what they are lent: under 10, under 11, and where the table comes first
 unfoldable pub LeftAlone : Type 0
@@ -528,7 +513,6 @@ pub record EdgeExamples : Type 0 where
   pub cut-forms : All FormHolds cutForms
   pub leaf-forms : All FormHolds leafForms
   pub tree-forms : All FormHolds treeForms
-  pub halls-checked : HallsChecked
   pub left-alone : LeftAlone
   pub several-calls : SeveralCalls
   pub handover-limits : HandoverLimits

@@ -5,7 +5,8 @@
 -- hall is checked, the choices are run on it, the hall that they leave is checked and every choice tried on it, and the
 -- program prints table and choices. Beside them go the rules done and the one-step run that is fed what was done.
 -- The ten rehearsals come first. Each row below them is there for a wrong definition that the ten let through, and its
--- comment says which. The edges at which a row need not go through all calls stand in specs/Checks/EdgeExamples.
+-- comment says which; further such rows stand in specs/Checks/LongExamples. The edges at which a row need not go through
+-- all calls stand in specs/Checks/EdgeExamples.
 -- Assumes nothing.
 use Prim.Native.Nat.{ℕ, zero, suc, _+_, _-_, _*_}
 use Prim.Native.Char.{code}
@@ -374,7 +375,7 @@ rehearsals =
 -- ---- further runs
 
 unfoldable pub furtherRuns : List Example
-unfolding ascii numbers attempt leafOf attemptNoteBytes tally hallLeft hallLeftOpen ranTo ran row rowFrom
+unfolding ascii numbers attempt leafOf attemptNoteBytes tally hallLeft hallLeftOpen ran row
 furtherRuns =
     -- for the order of nodes and of outputs: two writes, wt 0.wt 1.end, or else wt 2.end; the right side moved first
     row "7 10 1 0 10 0 1 10 2 0 11 2 3 6 4 13 5" "1 0 2 0 0 2 0 2 2 0 1 2 0 1 2 0 0 1 0"
@@ -391,59 +392,7 @@ furtherRuns =
     (ran (ATST ∷ AOI ∷ ARDOK ∷ AWR ∷ AOE ∷ ATOK (rd 0 ∷ wt 1 ∷ []) ∷ []) 0 16 6 (tally 1 0 0)
     (hallLeft "" "24 1" "1 0")
     "R 0 16 6\nC 1 0 0\nT 0 1 -1 0\nP 1\n") ∷
-    -- for the kinds and rules that the ten do not meet: take 1.nil, repeated take 2 of nil, atom retry,
-    -- atom (end orElse rd 3.end) and atom (rd 3.end) side by side. ARDF writes 255 although the table has a retry; the
-    -- run ends with 18
-    row "1 3 1 0 4 2 0 8 6 3 7 9 3 5 11 5 6 6 7 6 6 5 1 2 5 4 8 5 10 11 5 12 9 12 1 1 12 2 1 13 13"
-    "1 0 1 0 1 1 1 1 1 2 2 2 0 2 2 0 1 2 1 2 2 2 0 1 0"
-    (ran (IN 1 ∷ REP 2 ∷ ATST ∷ ATRE ∷ ATST ∷ AOI ∷ AOE ∷ ATOK [] ∷ ATST ∷ ARDF ∷ []) 18 23 10 (tally 1 0 1)
-    (hallLeftOpen "" (numbers "20 2 20 4" ++ attempt 9 "" (leafOf 255 0 "")) (numbers "20 2 20 4" ++ attemptNoteBytes 9 "") "1 1 1 2")
-    "R 18 23 10\nC 1 0 1\nT 1 1 -1 0\nT 2 1 -1 0\nW 2\nW 4\nA 9 1\n") ∷
-    -- for the order in which stations are laid down: rep 0.(put 1 | put 2) and take 0.(put 1 | put 2) beside a block
-    -- rd 0.wt 1.rd 0.wt 2.end
-    row "2 1 2 2 5 0 1 4 0 2 3 0 2 7 10 2 5 9 0 6 10 1 7 9 0 8 6 9 5 3 4 5 11 10 12 0 4 13 12"
-    "1 0 1 3 1 5 2 5 0 2 5 0 2 5 0 2 5 0 1 5"
-    (ran (REP 0 ∷ IN 0 ∷ ATST ∷ ARDOK ∷ AWR ∷ ARDOK ∷ AWR ∷ ATOK (rd 0 ∷ wt 1 ∷ rd 0 ∷ wt 2 ∷ []) ∷ []) 0 20 8
-    (tally 1 0 0)
-    (hallLeft "" "24 1 24 2 20 3 24 1 24 2 24 1 24 2" "1 0 1 1 1 3 1 4 1 5 1 6")
-    "R 0 20 8\nC 1 0 0\nT 0 4 -4 0\nP 1\nP 2\nW 3\nP 1\nP 2\nP 1\nP 2\n") ∷
-    -- for nodes in preorder, and both sides of an orElse with the log so far:
-    -- wt 3.((rd 0.end orElse wt 1.end) orElse wt 2.end), both orElse taken apart, the leaves at nodes 2, 3 and 4
-    row "7 9 0 0 10 1 0 11 1 2 10 2 0 11 3 4 10 3 5 6 6 13 7" "1 0 2 0 0 2 0 0 2 0 1 2 0 4"
-    (ran (ATST ∷ AWR ∷ AOI ∷ AOI ∷ AWR ∷ []) 0 14 5 (tally 0 0 0)
-    (hallLeftOpen ""
-    (attempt 7 "" (22 ∷ 22 ∷ (leafOf 1 1 "19" ++ (leafOf 2 1 "19" ++ leafOf 0 2 "19 18")))) (attemptNoteBytes 7 "") "2 0 2 2 0 3")
-    "R 0 14 5\nC 0 0 0\nA 7 5\n") ∷
-    -- against counters that pass 4,294,967,295 or stop before it: one commit, one failure and one retry, each counter
-    -- once at its top, once one below
-    tallied (tally 4294967295 4294967294 7) (tally 4294967295 4294967295 8) ∷
-    tallied (tally 4294967294 7 4294967295) (tally 4294967295 8 4294967295) ∷
-    tallied (tally 7 4294967295 4294967294) (tally 8 4294967295 4294967295) ∷
-    -- against a read that looks at its own tray alone: a stored hall that no run reached, with stations of every kind
-    -- and a log that does not fit its snapshot, so that rd 1 fails although tray 1 has its token
-    record {
-      table = numbers "7 8 10 0 0 9 1 2 6 3 1 3 2 5 4 2 5 13 4";
-      stored = some (hallOf (trays "0 0 1") (attempted (leafOf 3 1 "0")));
-      first = tally 7 8 9;
-      choices = numbers "2 4 1";
-      expected =
-          ranTo (ARDF ∷ []) 0 3 1 (tally 7 8 9)
-          (hallLeftOpen "0 0 1" (attempted (leafOf 255 1 "0")) [] "1 0 1 1 1 2 1 3 2 4 0 2 4 2 2 4 4") none
-          (ascii "R 14 0 0\nC 0 0 0\nW 4\n");
-    } ∷
     []
-  where
-    tallied : (first last : Counters) → Example
-    tallied first last =
-        rowFrom first "7 9 0 0 6 1 8 6 3 5 2 2 5 5 4 12 0 1 13 6" "1 0 1 1 2 0 0 2 1 0 1 0 1 0 1 1 1 1"
-        (ran (ATST ∷ ATST ∷ ARDOK ∷ ARDOK ∷ ATOK (rd 0 ∷ []) ∷ ATFAIL ∷ ATST ∷ ATRE ∷ []) 0 18 8 last
-        (hallLeft "" "20 2 20 4" "1 0 1 1")
-        "R 0 18 8\nC 1 1 1\nT 0 1 -1 0\nW 2\nW 4\n")
-
-    -- take, repeated take, block and output, and an attempt: a fork with this left side, and on its right another fork
-    attempted : List ℕ → List ℕ
-    attempted l =
-        numbers "20 6 20 7 20 4 24 15" ++ attempt 4 "0 1" (22 ∷ (l ++ (22 ∷ (leafOf 255 2 "16 1" ++ leafOf 2 0 ""))))
 
 -- ---- the claim
 
