@@ -68,6 +68,9 @@ module _ {d s starts : List ℕ} {n p : ℕ} {o : Occupant} (f : OccupantRead d 
     pub end-looked : {q : ℕ} {r : Reply} → EndLooked d s n (getD starts p 0) r → p ≡ q → Looked d s starts n (act q) r
     end-looked g e = rw (← e) (record { found = λ ts h y x. g .found ts h starts p (open-here y x) })
 
+    pub end-told : {q : ℕ} {r t : Reply} → EndLooked d s n (getD starts p 0) r → r ≡ t → p ≡ q → Looked d s starts n (act q) t
+    end-told g same e = rw (← same) (end-looked g e)
+
   -- an output
   module _ {a : ℕ} (is : o ≡ Output a) where
     pub output-held : Running d s starts n → OutputHeld s a

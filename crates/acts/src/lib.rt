@@ -40,7 +40,11 @@ pub fn look_act(
     let p = wide(position);
     match occupant_at(decoded, hall, starts, components, p) {
         Occupant::Nothing => Reply::Refused(NO_COMPONENT),
-        Occupant::Transaction => blocks::look_end(decoded, hall, starts[p], components),
+        // Taken apart, so that the answers of all arms meet in registers and not in memory.
+        Occupant::Transaction => match blocks::look_end(decoded, hall, starts[p], components) {
+            Reply::Moved(rule, shortage) => Reply::Moved(rule, shortage),
+            Reply::Refused(number) => Reply::Refused(number),
+        },
         Occupant::Output { channel } => communication::look_out(hall, channel),
         Occupant::Block => Reply::Moved(ATST, Shortage::Enough),
         Occupant::Take { term } => communication::look_take(decoded, hall, components, term),

@@ -3,7 +3,7 @@
 use Prim.Native.Nat.{ℕ, _+_, _-_, _≤_, _<_}
 use native.Mathlib.Omega.{arith}
 use native.Mathlib.Decide.{decLt}
-use mathlib.Core.Path.{_≡_, refl, sym, _∙_}
+use mathlib.Core.Path.{_≡_, refl, sym, ap, _∙_}
 use mathlib.Core.Bool.{Bool, true, false, cond}
 use mathlib.Core.List.{List, [], _∷_, _++_}
 use lib.Dec.{ltb}
@@ -18,10 +18,9 @@ use Rattle.theorems.proofs.Shortages.{found-is}
 use Rattle.rules.specs.declared.Shortage.{Shortage}
 use Rattle.rules.specs.declared.Shortage.the-variants.{Enough, Short}
 use Rattle.rules.specs.Replies.{shortageIs}
-use Rattle.logs.specs.declared.Left as code
 use Rattle.logs.specs.Needs.{readsOf, countsIn, shortAt, alsoNeeded, needsOf, withinAt}
-use Rattle.logs.specs.Values.{LowestOf, LeftOf}
-use Rattle.logs.proofs.Needing.{needs-count, needs-few, also-needed}
+use Rattle.logs.specs.Values.{LowestOf}
+use Rattle.logs.proofs.Needing.{needs-count, needs-few, also-needed, none-needed}
 use Rattle.logs.proofs.Counting.{covered}
 
 -- ---- reads
@@ -70,8 +69,9 @@ all-enough bs s k f = sym (found-is (readsOf bs) (countsIn s k) enough (λ a. el
 within-enough : (bs s : List ℕ) (k : ℕ) → withinAt (needsOf bs) s k ≡ true → shortageIs Enough ≡ shortAt bs s k
 within-enough bs s k e = all-enough bs s k (λ a h. covered (needsOf bs) s k a e h)
 
-pub left-enough : (l : code.Left) (s : List ℕ) (k : ℕ) (bs : List ℕ) → LeftOf l s k bs → l .enough ≡ true → shortageIs Enough ≡ shortAt bs s k
-left-enough l s k bs is e = within-enough bs s k (sym (is .answer) ∙ e)
+-- a write more needs nothing
+pub write-enough : (bs s : List ℕ) (k : ℕ) (r : Bool) → r ≡ withinAt (needsOf (bs ++ (16 ∷ []))) s k → r ≡ true → shortageIs Enough ≡ shortAt bs s k
+write-enough bs s k r is e = within-enough bs s k (ap (λ n. withinAt n s k) (none-needed bs 16 (omega arith)) ∙ sym is ∙ e)
 
 pub readable-enough : (bs s : List ℕ) (k : ℕ) (r : Bool) → r ≡ withinAt (needsOf bs) s k → r ≡ true → shortageIs Enough ≡ shortAt bs s k
 readable-enough bs s k r is e = within-enough bs s k (sym is ∙ e)
@@ -114,14 +114,25 @@ module _ (need s : List ℕ) (k i : ℕ) (below : EnoughBelow need s k i) where
   pub short-nowhere : (v : ℕ) → v ≡ i → channels ≤ v → LowestOf Enough need s k
   short-nowhere v d u = record { found = λ bs is. all-enough bs s k (λ a x. rw (← is) (below .each a (omega arith))) }
 
-pub lowest-of : (r : Shortage) (need s : List ℕ) (k : ℕ) (bs : List ℕ) → LowestOf r need s k → need ≡ needsOf bs → shortageIs r ≡ shortAt bs s k
-lowest-of r need s k bs l e = l .found bs e
+-- needs that are the same are short of the same
+pub lowest-same : (r : Shortage) (need all s : List ℕ) (k : ℕ) → LowestOf r need s k → need ≡ all → LowestOf r all s k
+lowest-same r need all s k l e = rw (← e) l
 
--- ---- one read more
+-- what bytes with a write more are short of they are without it
+pub lowest-of : (r : Shortage) (bs s : List ℕ) (k : ℕ) → LowestOf r (needsOf (bs ++ (16 ∷ []))) s k → shortageIs r ≡ shortAt bs s k
+lowest-of r bs s k l = l .found bs (sym (none-needed bs 16 (omega arith)))
 
-pub with-fit : (bs : List ℕ) (size : ℕ) (need : List ℕ) (a w : ℕ) → need ≡ needsOf (take size bs) → size ≤ 16 → w ≡ a → a < channels → getD need w 0 < 255
-with-fit bs size need a w e k q l = rw (e, q) (let p = needs-few (take size bs) a l in let z = length-take size bs in omega arith)
+pub lowest-with : (r : Shortage) (bs s : List ℕ) (k a : ℕ) → LowestOf r (needsOf (bs ++ (a ∷ []))) s k → shortageIs r ≡ shortAt (bs ++ (a ∷ [])) s k
+lowest-with r bs s k a l = l .found (bs ++ (a ∷ [])) refl
 
-pub with-needs : (bs need : List ℕ) (a w x : ℕ) → need ≡ needsOf bs → w ≡ a → a < channels → x ≡ getD need w 0 + 1 → set need w x ≡ needsOf (bs ++ (a ∷ []))
+-- ---- one action more
+
+pub with-fit : (bs : List ℕ) (size : ℕ) (need : List ℕ) (w : ℕ) → need ≡ needsOf (take size bs) → size ≤ 16 → w < channels → getD need w 0 < 255
+with-fit bs size need w e k l = rw e (let p = needs-few (take size bs) w l in let z = length-take size bs in omega arith)
+
+pub with-read : (bs need : List ℕ) (a w x : ℕ) → need ≡ needsOf bs → w ≡ a → w < channels → x ≡ getD need w 0 + 1 → set need w x ≡ needsOf (bs ++ (a ∷ []))
 unfolding alsoNeeded
-with-needs bs need a w x e q h f = rw (f, q, e) (also-needed bs a h)
+with-read bs need a w x e q h f = rw (f, ← q, e) (also-needed bs w h)
+
+pub with-write : (bs need : List ℕ) (a w : ℕ) → need ≡ needsOf bs → w ≡ a → channels ≤ w → need ≡ needsOf (bs ++ (a ∷ []))
+with-write bs need a w e q h = e ∙ none-needed bs a (omega arith)

@@ -5,20 +5,22 @@ use native.Mathlib.Omega.{arith}
 use native.Mathlib.Decide.{ℕ-discrete, decLt}
 use mathlib.Core.Path.{_≡_, refl, sym, ap, _∙_}
 use mathlib.Core.Logic.{_≢_}
-use mathlib.Core.Bool.{Bool, true, false, cond, true≢false}
+use mathlib.Core.Bool.{Bool, true, false, cond}
 use mathlib.Core.List.{List, [], _∷_, _++_}
-use lib.Dec.{ltb}
+use lib.Dec.{ltb, leb}
 use lib.ListN.{length, getD, take, drop, set, length-drop}
 use lib.Seq.{length-take-le, getD-take, getD-drop, getD-set-same, getD-set-other, set-getD}
-use borrow.Author.Tests.{lt-ltb, le-ltb, ltb-true, ltb-false}
+use borrow.Author.Tests.{lt-ltb, le-ltb, ltb-true, ltb-false, le-leb, lt-leb}
 use Rattle.calculus.specs.State.{same, occurrences}
 use Rattle.calculus.proofs.States.{same-self, same-other}
 use Rattle.semantics.specs.Definitions.Layout.{channels}
-use Rattle.logs.specs.declared.Left as code
 use Rattle.logs.specs.Needs.{needsOf, takenBy, withinAt}
-use Rattle.logs.specs.Values.{Leaves, LeftOf}
 use Rattle.logs.proofs.Counting.{covered, all-covered}
 use Rattle.logs.proofs.Needing.{one-more, snoc-count, none-needed, needs-count}
+
+-- of each channel, so many are left of the counts at an offset when what these bytes need is taken from them
+pub record Leaves (left s : List ℕ) (k : ℕ) (bs : List ℕ) : Type 0 where
+  pub each : (a : ℕ) → a < channels → getD left a 0 + getD (needsOf bs) a 0 ≡ getD s (k + a) 0
 
 -- a read takes one, a write none
 pub taken-one : (b : ℕ) → b < channels → 1 ≡ takenBy b
@@ -40,10 +42,13 @@ fewer a (x ∷ xs) (suc m) (suc n) h = let p = fewer a xs m n (omega arith) in o
 module _ (s : List ℕ) (k : ℕ) where
   pub leaves-start : (left : List ℕ) → left ≡ take channels (drop k s) → Leaves left s k []
   unfolding occurrences
-  leaves-start left e a h =
-      let z = needs-count [] a h in
-      let g : getD left a 0 ≡ getD s (k + a) 0 = rw e (getD-take channels (drop k s) a 0 h ∙ getD-drop k s a 0) in
-      omega arith
+  leaves-start left e = record { each = go }
+    where
+      go : (a : ℕ) → a < channels → getD left a 0 + getD (needsOf []) a 0 ≡ getD s (k + a) 0
+      go a h =
+          let z = needs-count [] a h in
+          let g : getD left a 0 ≡ getD s (k + a) 0 = rw e (getD-take channels (drop k s) a 0 h ∙ getD-drop k s a 0) in
+          omega arith
 
   pub left-length : (left : List ℕ) → left ≡ take channels (drop k s) → k + channels ≤ length s → length left ≡ channels
   left-length left e h =
@@ -53,25 +58,25 @@ module _ (s : List ℕ) (k : ℕ) where
   module _ (left bs : List ℕ) (b : ℕ) (l : Leaves left s k bs) where
     leaves-read : b < channels → length left ≡ channels → getD left b 0 ≢ 0 →
         Leaves (set left b (getD left b 0 - 1)) s k (bs ++ (b ∷ []))
-    leaves-read h e n a f = elim (ℕ-discrete a b) [ yes q ↦ equal q | no q ↦ other q ]
+    leaves-read h e n = record { each = λ a f. elim (ℕ-discrete a b) [ yes q ↦ equal a q | no q ↦ other a f q ] }
       where
-        equal : a ≡ b → getD (set left b (getD left b 0 - 1)) a 0 + getD (needsOf (bs ++ (b ∷ []))) a 0 ≡ getD s (k + a) 0
-        equal q = rw q (
-            let p = l b h in
+        equal : (a : ℕ) → a ≡ b → getD (set left b (getD left b 0 - 1)) a 0 + getD (needsOf (bs ++ (b ∷ []))) a 0 ≡ getD s (k + a) 0
+        equal a q = rw q (
+            let p = l .each b h in
             let c = snoc-count bs b b h in
             let o = same-self b in
             let g = getD-set-same left b (getD left b 0 - 1) 0 (omega arith) in
             let m : getD left b 0 ≢ 0 = n in omega arith)
 
-        other : a ≢ b → getD (set left b (getD left b 0 - 1)) a 0 + getD (needsOf (bs ++ (b ∷ []))) a 0 ≡ getD s (k + a) 0
-        other q =
-            let p = l a f in
+        other : (a : ℕ) → a < channels → a ≢ b → getD (set left b (getD left b 0 - 1)) a 0 + getD (needsOf (bs ++ (b ∷ []))) a 0 ≡ getD s (k + a) 0
+        other a f q =
+            let p = l .each a f in
             let c = snoc-count bs b a f in
             let z = same-other a b q in
             let g = getD-set-other left b a (getD left b 0 - 1) 0 q in omega arith
 
     leaves-write : channels ≤ b → Leaves left s k (bs ++ (b ∷ []))
-    leaves-write h = rw (← (none-needed bs b h)) l
+    leaves-write h = record { each = λ a f. rw (← (none-needed bs b h)) (l .each a f) }
 
     -- none is left, and more is needed
     leaves-none : b < channels → getD left b 0 ≡ 0 → (more : List ℕ) →
@@ -80,10 +85,10 @@ module _ (s : List ℕ) (k : ℕ) where
       where
         go : (t : Bool) → withinAt (needsOf more) s k ≡ t → false ≡ t
         go false e = refl
-        go true e = let c = covered (needsOf more) s k b e h in let p = l b h in absurd (omega arith)
+        go true e = let c = covered (needsOf more) s k b e h in let p = l .each b h in absurd (omega arith)
 
   leaves-enough : (left bs : List ℕ) → Leaves left s k bs → true ≡ withinAt (needsOf bs) s k
-  leaves-enough left bs l = sym (all-covered (needsOf bs) s k (λ a h. let p = l a h in omega arith))
+  leaves-enough left bs l = sym (all-covered (needsOf bs) s k (λ a h. let p = l .each a h in omega arith))
 
 -- ---- turns: the first i bytes of a log of the given size were seen
 
@@ -97,20 +102,19 @@ module _ (s : List ℕ) (at size k i : ℕ) (left : List ℕ) (b : ℕ) (sofar :
   left-write : channels ≤ b → Leaves left s k (take (i + 1) (drop at s))
   left-write h = rw (one-more s at i (omega arith), ← byte) (leaves-write s k left (take i (drop at s)) b sofar h)
 
-  none-left : getD left b 0 ≡ 0 → b < channels →
-      LeftOf (record { enough = false; counts = left }) s k (take size (drop at s))
-  none-left z h =
+  none-left : (last : ℕ) → getD left b 0 ≡ 0 → b < channels →
+      false ≡ withinAt (needsOf (take size (drop at s) ++ (last ∷ []))) s k
+  none-left last z h =
       let bs = take i (drop at s) in
+      let all = take size (drop at s) in
       let p = needs-count bs b h in
-      let q = needs-count (take size (drop at s)) b h in
+      let q = needs-count all b h in
       let r = needs-count (take (i + 1) (drop at s)) b h in
       let m : getD (needsOf (take (i + 1) (drop at s))) b 0 ≡ getD (needsOf bs) b 0 + 1 =
       rw (one-more s at i (omega arith), ← byte) (snoc-count bs b b h ∙ rw (same-self b)) in
       let f = fewer b (drop at s) (i + 1) size (omega arith) in
-      record {
-        answer = leaves-none s k left bs b sofar h z (take size (drop at s)) (omega arith);
-        left = λ t. absurd (true≢false (sym t));
-      }
+      let g = snoc-count all last b h in
+      leaves-none s k left bs b sofar h z (all ++ (last ∷ [])) (omega arith)
 
   -- a read takes one from its channel, and a write none from the channel that it names
   module _ (t w n : ℕ) (takes : t ≡ takenBy b) (index : w ≡ b) (count : n ≡ getD left (w % channels) 0) where
@@ -129,62 +133,47 @@ module _ (s : List ℕ) (at size k i : ℕ) (left : List ℕ) (b : ℕ) (sofar :
             let c : n - t ≡ getD left (w % channels) 0 = omega arith in
             rw (c, set-getD left (w % channels) 0) (left-write (omega arith))
 
-    pub left-none : n < t → LeftOf (record { enough = false; counts = left }) s k (take size (drop at s))
+    pub left-none : (last : ℕ) → n < t → false ≡ withinAt (needsOf (take size (drop at s) ++ (last ∷ []))) s k
     unfolding takenBy
-    left-none h = go (ltb b channels) refl takes
+    left-none last h = go (ltb b channels) refl takes
       where
         go : (r : Bool) → ltb b channels ≡ r → t ≡ cond r 1 0 →
-            LeftOf (record { enough = false; counts = left }) s k (take size (drop at s))
+            false ≡ withinAt (needsOf (take size (drop at s) ++ (last ∷ []))) s k
         go true e f =
             let o = ltb-true b channels e in
             let c : w % channels ≡ b = omega arith in
-            none-left (ap (λ (x : ℕ). getD left x 0) (sym c) ∙ sym count ∙ omega arith) o
+            none-left last (ap (λ (x : ℕ). getD left x 0) (sym c) ∙ sym count ∙ omega arith) o
         go false e f = absurd (omega arith)
 
-pub left-end : (s : List ℕ) (at size k i : ℕ) (left : List ℕ) → Leaves left s k (take i (drop at s)) → i ≤ size →
-    size ≤ i → LeftOf (record { enough = true; counts = left }) s k (take size (drop at s))
-left-end s at size k i left l h f =
+-- ---- the last action
+
+module _ (s : List ℕ) (k : ℕ) (bs left : List ℕ) (b t w n : ℕ) (l : Leaves left s k bs) (full : length left ≡ channels)
+    (takes : t ≡ takenBy b) (index : w ≡ b) (count : n ≡ getD left (w % channels) 0) where
+  last-taken : leb t n ≡ withinAt (needsOf (bs ++ (b ∷ []))) s k
+  unfolding takenBy
+  last-taken = go (ltb b channels) refl takes
+    where
+      go : (r : Bool) → ltb b channels ≡ r → t ≡ cond r 1 0 → leb t n ≡ withinAt (needsOf (bs ++ (b ∷ []))) s k
+      go false e f =
+          let o = ltb-false b channels e in
+          le-leb t n (omega arith) ∙ leaves-enough s k left (bs ++ (b ∷ [])) (leaves-write s k left bs b l o)
+      go true e f =
+          let o = ltb-true b channels e in
+          let c : w % channels ≡ b = omega arith in
+          let there : n ≡ getD left b 0 = count ∙ ap (λ (x : ℕ). getD left x 0) c in
+          elim (decLt 0 n) [
+            | yes p ↦ le-leb t n (omega arith) ∙ leaves-enough s k (set left b (getD left b 0 - 1)) (bs ++ (b ∷ []))
+                (leaves-read s k left bs b l o full (λ z. omega arith))
+            | no p ↦ (
+                let m = snoc-count bs b b o in
+                let q = same-self b in
+                lt-leb t n (omega arith) ∙ leaves-none s k left bs b l o (omega arith) (bs ++ (b ∷ [])) (omega arith))
+          ]
+
+pub left-end : (s : List ℕ) (at size k i : ℕ) (left : List ℕ) (b t w n : ℕ) → Leaves left s k (take i (drop at s)) →
+    i ≤ size → size ≤ i → length left ≡ channels → t ≡ takenBy b → w ≡ b → n ≡ getD left (w % channels) 0 →
+    leb t n ≡ withinAt (needsOf (take size (drop at s) ++ (b ∷ []))) s k
+left-end s at size k i left b t w n l h f full takes index count =
     let z : i ≡ size = omega arith in
     let m : Leaves left s k (take size (drop at s)) = rw z at l in
-    record { answer = leaves-enough s k left _ m; left = λ t. m }
-
--- ---- one more read
-
-module _ (l : code.Left) (s : List ℕ) (k : ℕ) (bs : List ℕ) (a : ℕ) (is : LeftOf l s k bs) (h : a < channels) where
-  grows : (b : ℕ) → b < channels → getD (needsOf bs) b 0 ≤ getD (needsOf (bs ++ (a ∷ []))) b 0
-  grows b f = let c = snoc-count bs a b f in omega arith
-
-  pub with-short : l .enough ≡ false → false ≡ withinAt (needsOf (bs ++ (a ∷ []))) s k
-  with-short e = go (withinAt (needsOf (bs ++ (a ∷ []))) s k) refl
-    where
-      go : (t : Bool) → withinAt (needsOf (bs ++ (a ∷ []))) s k ≡ t → false ≡ t
-      go false f = refl
-      go true f =
-          let all = all-covered (needsOf bs) s k (λ b g.
-          let c = covered (needsOf (bs ++ (a ∷ []))) s k b f g in
-          let p = grows b g in omega arith) in
-          absurd (true≢false (sym all ∙ sym (is .answer) ∙ e))
-
-  pub with-left : l .enough ≡ true → (n j : ℕ) → j ≡ a → n ≡ getD (l .counts) j 0 →
-      ltb 0 n ≡ withinAt (needsOf (bs ++ (a ∷ []))) s k
-  with-left e n j f g = elim (decLt 0 n) [ yes p ↦ some p | no p ↦ none p ]
-    where
-      last : n ≡ getD (l .counts) a 0
-      last = g ∙ ap (λ (x : ℕ). getD (l .counts) x 0) f
-
-      none : (0 < n → ⊥) → ltb 0 n ≡ withinAt (needsOf (bs ++ (a ∷ []))) s k
-      none p =
-          let c = snoc-count bs a a h in
-          let o = same-self a in
-          let m = last in
-          le-ltb 0 n (omega arith) ∙ leaves-none s k (l .counts) bs a (is .left e) h (omega arith) (bs ++ (a ∷ [])) (omega arith)
-
-      some : 0 < n → ltb 0 n ≡ withinAt (needsOf (bs ++ (a ∷ []))) s k
-      some p = lt-ltb 0 n p ∙ sym (all-covered (needsOf (bs ++ (a ∷ []))) s k (λ b q.
-          let m = last in
-          let c = snoc-count bs a b q in
-          let w = is .left e b q in
-          elim (ℕ-discrete b a) [
-            | yes z ↦ (let o = same-self a in let v = ap (λ (x : ℕ). getD (l .counts) x 0) z in let u = ap (λ (x : ℕ). same x a) z in omega arith)
-            | no z ↦ (let o = same-other b a z in omega arith)
-          ]))
+    last-taken s k (take size (drop at s)) left b t w n m full takes index count

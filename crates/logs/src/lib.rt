@@ -3,8 +3,8 @@
 // What the reads of a log come to is an array of needs, one for each channel (tray), which a commit takes from the
 // counts. One test tells what counts lack for the reads of a log (`shortage`), or of a log with one read more
 // (`shortage_with`), whatever the counts are: the hall's own or a snapshot. It takes the reads one by one from a copy of
-// the counts (`left_of`), and only where these do not suffice looks for the lowest channel that is short
-// (`lowest_short`). A stored log is read where it stands, at an offset of a hall's bytes.
+// the counts (`suffice`), and only where these do not suffice looks for the lowest channel that is short
+// (`lowest_lacking`). A stored log is read where it stands, at an offset of a hall's bytes.
 use buffer::wide;
 use rules::Shortage;
 use stored::CHANNELS;
@@ -22,7 +22,7 @@ ghost use Rattle.semantics.specs.Definitions.Logs.{emptyLog};
 ghost use Rattle.rules.specs.Replies.{shortageIs};
 ghost use Rattle.logs.specs.Needs.{needsOf, takenBy, withinAt, shortAt, lowered};
 ghost use Rattle.logs.specs.Writes.{writesOf};
-ghost use Rattle.logs.specs.Values.{LogIs, OutputsAre, LowestOf, LeftOf};
+ghost use Rattle.logs.specs.Values.{LogIs, OutputsAre, LowestOf};
 
 // The components that a log of writes alone becomes, in bytes.
 const OUTPUTS_SIZE: usize = IDLE_SIZE * LOG_SIZE;
@@ -37,12 +37,6 @@ pub struct Log {
 pub struct Outputs {
     pub bytes: [u8; OUTPUTS_SIZE],
     pub count: usize,
-}
-
-// What is left of counts when reads are taken from them, and whether they sufficed.
-pub struct Left {
-    pub enough: bool,
-    pub counts: [u8; CHANNELS],
 }
 
 impl Log {
@@ -103,11 +97,13 @@ fn taken_by(action: u8) -> u8
     if action < WRITE_OFFSET { 1 } else { 0 }
 }
 
-// The reads of the stored log of so many actions at an offset, taken one by one from a copy of the counts that stand at
-// another, up to the first that finds none. Reads and writes go the same way, so that no branch has to be foreseen.
-fn left_of(s: &[u8], at: usize, size: usize, counts: usize) -> Left
+// Whether the counts that stand at an offset suffice for the reads of the stored log of so many actions at another, with
+// one action more at its end: they are taken one by one from a copy of the counts, up to the first that finds none. Reads
+// and writes go the same way, so that no branch has to be foreseen.
+fn suffice(s: &[u8], at: usize, size: usize, action: u8, counts: usize) -> bool
     requires { ⌜ (size ≤ maxActions) × (at + size ≤ length (now s)) × (counts + channels ≤ length (now s)) ⌝ }
-    ensures { λ r. ⌜ LeftOf r (now (s .entry)) counts (take size (drop at (now (s .entry)))) ⌝ }
+    ensures { λ r. ⌜ r ≡ withinAt (needsOf (take size (drop at (now (s .entry))) ++ (action ∷ []))) (now (s .entry))
+        counts ⌝ }
 {
     let mut left = counts_at(s, counts);
     let mut i: usize = 0;
@@ -118,17 +114,12 @@ fn left_of(s: &[u8], at: usize, size: usize, counts: usize) -> Left
         let channel = wide(byte) % CHANNELS;
         let count = left[channel];
         if count < taken {
-            return Left {
-                enough: false,
-                counts: left,
-            };
+            return false;
         }
         left[channel] = count - taken;
     }
-    Left {
-        enough: true,
-        counts: left,
-    }
+    let last = taken_by(action);
+    last <= left[wide(action) % CHANNELS]
 }
 
 // The lowest channel that is needed more often than the counts say that stand at an offset, and how many it lacks.
@@ -152,43 +143,41 @@ fn lowest_short(s: &[u8], need: [u8; CHANNELS], counts: usize) -> Shortage
     Shortage::Enough
 }
 
-// The one test of reads against counts: what the counts that stand at an offset lack for the reads of a stored log.
+// What the reads of a stored log need, with one action more at its end.
+fn needs_with(s: &[u8], at: usize, size: usize, action: u8) -> [u8; CHANNELS]
+    requires { ⌜ (size ≤ maxActions) × (at + size ≤ length (now s)) ⌝ }
+    ensures { λ r. ⌜ r ≡ needsOf (take size (drop at (now (s .entry))) ++ (action ∷ [])) ⌝ }
+{
+    let mut need = needs_of(s, at, size);
+    let i = wide(action);
+    if CHANNELS <= i {
+        return need;
+    }
+    need[i] = one_more(need[i]);
+    need
+}
+
+// The lowest channel that a stored log with one action more is short of. It is a function for both tests below, and none of
+// theirs, so that the compiler leaves it out of line and a test that passes stays short.
+fn lowest_lacking(s: &[u8], at: usize, size: usize, action: u8, counts: usize) -> Shortage
+    requires { ⌜ (size ≤ maxActions) × (at + size ≤ length (now s)) × (counts + channels ≤ length (now s)) ⌝ }
+    ensures { λ r. ⌜ LowestOf r (needsOf (take size (drop at (now (s .entry))) ++ (action ∷ []))) (now (s .entry))
+        counts ⌝ }
+{
+    let need = needs_with(s, at, size, action);
+    lowest_short(s, need, counts)
+}
+
+// The one test of reads against counts: what the counts that stand at an offset lack for the reads of a stored log. The
+// action more is a write, which needs nothing.
 pub fn shortage(s: &[u8], at: usize, size: usize, counts: usize) -> Shortage
     requires { ⌜ (size ≤ maxActions) × (at + size ≤ length (now s)) × (counts + channels ≤ length (now s)) ⌝ }
     ensures { λ r. ⌜ shortageIs r ≡ shortAt (take size (drop at (now (s .entry)))) (now (s .entry)) counts ⌝ }
 {
-    let left = left_of(s, at, size, counts);
-    if left.enough {
+    if suffice(s, at, size, WRITE_OFFSET, counts) {
         return Shortage::Enough;
     }
-    let need = needs_of(s, at, size);
-    lowest_short(s, need, counts)
-}
-
-// Whether the counts suffice for the reads of a stored log with a read of a channel at its end.
-fn readable_with(s: &[u8], at: usize, size: usize, channel: u8, counts: usize) -> bool
-    requires { ⌜ (size ≤ maxActions) × (at + size ≤ length (now s)) × (channel < channels)
-        × (counts + channels ≤ length (now s)) ⌝ }
-    ensures { λ r. ⌜ r ≡ withinAt (needsOf (take size (drop at (now (s .entry))) ++ (channel ∷ [])))
-        (now (s .entry)) counts ⌝ }
-{
-    let left = left_of(s, at, size, counts);
-    if left.enough {
-        let counts_left = left.counts;
-        return 0 < counts_left[wide(channel)];
-    }
-    false
-}
-
-// What the reads of a stored log need, with a read of a channel at its end.
-fn needs_with(s: &[u8], at: usize, size: usize, channel: u8) -> [u8; CHANNELS]
-    requires { ⌜ (size ≤ maxActions) × (at + size ≤ length (now s)) × (channel < channels) ⌝ }
-    ensures { λ r. ⌜ r ≡ needsOf (take size (drop at (now (s .entry))) ++ (channel ∷ [])) ⌝ }
-{
-    let mut need = needs_of(s, at, size);
-    let i = wide(channel);
-    need[i] = one_more(need[i]);
-    need
+    lowest_lacking(s, at, size, WRITE_OFFSET, counts)
 }
 
 // The same test with a read of a channel at the log's end.
@@ -198,11 +187,10 @@ pub fn shortage_with(s: &[u8], at: usize, size: usize, channel: u8, counts: usiz
     ensures { λ r. ⌜ shortageIs r ≡ shortAt (take size (drop at (now (s .entry))) ++ (channel ∷ []))
         (now (s .entry)) counts ⌝ }
 {
-    if readable_with(s, at, size, channel, counts) {
+    if suffice(s, at, size, channel, counts) {
         return Shortage::Enough;
     }
-    let need = needs_with(s, at, size, channel);
-    lowest_short(s, need, counts)
+    lowest_lacking(s, at, size, channel, counts)
 }
 
 // The counts of a hall, lowered by needs that they cover.

@@ -1,5 +1,5 @@
 -- `look_act` meets its contract. Assumes nothing.
-use Rattle.acts.proofs.Looking.{nothing-looked, transaction-position, end-held, end-looked, output-held, output-looked, block-looked, take-held, take-looked}
+use Rattle.acts.proofs.Looking.{nothing-looked, transaction-position, end-held, end-told, output-held, output-looked, block-looked, take-held, take-looked}
 use borrow.Author.Needs.{needs}
 use Rattle.acts.proofs.look_act.Statement.{statement}
 use Rattle.acts.proofs.look_act.Tie as tie
@@ -25,6 +25,12 @@ element-copy-out-look-end c = search transaction-position
 look-end-requires : tie.Need-look-end-requires
 look-end-requires c κs = search end-held
 
+enum-known-rule : tie.Need-enum-known-rule
+enum-known-rule c = search needs
+
+enum-known-number : tie.Need-enum-known-number
+enum-known-number c = search needs
+
 enum-known-channel : tie.Need-enum-known-channel
 enum-known-channel c = search needs
 
@@ -44,16 +50,19 @@ returns : tie.Need-returns
 returns c = search nothing-looked
 
 returns-2 : tie.Need-returns-2
-returns-2 c = search end-looked
+returns-2 c = search end-told
 
 returns-3 : tie.Need-returns-3
-returns-3 c = search output-looked
+returns-3 c = search end-told
 
 returns-4 : tie.Need-returns-4
-returns-4 c = search block-looked
+returns-4 c = search output-looked
 
 returns-5 : tie.Need-returns-5
-returns-5 c = search take-looked
+returns-5 c = search block-looked
+
+returns-6 : tie.Need-returns-6
+returns-6 c = search take-looked
 
 pub look-act-spec : {M : Type 1} → statement M
 look-act-spec =
@@ -66,6 +75,8 @@ look-act-spec =
     mul-look-end
     element-copy-out-look-end
     look-end-requires
+    enum-known-rule
+    enum-known-number
     enum-known-channel
     look-out-requires
     enum-told-3
@@ -75,4 +86,5 @@ look-act-spec =
     returns-2
     returns-3
     returns-4
-    returns-5)
+    returns-5
+    returns-6)

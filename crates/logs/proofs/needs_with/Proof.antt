@@ -1,5 +1,5 @@
 -- `needs_with` meets its contract. Assumes nothing.
-use Rattle.logs.proofs.Lacking.{with-fit, with-needs}
+use Rattle.logs.proofs.Lacking.{with-fit, with-read, with-write}
 use borrow.Author.Needs.{needs}
 use Rattle.logs.proofs.needs_with.Statement.{statement}
 use Rattle.logs.proofs.needs_with.Tie as tie
@@ -10,6 +10,9 @@ needs-of-requires c κs = search needs
 wide-requires : tie.Need-wide-requires
 wide-requires c κs = search needs
 
+returns : tie.Need-returns
+returns c = search with-write
+
 array-read-one-more : tie.Need-array-read-one-more
 array-read-one-more c = search needs
 
@@ -19,8 +22,8 @@ one-more-requires c κs = search with-fit
 array-write-need : tie.Need-array-write-need
 array-write-need c = search needs
 
-returns : tie.Need-returns
-returns c = search with-needs
+returns-2 : tie.Need-returns-2
+returns-2 c = search with-read
 
 pub needs-with-spec : {M : Type 1} → statement M
 needs-with-spec =
@@ -28,7 +31,8 @@ needs-with-spec =
     (tie.spec
     needs-of-requires
     wide-requires
+    returns
     array-read-one-more
     one-more-requires
     array-write-need
-    returns)
+    returns-2)
