@@ -6,6 +6,7 @@ pub mod GainExamples
 pub mod SuggestionExamples
 pub mod StepExamples
 pub mod ShortageExamples
+pub mod TurnExamples
 pub mod Sentences
 pub mod ConverseExamples
 pub mod DenotationExamples

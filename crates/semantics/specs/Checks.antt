@@ -1,5 +1,5 @@
 -- The definitions compared with documents 01 and 02, piece by piece: tables, moves, refusals, answers, stored form,
--- printed run, shortages, sentences and worked examples. Assumes nothing.
+-- printed run, shortages, turns of an opening, sentences and worked examples. Assumes nothing.
 pub mod StatedMoves
 pub mod AcceptedTables
 pub mod StoredForm
@@ -18,6 +18,7 @@ pub mod SuggestionExamples
 pub mod StepExamples
 pub mod LongExamples
 pub mod ShortageExamples
+pub mod TurnExamples
 pub mod ConverseExamples
 pub mod DenotationExamples
 pub mod Sentences

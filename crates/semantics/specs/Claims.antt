@@ -1,4 +1,5 @@
--- What is claimed of those definitions: demand 2, demand 3, the shortages, the accounts, the sentences. Assumes nothing.
+-- What is claimed of those definitions: demand 2, demand 3, the shortages, the turns of an
+-- opening, the accounts, the sentences. Assumes nothing.
 pub mod Suggestions
 pub mod Denotation
 pub mod Correspondence
@@ -7,5 +8,6 @@ pub mod ConverseRuns
 pub mod Atomicity
 pub mod InnerMoves
 pub mod Shortages
+pub mod Turns
 pub mod Accounts
 pub mod Sentences

@@ -12,6 +12,7 @@ pub mod Moves
 pub mod Run
 pub mod AtomicRun
 pub mod Calls
+pub mod Turns
 pub mod Suggestion
 pub mod Report
 pub mod Sentence

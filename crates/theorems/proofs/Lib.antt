@@ -40,6 +40,7 @@ pub mod CallLists
 pub mod Steps
 pub mod First
 pub mod Suggestions
+pub mod Turns
 pub mod Decimals
 pub mod Sentences
 pub mod Theorems

@@ -12,6 +12,8 @@ use Rattle.semantics.specs.Checks.Conditions.{ReadAsStated, TableNumbers, Missi
 use Rattle.semantics.specs.Checks.Answers.{AnswersReported, AnswersDiffer, ZeroIsAccepted}
 use Rattle.semantics.specs.Checks.CallLists.{CallBytes, CallsInTurn, CallsCut}
 use Rattle.semantics.specs.Checks.Steps.{StepCallsAsStated, StepCallNumbers, StepReplies, NodeOfKind1, StepIsCall}
+use Rattle.semantics.specs.Claims.Turns.{LaidThenWaiting, OneATurn, TurnsFall, TurnsEnd, WaitingFits, StackSuffices, LeaningNeedsItsWidth, CallsShowTurns, CallsShowTheOpening, TurnsRefusedAsChecked}
+use Rattle.semantics.specs.Checks.TurnExamples.{TurnExamples}
 use Rattle.semantics.specs.Claims.Shortages.{ShortageIsLowest, ShortageIsExact, EnoughIsIncluded, ReadLacksOne, FailuresTellTheirTest, FailuresAloneName, ShortagesAreSmall}
 use Rattle.semantics.specs.Checks.ShortageExamples.{ShortageExamples}
 use Rattle.semantics.specs.Claims.Sentences.{SentencesAreShort, SentencesArePrintable, SentencesTellApart}
@@ -58,6 +60,8 @@ use Rattle.theorems.proofs.RunConditions as OnRuns
 use Rattle.theorems.proofs.CallConditions as OnCalls
 use Rattle.theorems.proofs.CallLists as Turns
 use Rattle.theorems.proofs.Steps as OnSteps
+use Rattle.theorems.proofs.Turns as ByTurns
+use Rattle.semantics.proofs.TurnExamples as WorkedTurns
 use Rattle.theorems.proofs.ToldShort as Lacking
 use Rattle.semantics.proofs.ShortageExamples as WorkedShortages
 use Rattle.theorems.proofs.Suggestions as Suggesting
@@ -350,6 +354,41 @@ shortages-are-small = Lacking.shortages-are-small
 
 pub shortage-examples : ShortageExamples
 shortage-examples = WorkedShortages.shortage-examples
+
+-- ---- an opening turn by turn
+
+pub laid-then-waiting : LaidThenWaiting
+laid-then-waiting = ByTurns.laid-then-waiting
+
+pub one-a-turn : OneATurn
+one-a-turn = ByTurns.one-a-turn
+
+pub turns-fall : TurnsFall
+turns-fall = ByTurns.turns-fall
+
+pub turns-end : TurnsEnd
+turns-end = ByTurns.turns-end
+
+pub waiting-fits : WaitingFits
+waiting-fits = ByTurns.waiting-fits
+
+pub stack-suffices : StackSuffices
+stack-suffices = ByTurns.stack-suffices
+
+pub leaning-needs-its-width : LeaningNeedsItsWidth
+leaning-needs-its-width = ByTurns.leaning-needs-its-width
+
+pub calls-show-turns : CallsShowTurns
+calls-show-turns = ByTurns.calls-show-turns
+
+pub calls-show-the-opening : CallsShowTheOpening
+calls-show-the-opening = ByTurns.calls-show-the-opening
+
+pub turns-refused-as-checked : TurnsRefusedAsChecked
+turns-refused-as-checked = ByTurns.turns-refused-as-checked
+
+pub turn-examples : TurnExamples
+turn-examples = WorkedTurns.turn-examples
 
 -- ---- sentences
 
