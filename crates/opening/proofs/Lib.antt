@@ -1,2 +1,4 @@
-pub mod Components
+pub mod Processes
+pub mod Stack
 pub mod Opening
+pub mod Shown

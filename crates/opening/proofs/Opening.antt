@@ -16,7 +16,7 @@ use Rattle.buffer.proofs.Written.{filled}
 use Rattle.stored.specs.Layout.{channels, maxComponents, hallBytes, idleSize}
 use Rattle.storedlaws.specs.Positions.{allBytes}
 use Rattle.opening.specs.Opening.{componentsBytes, ComponentsFit, ComponentsWritten, ComponentsCounted, OpeningWritten}
-use Rattle.opening.proofs.Components.{opened-length, opened-fits}
+use Rattle.opening.proofs.Processes.{opened-length, opened-fits}
 
 module _ (d : List ℕ) (i : ℕ) where
   pub tokens-length : AProcess d i → channels ≡ length (tokensIn d)

@@ -10,16 +10,21 @@ use mathlib.Core.List.{List, map}
 use lib.ListN.{length, getElem?}
 use Rattle.semantics.specs.Definitions.Terms.{Program, Term, process, width}
 use Rattle.semantics.specs.Definitions.Table.{Table}
-use Rattle.semantics.specs.Definitions.Configuration.{idle, opens, opening}
+use Rattle.semantics.specs.Definitions.Configuration.{Idle, idle, opens, opening}
 use Rattle.semantics.specs.Definitions.Stored.{bytesOf}
 use Rattle.terms.specs.Decoded.{tokensIn, Decoded}
 use Rattle.buffer.specs.Splice.{written}
 use Rattle.stored.specs.Layout.{idleSize}
 use Rattle.storedlaws.specs.Positions.{allBytes}
 
--- the bytes of the components that a process opens into
+-- the bytes of components
+unfoldable pub idleBytes : List Idle → List ℕ
+idleBytes cs = allBytes (map idle cs)
+
+-- and of those that a process opens into
 unfoldable pub componentsBytes : Program → List ℕ
-componentsBytes P = allBytes (map idle (opens P))
+unfolding idleBytes
+componentsBytes P = idleBytes (opens P)
 
 -- process number i is one of some table that d decodes, and its components fit into the hall from an offset on: each
 -- takes two bytes, and there are at most as many as the process is wide

@@ -171,7 +171,7 @@ unfolding widths
 terms-narrow [] = omega arith
 terms-narrow (P ∷ Ps) = let h = width-some P in let g = terms-narrow Ps in omega arith
 
-alone-wide : (P : Program) → widths (P ∷ []) ≡ width P
+pub alone-wide : (P : Program) → widths (P ∷ []) ≡ width P
 unfolding widths
 alone-wide P = omega arith
 

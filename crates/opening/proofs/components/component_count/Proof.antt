@@ -2,8 +2,8 @@
 use native.Mathlib.Omega.{arith}
 use Rattle.opening.proofs.Opening.{process-fits, opened-counted}
 use borrow.Author.Needs.{needs}
-use Rattle.opening.proofs.component_count.Statement.{statement}
-use Rattle.opening.proofs.component_count.Tie as tie
+use Rattle.opening.proofs.components.component_count.Statement.{statement}
+use Rattle.opening.proofs.components.component_count.Tie as tie
 
 slice-aggregate-write-components : tie.Need-slice-aggregate-write-components
 slice-aggregate-write-components c = search needs

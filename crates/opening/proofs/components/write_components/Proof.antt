@@ -1,38 +1,18 @@
--- `write_components` meets its contract. Assumes nothing.
-use Rattle.opening.proofs.Components.{inside, is-single}
+-- `write_components` meets its contract: so many turns lay down all. Assumes nothing.
+use native.Mathlib.Omega.{arith}
+use Rattle.opening.proofs.Stack.{all-written}
 use borrow.Author.Needs.{needs}
-use Rattle.opening.proofs.write_components.Statement.{statement}
-use Rattle.opening.proofs.write_components.Tie as tie
+use Rattle.opening.proofs.components.write_components.Statement.{statement}
+use Rattle.opening.proofs.components.write_components.Tie as tie
 
-kind-of-requires : tie.Need-kind-of-requires
-kind-of-requires c κs = search inside
-
-write-sides-requires : tie.Need-write-sides-requires
-write-sides-requires c κs = search needs
+make-turns-requires : tie.Need-make-turns-requires
+make-turns-requires c κs = search needs
 
 same-length : tie.Need-same-length
 same-length c = search needs
 
 returns : tie.Need-returns
-returns c = search needs
-
-write-single-requires : tie.Need-write-single-requires
-write-single-requires c κs = (search needs, search is-single)
-
-same-length-2 : tie.Need-same-length-2
-same-length-2 c = search needs
-
-returns-2 : tie.Need-returns-2
-returns-2 c = search needs
+returns c = search (all-written, needs)
 
 pub write-components-spec : {M : Type 1} → statement M
-write-components-spec =
-    tie.close
-    (tie.spec
-    kind-of-requires
-    write-sides-requires
-    same-length
-    returns
-    write-single-requires
-    same-length-2
-    returns-2)
+write-components-spec = tie.close (tie.spec make-turns-requires same-length returns)

@@ -3,8 +3,8 @@ use native.Mathlib.Omega.{arith}
 use lib.ListN.{length-set}
 use Rattle.buffer.proofs.Written.{two-written}
 use borrow.Author.Needs.{needs}
-use Rattle.opening.proofs.write_idle.Statement.{statement}
-use Rattle.opening.proofs.write_idle.Tie as tie
+use Rattle.opening.proofs.components.write_idle.Statement.{statement}
+use Rattle.opening.proofs.components.write_idle.Tie as tie
 
 slice-write-hall : tie.Need-slice-write-hall
 slice-write-hall c = search needs

@@ -1,9 +1,9 @@
 -- `opening::write_single` meets its contract: at each need the law of its case.
 -- Assumes nothing.
-use Rattle.opening.proofs.Components.{one-fits, nothing-written, output-written, single-written, inside, number-fits}
+use Rattle.opening.proofs.Processes.{one-fits, nothing-written, output-written, single-written, inside, number-fits}
 use borrow.Author.Needs.{needs}
-use Rattle.opening.proofs.write_single.Statement.{statement}
-use Rattle.opening.proofs.write_single.Tie as tie
+use Rattle.opening.proofs.components.write_single.Statement.{statement}
+use Rattle.opening.proofs.components.write_single.Tie as tie
 
 kind-of-requires : tie.Need-kind-of-requires
 kind-of-requires c κs = search inside

@@ -1,0 +1,64 @@
+-- `show_turn` meets its contract. Assumes nothing.
+use native.Mathlib.Omega.{arith}
+use mathlib.Core.Path.{refl}
+use Rattle.opening.proofs.Opening.{process-fits}
+use Rattle.opening.proofs.Shown.{can-show, room-shown, past-shown, nothing-shown, component-shown}
+use borrow.Author.Needs.{needs}
+use Rattle.opening.proofs.turns.show_turn.Statement.{statement}
+use Rattle.opening.proofs.turns.show_turn.Tie as tie
+
+slice-aggregate-make-turns : tie.Need-slice-aggregate-make-turns
+slice-aggregate-make-turns c = search needs
+
+make-turns-requires : tie.Need-make-turns-requires
+make-turns-requires c κs = (process-fits _ _ _ _ (c .before .before .pre) (omega arith), search needs)
+
+returns : tie.Need-returns
+returns c = search past-shown
+
+slice-aggregate-turn : tie.Need-slice-aggregate-turn
+slice-aggregate-turn c = search needs
+
+turn-requires : tie.Need-turn-requires
+turn-requires c κs =
+    let made = c .before .before .before .before .before in
+    can-show _ _ _ _ _ _ _ _ _ (made .make-turns .ensures) (made .before .before .before .pre) (omega arith) (search needs)
+
+returns-2 : tie.Need-returns-2
+returns-2 c = search nothing-shown
+
+array-read-t19 : tie.Need-array-read-t19
+array-read-t19 c =
+    let made = c .before .before .before .before .before .before .before .before .before in
+    let room = room-shown _ _ _ _ _ _ _ _ _ (made .make-turns .ensures) (made .before .before .before .pre) (omega arith) (search needs) in omega arith
+
+add-t20 : tie.Need-add-t20
+add-t20 c =
+    let made = c .before .before .before .before .before .before .before .before .before in
+    let room = room-shown _ _ _ _ _ _ _ _ _ (made .make-turns .ensures) (made .before .before .before .pre) (omega arith) (search needs) in record { fits = omega arith }
+
+array-read-t23 : tie.Need-array-read-t23
+array-read-t23 c =
+    let made = c .before .before .before .before .before .before .before .before .before in
+    let room = room-shown _ _ _ _ _ _ _ _ _ (made .make-turns .ensures) (made .before .before .before .pre) (omega arith) (search needs) in omega arith
+
+returns-3 : tie.Need-returns-3
+returns-3 c =
+    let made = c .before .before .before .before .before .before .before .before .before in
+    let room = room-shown _ _ _ _ _ _ _ _ _ (made .make-turns .ensures) (made .before .before .before .pre) (omega arith) (search needs) in
+    component-shown _ _ _ _ _ _ _ _ _ (made .make-turns .ensures) (search needs) _ _ _ _ (c .before .before .before .turn .ensures) (search needs) (omega arith) _ refl _ refl
+
+pub show-turn-spec : {M : Type 1} → statement M
+show-turn-spec =
+    tie.close
+    (tie.spec
+    slice-aggregate-make-turns
+    make-turns-requires
+    returns
+    slice-aggregate-turn
+    turn-requires
+    returns-2
+    array-read-t19
+    add-t20
+    array-read-t23
+    returns-3)

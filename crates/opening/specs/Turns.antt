@@ -1,0 +1,79 @@
+-- Opening turn by turn in bytes: the terms that wait on the stack, and what turns leave there and lay down in a lent hall.
+--
+-- d is a decoded table; i is the number of a process.
+-- Assumes nothing.
+use Prim.Native.Nat.{ℕ, suc, _+_, _*_, _≤_}
+use mathlib.Core.Path.{_≡_}
+use mathlib.Core.Option.{none, some}
+use mathlib.Core.List.{List, [], _∷_}
+use lib.ListN.{length, getD, getElem?}
+use Rattle.semantics.specs.Definitions.Terms.{Program, Term, process}
+use Rattle.semantics.specs.Definitions.Configuration.{Idle, idle}
+use Rattle.semantics.specs.Definitions.Turns.{turn, waitingAfter, listed, laidBy, TurnAnswer, lays, pastEnd, notTurned, showNext}
+use Rattle.semantics.specs.Definitions.Stored.{componentBytes}
+use Rattle.theorems.proofs.Turns.{widths}
+use Rattle.terms.specs.Decoded.{Decoded}
+use Rattle.buffer.specs.Splice.{written}
+use Rattle.stored.specs.Layout.{idleSize, maxComponents}
+use Rattle.opening.specs.Opening.{idleBytes}
+use Rattle.opening.specs.declared.turns.Shown.{Shown}
+use Rattle.opening.specs.declared.turns.Shown.the-variants as shown
+
+-- the first n entries of a stack, from the last one down, are the numbers of these processes
+abbrev pub Waiting : List Term → (stack : List ℕ) (n : ℕ) → List Program → Type 0
+Waiting ts stack n [] = n ≡ 0
+Waiting ts stack n (P ∷ Ps) =
+    (m : ℕ) × (n ≡ suc m) × (getElem? ts (getD stack m 0) ≡ some (process P)) × Waiting ts stack m Ps
+
+-- these components stand in the hall from an offset on, up to another, and all else is as it was before
+pub record LaidDown (cs : List Idle) (before : List ℕ) (from : ℕ) (after : List ℕ) (to : ℕ) : Type 0 where
+  pub end : to ≡ from + length (idleBytes cs)
+  pub bytes : after ≡ written before from (idleBytes cs) (length (idleBytes cs))
+
+-- some terms of a table that d decodes wait, no wider in all than a process may be, and what they open into fits into
+-- the hall from an offset on
+pub record CanTurn (d : List ℕ) (stack : List ℕ) (n : ℕ) (hall : List ℕ) (from : ℕ) : Type 0 where
+  pub terms : List Term
+  pub next : Program
+  pub rest : List Program
+  pub decoded : Decoded terms d
+  pub waiting : Waiting terms stack n (next ∷ rest)
+  pub sized : length stack ≡ maxComponents
+  pub narrow : widths (next ∷ rest) ≤ maxComponents
+  pub fits : from + idleSize * widths (next ∷ rest) ≤ length hall
+
+-- of any terms that wait: those wait that a turn leaves, and what it lays down stands in the hall
+pub record TurnMade (d : List ℕ) (stack : List ℕ) (n : ℕ) (hall : List ℕ) (from : ℕ)
+    (stack′ : List ℕ) (n′ : ℕ) (hall′ : List ℕ) (to : ℕ) : Type 0 where
+  pub sized : length stack′ ≡ length stack
+  pub found : (ts : List Term) (P : Program) (Ps : List Program) → Decoded ts d → Waiting ts stack n (P ∷ Ps) →
+      Waiting ts stack′ n′ (turn P Ps .waiting) × LaidDown (listed (turn P Ps .laid)) hall from hall′ to
+
+-- of any table that d decodes: after so many turns from process number i on those terms wait that they leave, and what
+-- they lay down stands in the hall
+pub record TurnsMade (d : List ℕ) (i turns : ℕ) (hall : List ℕ) (from : ℕ)
+    (stack : List ℕ) (n : ℕ) (hall′ : List ℕ) (to : ℕ) : Type 0 where
+  pub sized : length stack ≡ maxComponents
+  pub found : (ts : List Term) (P : Program) → Decoded ts d → getElem? ts i ≡ some (process P) →
+      Waiting ts stack n (waitingAfter turns (P ∷ [])) × LaidDown (laidBy turns (P ∷ [])) hall from hall′ to
+
+-- ---- a turn that is shown
+
+-- the two bytes of a component
+unfoldable pub kindIn : Idle → ℕ
+kindIn c = getD (componentBytes (idle c)) 0 0
+
+unfoldable pub bodyIn : Idle → ℕ
+bodyIn c = getD (componentBytes (idle c)) 1 0
+
+-- the next turn of some terms in those bytes; it is never refused
+unfoldable pub shownFor : TurnAnswer → Shown
+shownFor (lays (some c) n) = shown.Component (kindIn c) (bodyIn c) n
+shownFor (lays none n) = shown.Nothing n
+shownFor pastEnd = shown.PastEnd
+shownFor (notTurned n p) = shown.PastEnd
+
+-- of any table that d decodes, the turn of this number in the opening of process number i is shown
+pub record TurnShown (d : List ℕ) (i number : ℕ) (r : Shown) : Type 0 where
+  pub found : (ts : List Term) (P : Program) → Decoded ts d → getElem? ts i ≡ some (process P) →
+      r ≡ shownFor (showNext (waitingAfter number (P ∷ [])))

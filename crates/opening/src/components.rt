@@ -1,0 +1,68 @@
+// The components (stations) of a process: one written, all of them written, all of them counted.
+use crate::turns::MAX_TURNS;
+use crate::turns::STACK;
+use crate::turns::make_turns;
+use records::NIL;
+use records::PUT;
+use stored::COMPONENT_BODY;
+use stored::IDLE_SIZE;
+use stored::KIND_OUTPUT;
+use stored::KIND_WAITING;
+use stored::MAX_COMPONENTS;
+use terms::DECODED;
+ghost use mathlib.Core.Path.{_≡_};
+ghost use mathlib.Core.List.{[], _∷_};
+ghost use Prim.Native.Nat.{_+_, _≤_};
+ghost use lib.ListN.{length};
+ghost use Rattle.buffer.specs.Splice.{written};
+ghost use Rattle.stored.specs.Layout.{idleSize};
+ghost use Rattle.records.specs.Shapes.{kindByte};
+ghost use Rattle.semantics.specs.Definitions.Table.{parK};
+ghost use Rattle.terms.specs.Decoded.{kindAt, AProcess};
+ghost use Rattle.opening.specs.Opening.{ComponentsFit, ComponentsWritten, ComponentsCounted};
+
+// A component of two bytes, at an offset: the answer is the offset behind it.
+pub fn write_idle(hall: &mut [u8], at: usize, kind: u8, body: u8) -> usize
+    requires { ⌜ at + idleSize ≤ length (now hall) ⌝ }
+    ensures { λ r. ⌜ r ≡ at + idleSize ⌝ }
+    ensures { λ _. ⌜ now (hall .exit) ≡ written (now (hall .entry)) at (kind ∷ body ∷ []) idleSize ⌝ }
+{
+    hall[at] = kind;
+    hall[at + COMPONENT_BODY] = body;
+    at + IDLE_SIZE
+}
+
+// The component of a process that is not two side by side, if it opens into one, at an offset: the answer is the offset
+// behind it.
+pub fn write_single(decoded: &[u8; DECODED], term: usize, hall: &mut [u8], at: usize) -> usize
+    requires { ⌜ ComponentsFit (now decoded) term (now hall) at ⌝ }
+    requires { ⌜ (kindAt (now decoded) term ≡ kindByte parK → ⊥) ⌝ }
+    ensures { λ r. ⌜ ComponentsWritten (now (decoded .entry)) term (now (hall .entry)) at (now (hall .exit)) r ⌝ }
+{
+    match terms::kind_of(decoded, term) {
+        NIL => at,
+        PUT => write_idle(hall, at, KIND_OUTPUT, terms::first_of(decoded, term)),
+        _ => write_idle(hall, at, KIND_WAITING, term as u8),
+    }
+}
+
+// The components of the process at a term number, from an offset on, from left to right: the answer is the offset
+// behind them.
+pub fn write_components(decoded: &[u8; DECODED], term: usize, hall: &mut [u8], at: usize) -> usize
+    requires { ⌜ ComponentsFit (now decoded) term (now hall) at ⌝ }
+    ensures { λ r. ⌜ ComponentsWritten (now (decoded .entry)) term (now (hall .entry)) at (now (hall .exit)) r ⌝ }
+{
+    let mut stack = [0u8; STACK];
+    let turned = make_turns(decoded, term, MAX_TURNS, &mut stack, hall, at);
+    turned.end
+}
+
+// How many components the process at a term number opens into: written into a buffer, and counted there. A process is
+// at most as wide as a hall has components.
+pub fn component_count(decoded: &[u8; DECODED], term: usize) -> usize
+    requires { ⌜ AProcess (now decoded) term ⌝ }
+    ensures { λ r. ⌜ ComponentsCounted (now (decoded .entry)) term r ⌝ }
+{
+    let mut opened = [0u8; IDLE_SIZE * MAX_COMPONENTS];
+    write_components(decoded, term, &mut opened, 0) / IDLE_SIZE
+}
