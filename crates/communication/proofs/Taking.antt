@@ -29,7 +29,7 @@ use Rattle.stored.specs.Layout.{channels, idleSize, componentBody, waitingKind}
 use Rattle.storedlaws.specs.Positions.{allBytes}
 use Rattle.storedlaws.proofs.Configurations.{all-bytes-append}
 use Rattle.opening.specs.Opening.{componentsBytes, ComponentsFit, ComponentsWritten, ComponentsCounted}
-use Rattle.opening.proofs.Components.{opened-fits}
+use Rattle.opening.proofs.Processes.{opened-fits}
 use Rattle.rules.specs.declared.Reply.{Reply}
 use Rattle.rules.specs.declared.Shortage.the-variants.{Enough}
 use Rattle.rules.specs.declared.Reply.the-variants.{Moved, Refused}

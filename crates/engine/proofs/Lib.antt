@@ -2,3 +2,4 @@ pub mod Admitted
 pub mod Calls
 pub mod Opening
 pub mod Verdicts
+pub mod Turning

@@ -2,6 +2,7 @@
 -- Assumes nothing.
 use Prim.Native.Nat.{ℕ, _<_}
 use mathlib.Core.Path.{_≡_}
+use mathlib.Core.Option.{none, some}
 use mathlib.Core.List.{List, [], _∷_}
 use lib.ListN.{length}
 use Rattle.semantics.specs.Definitions.Shortage.{enough}
@@ -13,8 +14,11 @@ use Rattle.semantics.specs.Definitions.Calls.{Verdict, ok, rejected, Opening, o
 use Rattle.semantics.specs.Definitions.Suggestion.{suggested, still, notSuggested}
 use Rattle.semantics.specs.Definitions.Suggestion as suggestion
 use Rattle.semantics.specs.Definitions.Calls as calls
+use Rattle.semantics.specs.Definitions.Turns.{lays, pastEnd, notTurned}
+use Rattle.semantics.specs.Definitions.Turns as turns
 use Rattle.theorems.proofs.Steps.{answered}
 use Rattle.terms.specs.Decoded.{Decoded}
+use Rattle.opening.specs.Turns.{kindIn, bodyIn}
 use Rattle.index.specs.Holds.{Holds}
 use Rattle.rules.specs.Replies.{shortageIs}
 use Rattle.counters.specs.declared.Counters as counters
@@ -28,6 +32,8 @@ use Rattle.engine.specs.declared.steps.StepAnswer.{StepAnswer}
 use Rattle.engine.specs.declared.steps.StepAnswer.the-variants as step
 use Rattle.engine.specs.declared.suggests.SuggestAnswer.{SuggestAnswer}
 use Rattle.engine.specs.declared.suggests.SuggestAnswer.the-variants as suggest
+use Rattle.engine.specs.declared.turns.TurnAnswer.{TurnAnswer}
+use Rattle.engine.specs.declared.turns.TurnAnswer.the-variants as turn
 
 -- ---- opening
 
@@ -92,3 +98,12 @@ unfoldable pub suggestAnswerOf : SuggestAnswer → suggestion.SuggestAnswer
 suggestAnswerOf (suggest.Suggested e) = suggested (entryOf e)
 suggestAnswerOf suggest.Still = still
 suggestAnswerOf (suggest.Refused n p) = notSuggested n p
+
+-- ---- a turn of an opening
+
+-- each answer of the definitions as the case that says it, a component in its two bytes
+unfoldable pub turnAnswerFor : turns.TurnAnswer → TurnAnswer
+turnAnswerFor (lays (some c) n) = turn.Component (kindIn c) (bodyIn c) n
+turnAnswerFor (lays none n) = turn.Nothing n
+turnAnswerFor pastEnd = turn.PastEnd
+turnAnswerFor (notTurned n p) = turn.Refused n p

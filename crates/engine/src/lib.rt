@@ -1,10 +1,11 @@
 // The calls on a table's bytes and a lent hall: opening it, checking it, running a schedule on it, making one choice on
-// it, and suggesting one. None asks anything of what it is lent.
+// it, and suggesting one; and showing a turn of a table's opening. None asks anything of what it is lent.
 mod checks;
 mod opens;
 mod running;
 mod steps;
 mod suggests;
+mod turns;
 
 pub use checks::HallVerdict;
 pub use checks::check_hall;
@@ -17,3 +18,5 @@ pub use steps::StepAnswer;
 pub use steps::step;
 pub use suggests::SuggestAnswer;
 pub use suggests::suggest;
+pub use turns::TurnAnswer;
+pub use turns::opening_turn;

@@ -1,9 +1,10 @@
 -- How a call answers C: the returned number, and all else that was set. A tally is three numbers, a suggestion three
--- bytes, a shortage two.
+-- bytes, a shortage and a station just laid down two.
 -- Assumes nothing.
 use Prim.Native.Nat.{ℕ}
 use mathlib.Core.Path.{_≡_}
 use mathlib.Core.Bool.{Bool, not, _&&_}
+use mathlib.Core.Option.{none, some}
 use mathlib.Core.List.{List, [], _∷_}
 use lib.ListN.{getD}
 use lib.Dec.{eqb}
@@ -11,6 +12,9 @@ use Rattle.semantics.specs.Definitions.Shortage.{Shortage, enough, short}
 use Rattle.semantics.specs.Definitions.Moves.{Entry, act, inside, Reply}
 use Rattle.semantics.specs.Definitions.Run.{Counters}
 use Rattle.semantics.specs.Definitions.Calls.{Verdict, verdictNumber, verdictPlace, Opening, openVerdict, Buffers, RunCall, StepCall}
+use Rattle.semantics.specs.Definitions.Configuration.{idle}
+use Rattle.semantics.specs.Definitions.Stored.{componentBytes}
+use Rattle.semantics.specs.Definitions.Turns.{TurnAnswer, lays, pastEnd, notTurned}
 use Rattle.semantics.specs.Definitions.Suggestion.{SuggestAnswer, suggested, still, notSuggested}
 use Rattle.semantics.specs.Definitions.Sentence.{SentenceAnswer, told, notTold, SentenceCall}
 use Rattle.sentences.specs.Answers.{shortageFrom, replyIn}
@@ -27,6 +31,47 @@ VerdictAnswered v returned p = VerdictSet (verdictNumber v) (verdictPlace v) ret
 pub record OpeningAnswered (o : Opening) (returned set : ℕ) (hall : List ℕ) : Type 0 where
   pub verdict : VerdictAnswered (openVerdict (o .answer)) returned set
   pub bytes : hall ≡ o .hall
+
+-- ---- a turn of an opening
+
+-- whether it lays down nothing, a station, or is past the end
+abbrev pub turnLaid : TurnAnswer → ℕ
+turnLaid (lays none n) = 0
+turnLaid (lays (some c) n) = 1
+turnLaid pastEnd = 2
+turnLaid (notTurned n p) = 0
+
+-- the station's bytes in a hall, kind and body; 0 0 where there is none
+abbrev pub turnStation : TurnAnswer → List ℕ
+turnStation (lays none n) = 0 ∷ 0 ∷ []
+turnStation (lays (some c) n) = componentBytes (idle c)
+turnStation pastEnd = 0 ∷ 0 ∷ []
+turnStation (notTurned n p) = 0 ∷ 0 ∷ []
+
+-- how many terms are left to open; no number and no place but those of a refusal
+abbrev pub turnLeft : TurnAnswer → ℕ
+turnLeft (lays c n) = n
+turnLeft pastEnd = 0
+turnLeft (notTurned n p) = 0
+
+abbrev pub turnNumber : TurnAnswer → ℕ
+turnNumber (lays c n) = 0
+turnNumber pastEnd = 0
+turnNumber (notTurned n p) = n
+
+abbrev pub turnPlace : TurnAnswer → ℕ
+turnPlace (lays c n) = 0
+turnPlace pastEnd = 0
+turnPlace (notTurned n p) = p
+
+pub record TurnAnswered (a : TurnAnswer) (returned p laid : ℕ) (station : List ℕ) (left : ℕ) : Type 0 where
+  pub number : returned ≡ turnNumber a
+  pub place : p ≡ turnPlace a
+  pub laid-down : laid ≡ turnLaid a
+  pub bytes : station ≡ turnStation a
+  pub left-open : left ≡ turnLeft a
+
+-- ---- a tally
 
 -- commits, failed, retries, in this order
 abbrev pub tallyWords : Counters → List ℕ

@@ -4,13 +4,15 @@
 // A `&[u8]` is passed as a pointer and a length, a `&mut` of a number or of an array as a pointer to what the call
 // sets. An enum does not pass to C: a call returns the number, 0 for none, and sets the rest in every case. A tally is
 // three numbers: commits, failed, retries; runs and steps count on from what it holds. A suggestion is three bytes:
-// kind, position, node; a shortage is two: a tray and by how many, 0 0 for none. Only a sentence that is refused sets
-// nothing: its buffer and its length stay as they were.
+// kind, position, node; a shortage is two: a tray and by how many, 0 0 for none; a station just laid down is two: its
+// kind and its body, as they stand in a hall. Only a sentence that is refused sets nothing: its buffer and its length
+// stay as they were.
 use counters::Counters;
 use engine::HallVerdict;
 use engine::OpenAnswer;
 use engine::StepAnswer;
 use engine::SuggestAnswer;
+use engine::TurnAnswer;
 use report::OUTPUT;
 use rules::Shortage;
 use runs::numbers_of;
@@ -24,6 +26,7 @@ ghost use mathlib.Core.List.{[], _∷_};
 ghost use Prim.Native.Nat.{_≤_};
 ghost use Rattle.semantics.specs.Definitions.Run.{freshCounters};
 ghost use Rattle.semantics.specs.Definitions.Calls.{checkTable, checkHall, openHall, runCall, stepCall};
+ghost use Rattle.semantics.specs.Definitions.Turns.{turnCall};
 ghost use Rattle.semantics.specs.Definitions.Suggestion.{suggestCall};
 ghost use Rattle.semantics.specs.Definitions.Report.{printedRun};
 ghost use Rattle.semantics.specs.Definitions.Sentence.{sentenceCall};
@@ -32,7 +35,7 @@ ghost use Rattle.rules.specs.Replies.{shortageIs};
 ghost use Rattle.counters.specs.Counted.{countersOf};
 ghost use Rattle.schedule.specs.Entries.{entryOf};
 ghost use Rattle.sections.specs.Limits.{linesMost};
-ghost use Rattle.ruonfidd.specs.Answered.{VerdictAnswered, OpeningAnswered, tallyWords, countersIn, buffersIn, RunAnswered, shortageWords, StepAnswered, choiceWords, SuggestionAnswered, tellsShort, replyFrom, SentenceAnswered};
+ghost use Rattle.ruonfidd.specs.Answered.{VerdictAnswered, OpeningAnswered, TurnAnswered, tallyWords, countersIn, buffersIn, RunAnswered, shortageWords, StepAnswered, choiceWords, SuggestionAnswered, tellsShort, replyFrom, SentenceAnswered};
 
 // Whether a table is accepted: 0, and place 0; or the number of the first refusal, and its place.
 #[no_mangle]
@@ -60,6 +63,58 @@ pub extern "C" fn ruonfidd_open_hall(table: &[u8], hall: &mut [u8], place: &mut 
     match engine::open_hall(table, hall) {
         OpenAnswer::Opened(_) => 0,
         OpenAnswer::Refused { number, place: at } => {
+            *place = at;
+            number
+        }
+    }
+}
+
+// What a turn of a table's opening laid down.
+const LAID_NOTHING: u8 = 0;
+
+const LAID_STATION: u8 = 1;
+
+const LAID_PAST_END: u8 = 2;
+
+// Shows a turn, counted from 0, of the opening of a table: 0, place 0, whether it lays down a station, the station, 0 0
+// where there is none, and how many terms are then left to open; past the end none. Or the number of the first refusal of
+// the table and its place, with all else 0.
+#[no_mangle]
+pub extern "C" fn ruonfidd_opening_turn(
+    table: &[u8],
+    turn: usize,
+    laid: &mut u8,
+    station: &mut [u8; 2],
+    left: &mut usize,
+    place: &mut usize,
+) -> u8
+    ensures { λ r. ⌜ TurnAnswered (turnCall (now (table .entry)) turn) r (now (place .exit)) (now (laid .exit))
+        (now (station .exit)) (now (left .exit)) ⌝ }
+{
+    *place = 0;
+    *laid = LAID_NOTHING;
+    *station = [0, 0];
+    *left = 0;
+    match engine::opening_turn(table, turn) {
+        TurnAnswer::Component {
+            kind,
+            body,
+            left: waiting,
+        } => {
+            *laid = LAID_STATION;
+            *station = [kind, body];
+            *left = waiting;
+            0
+        }
+        TurnAnswer::Nothing { left: waiting } => {
+            *left = waiting;
+            0
+        }
+        TurnAnswer::PastEnd => {
+            *laid = LAID_PAST_END;
+            0
+        }
+        TurnAnswer::Refused { number, place: at } => {
             *place = at;
             number
         }
