@@ -13,6 +13,7 @@ use crate::sentence::{sentence, Reply, SENTENCE_ROOM};
 use crate::shortage::Shortage;
 use crate::suggestion::suggestion;
 use crate::table::{read_table, Refusal, Table};
+use crate::turns::{turn_of, Turn};
 
 /// A number (0 for none) and a place.
 #[derive(Clone, Copy, Debug, PartialEq, Eq)]
@@ -84,6 +85,17 @@ pub fn open(table: &[u8], hall: &mut [u8]) -> Result<Tally, Refusal> {
     test_hall_length(hall)?;
     hall.copy_from_slice(&encode(&opening(&table)));
     Ok(Tally::FRESH)
+}
+
+/// The turn with this number, counted from 0, of the opening of a table's start
+/// process (document 02, Q-4). Every number is allowed: one without a turn is
+/// past the end.
+///
+/// # Errors
+///
+/// Refusals 1 to 9.
+pub fn opening_turn(table: &[u8], number: usize) -> Result<Turn, Refusal> {
+    Ok(turn_of(&read_table(table)?, number))
 }
 
 /// Runs choices. Under refusals 1 to 11 hall and tally stay as they are; under

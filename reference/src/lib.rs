@@ -2,8 +2,9 @@
 //!
 //! It was written from the papers and shares no code with the engine. It is
 //! there to be compared with it: for the same bytes both must give the same
-//! answers, the same shortage, the same hall, the same tally, the same
-//! suggestion, the same printed lines and the same sentences.
+//! answers, the same shortage, the same hall, the same turns of its opening, the
+//! same tally, the same suggestion, the same printed lines and the same
+//! sentences.
 //!
 //! It aims to be easy to read against document 01, the scope, and not to be
 //! fast. Comments name the section of that document which a piece of code
@@ -13,6 +14,7 @@
 //! |---|---|
 //! | [`table`] | reading a rule table, its measures |
 //! | [`hall`] | the hall as plain data, and its stored form |
+//! | [`turns`] | the opening as a loop, turn by turn |
 //! | [`choice`] | one choice and its bytes |
 //! | [`shortage`] | the tray that was short, and by how many |
 //! | [`moves`] | what one choice does to a hall |
@@ -48,3 +50,4 @@ pub mod shortage;
 pub mod stands_for;
 pub mod suggestion;
 pub mod table;
+pub mod turns;

@@ -17,3 +17,4 @@ mod shortages;
 mod steps;
 mod stored_halls;
 mod suggestions;
+mod turns;
