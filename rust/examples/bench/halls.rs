@@ -19,6 +19,22 @@ fn puts(doublings: usize) -> Vec<u8> {
     table.start(all)
 }
 
+/// A start term of 64 puts, each to the right of all before it.
+fn leaning_left() -> Vec<u8> {
+    let mut table = Builder::new();
+    let put = table.put(0);
+    let all = table.copies(put, 64);
+    table.start(all)
+}
+
+/// The same the other way round.
+fn leaning_right() -> Vec<u8> {
+    let mut table = Builder::new();
+    let put = table.put(0);
+    let all = (1..64).fold(put, |all, _| table.side_by_side(put, all));
+    table.start(all)
+}
+
 /// One block of an end.
 fn block() -> Vec<u8> {
     let mut table = Builder::new();
@@ -79,6 +95,8 @@ pub(crate) fn print() {
     print_part("opening and checking a hall, the table's reading included");
     opening("open, width 1", &puts(0));
     opening("open, width 64", &puts(6));
+    opening("open, width 64, leaning to the left", &leaning_left());
+    opening("open, width 64, leaning to the right", &leaning_right());
     checking("check, 4 small stations", vec![small.clone(); 4]);
     checking("check, 64 small stations", vec![small; 64]);
     checking("check, 64 full attempts", vec![full_attempt(); 64]);

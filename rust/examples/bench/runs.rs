@@ -3,7 +3,8 @@
 //! A long list is run in one call, from a hall that is copied before each call;
 //! the copy is part of the figure, which is for one choice. Calls of one choice
 //! each follow one another on one hall, by choices that lead back to where they
-//! began; the figure is for one call.
+//! began; the figure is for one call. Where no choice leads back, one choice is
+//! run as a list is, from a copy.
 
 use std::hint::black_box;
 
@@ -94,10 +95,21 @@ impl Workload {
 
     /// One call with all choices.
     fn long(&self) {
+        self.run_on_copies(&format!("{}, {} choices", self.name, self.count));
+    }
+
+    /// One call with the one choice that there is.
+    fn once(&self) {
+        assert_eq!(self.count, 1, "{}", self.name);
+        self.run_on_copies(self.name);
+    }
+
+    /// One call with all choices, each time on a copy of the hall.
+    fn run_on_copies(&self, name: &str) {
         let (mut hall, mut hall_of_second) = (self.hall.clone(), self.hall.clone());
         let (mut tally, mut tally_of_second) = (Tally::fresh(), SecondTally::FRESH);
         print_row_per(
-            &format!("{}, {} choices", self.name, self.count),
+            name,
             ROUNDS,
             self.count,
             &mut || {
@@ -380,6 +392,55 @@ fn large_table() -> Workload {
     Workload::new("a table of 200 terms", table, hall, &cycle)
 }
 
+/// One station takes a token and opens into 64 that put.
+fn wide_take(name: &'static str, puts: fn(&mut Builder, u8) -> u8) -> Workload {
+    let mut table = Builder::new();
+    let put = table.put(0);
+    let all = puts(&mut table, put);
+    let take = table.take(0, all);
+    table.tokens(0, 1);
+    let table = table.start(take);
+    let hall = opened(&table);
+    Workload::new(name, table, hall, &[act(0)])
+}
+
+/// A take of 64 puts in pairs of pairs.
+fn balanced_take() -> Workload {
+    wide_take("64 puts, balanced", |table, put| {
+        (0..6).fold(put, |all, _| table.side_by_side(all, all))
+    })
+}
+
+/// A take of 64 puts, each beside all before it.
+fn leaning_take() -> Workload {
+    wide_take("64 puts, leaning to the left", |table, put| {
+        table.copies(put, 64)
+    })
+}
+
+/// A repeated take of 63 nils and a put, in pairs of pairs: 64 terms are opened
+/// and one station is laid down, which puts the token back.
+fn mostly_nils() -> Workload {
+    let mut table = Builder::new();
+    let put = table.put(0);
+    let mut nils = table.nil();
+    let mut all = table.side_by_side(nils, put);
+    for _ in 0..5 {
+        nils = table.side_by_side(nils, nils);
+        all = table.side_by_side(nils, all);
+    }
+    let take = table.repeated_take(0, all);
+    table.tokens(0, 1);
+    let table = table.start(take);
+    let hall = opened(&table);
+    Workload::new(
+        "63 nils and a put, repeated",
+        table,
+        hall,
+        &[act(0), act(0)],
+    )
+}
+
 pub(crate) fn print() {
     print_part("a choice of a long list, its share of the call included");
     ring().cycling(500).long();
@@ -393,6 +454,10 @@ pub(crate) fn print() {
     full("a full hall, at its last station", 63).single();
     full("a full hall, at its first station", 0).single();
     large_table().single();
+    print_part("a take of what is 64 wide: one choice on a copied hall, a choice of a long list");
+    balanced_take().once();
+    leaning_take().once();
+    mostly_nils().cycling(1_000).long();
     print_part("a suggestion, beside the second implementation's");
     ring().suggest();
     last_of_many().suggest();
