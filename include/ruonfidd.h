@@ -8,9 +8,9 @@
  *
  * Each call but ruonfidd_fresh_tally and ruonfidd_report returns a number, 0 where nothing is
  * refused.  Whatever is returned, it has set every number that it was given a pointer to, and all
- * bytes of a choice or a shortage: none has to be set beforehand but the tally, which runs and steps
- * count on from.  The one exception is ruonfidd_sentence, which leaves its length as it was where it
- * refuses.
+ * bytes of a choice, a shortage or a station: none has to be set beforehand but the tally, which runs
+ * and steps count on from.  The one exception is ruonfidd_sentence, which leaves its length as it was
+ * where it refuses.
  * Any bytes may be handed in; there are none on which a call does not end, stops the program, or
  * reads or writes past what it was lent.  A call keeps nothing for the next one, allocates nothing
  * and needs a few KB of stack, ruonfidd_report some 20.  The same bytes always get the same answer.
@@ -50,7 +50,7 @@
  *
  * - A pointer and a length are those of memory that may be read, and written where the pointer is
  *   not const.  A null pointer is allowed only with length 0.  Pointers to numbers, to a tally, to
- *   a choice and to a shortage are never null.
+ *   a choice, to a shortage and to a station are never null.
  * - No two buffers of one call overlap, the numbers that it sets included.  (Two that are only read
  *   may.)
  * - While a call is at work, no other thread writes what it was lent, and none reads what it writes.
@@ -86,6 +86,29 @@ uint8_t ruonfidd_check_table(const uint8_t *table, size_t table_length, size_t *
  * Refused: 1 to 10, and the place; no byte of the hall is changed. */
 uint8_t ruonfidd_open_hall(const uint8_t *table, size_t table_length, uint8_t *hall,
                            size_t hall_length, size_t *place);
+
+/* What a turn of an opening has laid down. */
+#define RUONFIDD_LAID_NOTHING 0
+#define RUONFIDD_LAID_STATION 1
+#define RUONFIDD_LAID_PAST_END 2
+
+/* Shows one turn of a table's opening: what it lays down, and how many terms are then left to open.
+ *
+ * Stations are laid down by turns, over the terms still to open, at first the start term alone.  A turn
+ * takes the next of them.  A nil lays down nothing.  Two side by side lay down nothing and give way to
+ * their sides, the left one next, then the right one.  Any other process lays down its one station.  So
+ * the stations come in the order of the hall, at most one a turn; a start term of width w takes 2w - 1
+ * turns, and never more than w terms are left.
+ * turn: counted from 0; any number is taken.
+ * laid: RUONFIDD_LAID_NOTHING, RUONFIDD_LAID_STATION, or RUONFIDD_LAID_PAST_END where the opening has no
+ * such turn.
+ * station: the station laid down, by the two bytes that it has in the hall: 20 and the number of its
+ * term, or 24 and its tray.  0, 0 where none is laid down.
+ * left: how many terms are left to open after the turn; 0 past the end.
+ * Not refused: 0, place 0.  Refused: 1 to 9, and the place; nothing is laid down or left.
+ * Only the table is read: there need be no hall. */
+uint8_t ruonfidd_opening_turn(const uint8_t *table, size_t table_length, size_t turn, uint8_t *laid,
+                              uint8_t station[2], size_t *left, size_t *place);
 
 /* Checks a stored hall.
  *

@@ -29,6 +29,15 @@ mod library {
             hall_length: usize,
             place: *mut usize,
         ) -> u8;
+        pub(super) fn ruonfidd_opening_turn(
+            table: *const u8,
+            length: usize,
+            turn: usize,
+            laid: *mut u8,
+            station: *mut [u8; 2],
+            left: *mut usize,
+            place: *mut usize,
+        ) -> u8;
         pub(super) fn ruonfidd_check_hall(
             table: *const u8,
             length: usize,
@@ -110,6 +119,36 @@ pub fn open_hall(table: &[u8], hall: &mut [u8], place: &mut usize) -> u8 {
             table.len(),
             hall.as_mut_ptr(),
             hall.len(),
+            place,
+        )
+    }
+}
+
+/// One turn of a table's opening; turns count from 0.
+///
+/// The number, and in `place` the place: 0 where the number is 0. In `laid` 0
+/// where nothing is laid down, 1 where a station is, 2 where there is no such
+/// turn; in `station` the two bytes of that station, 0 and 0 for none; in `left`
+/// how many terms are left to open then. What is not said is 0.
+pub fn opening_turn(
+    table: &[u8],
+    turn: usize,
+    laid: &mut u8,
+    station: &mut [u8; 2],
+    left: &mut usize,
+    place: &mut usize,
+) -> u8 {
+    // SAFETY: the pointer and the length are those of one slice, which the call
+    // only reads; all that is written is the caller's alone meanwhile. The call
+    // keeps none of them.
+    unsafe {
+        library::ruonfidd_opening_turn(
+            table.as_ptr(),
+            table.len(),
+            turn,
+            laid,
+            station,
+            left,
             place,
         )
     }
@@ -268,8 +307,8 @@ pub fn sentence(
 
 #[cfg(test)]
 mod tests {
-    use super::sentence;
     use super::{check_hall, check_table, fresh_tally, open_hall, report, run, step, suggest};
+    use super::{opening_turn, sentence};
     use crate::{HALL_BYTES, REPORT_BYTES, SENTENCE_BYTES};
 
     const TABLE: [u8; 14] = [7, 10, 1, 0, 9, 0, 1, 6, 2, 12, 0, 1, 13, 3];
@@ -339,6 +378,55 @@ mod tests {
         sets_the_place(|at| open_hall(&TABLE[..13], hall, at), 2, 12);
         sets_the_place(|at| open_hall(&TABLE[..12], hall, at), 9, 12);
         assert!(hall.iter().all(|byte| *byte == 170));
+    }
+
+    /// A turn sets these, each between two guards, and leaves the table.
+    #[track_caller]
+    fn turn_sets(
+        table: &[u8],
+        turn: usize,
+        (number, place): (u8, usize),
+        (laid, station, left): (u8, [u8; 2], usize),
+    ) {
+        let before = table.to_vec();
+        let mut all_laid = [99; 3];
+        let mut stations = [[88, 99]; 3];
+        let mut lefts = [usize::MAX; 3];
+        let set = (&mut all_laid[1], &mut stations[1], &mut lefts[1]);
+        sets_the_place(
+            |at| opening_turn(table, turn, set.0, set.1, set.2, at),
+            number,
+            place,
+        );
+        assert_eq!(all_laid, [99, laid, 99], "turn {turn}");
+        assert_eq!(stations, [[88, 99], station, [88, 99]], "turn {turn}");
+        assert_eq!(lefts, [usize::MAX, left, usize::MAX], "turn {turn}");
+        assert_eq!(table, before);
+    }
+
+    #[test]
+    fn a_turn_sets_laid_station_left_and_place_and_nothing_beside_them() {
+        const NONE: [u8; 2] = [0, 0];
+        turn_sets(&TABLE, 0, (0, 0), (1, [20, 3], 0));
+        turn_sets(&TABLE, 1, (0, 0), (2, NONE, 0));
+        // A put into tray 7 beside a nil.
+        let table = [1, 2, 7, 5, 1, 0, 13, 2];
+        turn_sets(&table, 0, (0, 0), (0, NONE, 2));
+        turn_sets(&table, 1, (0, 0), (1, [24, 7], 1));
+        turn_sets(&table, 2, (0, 0), (0, NONE, 0));
+        for turn in [3, 4, 255, 256, usize::MAX - 1, usize::MAX] {
+            turn_sets(&table, turn, (0, 0), (2, NONE, 0));
+        }
+    }
+
+    #[test]
+    fn a_refused_turn_sets_the_place_and_everything_else_to_0() {
+        for turn in [0, 1, 2, 126, 127, usize::MAX] {
+            turn_sets(&[], turn, (9, 0), (0, [0, 0], 0));
+            turn_sets(&TABLE[..13], turn, (2, 12), (0, [0, 0], 0));
+            turn_sets(&TABLE[..12], turn, (9, 12), (0, [0, 0], 0));
+            turn_sets(&[1, 13, 0, 77], turn, (9, 3), (0, [0, 0], 0));
+        }
     }
 
     #[test]

@@ -92,6 +92,7 @@ mod sentence;
 mod shortage;
 mod suggested;
 mod tally;
+mod turns;
 
 pub use choice::{Choice, Moved, Refused, Stopped};
 pub use hall::Hall;
@@ -101,6 +102,8 @@ pub use sentence::{Answer, Sentence};
 pub use shortage::Shortage;
 pub use suggested::{Followed, SuggestedSteps};
 pub use tally::Tally;
+pub use turns::{opening_stations, opening_turn, opening_turns};
+pub use turns::{OpeningStations, OpeningTurns, Station, Turn};
 
 /// The length of a stored hall.
 pub const HALL_BYTES: usize = 11_344;

@@ -8,3 +8,4 @@ mod printed;
 mod runs;
 mod sentences;
 mod tables;
+mod turns;

@@ -8,5 +8,7 @@ pub(crate) mod calls;
 pub(crate) mod choices;
 pub(crate) mod seeds;
 pub(crate) mod shortages;
+pub(crate) mod turns;
 pub(crate) mod wrong_shortages;
 pub(crate) mod wrong_suggestions;
+pub(crate) mod wrong_turns;

@@ -18,6 +18,14 @@ static const uint8_t choices[] = {1, 0, 2, 0, 0, 2, 0, 0, 1, 0, 1, 0};
 /* A take from an empty tray, a block of two ways that each write, a put; and what is suggested, time after time. */
 static const uint8_t several[] = {1, 3, 0, 0, 7, 10, 1, 2, 11, 3, 3, 6, 4, 2, 1, 5, 5, 6, 5, 1, 7, 13, 8};
 static const uint8_t first[][3] = {{1, 1, 0}, {2, 1, 0}, {2, 1, 1}, {2, 1, 0}, {1, 1, 0}, {1, 1, 0}};
+/* Its opening turn by turn: what is laid down, the station's two bytes, how many terms are left; then past its end. */
+static const uint8_t turns[][4] = {{RUONFIDD_LAID_NOTHING, 0, 0, 2},
+                                   {RUONFIDD_LAID_STATION, 20, 1, 1},
+                                   {RUONFIDD_LAID_NOTHING, 0, 0, 2},
+                                   {RUONFIDD_LAID_STATION, 20, 5, 1},
+                                   {RUONFIDD_LAID_STATION, 24, 1, 0},
+                                   {RUONFIDD_LAID_PAST_END, 0, 0, 0},
+                                   {RUONFIDD_LAID_PAST_END, 0, 0, 0}};
 static uint8_t hall[RUONFIDD_HALL_BYTES];
 static uint8_t before[RUONFIDD_HALL_BYTES];
 static const uint8_t input[] = {7, 10, 1, 0, 9, 0, 1, 6, 2, 12, 0, 1, 13, 3, 1, 0, 2, 0, 0, 2, 0, 0, 1, 0, 1, 0};
@@ -37,9 +45,9 @@ static const char longest[] = "Kind 255 at station 255, node 255 moved by rule 3
 
 int main(void) {
     const size_t unset = (size_t)-1;
-    size_t place = unset, done = unset, length = unset;
+    size_t place = unset, done = unset, length = unset, left = unset, standing = 16;
     uint32_t tally[3] = {9, 9, 9};
-    uint8_t rule = 99, shortage[2] = {99, 99}, choice[3] = {99, 99, 99};
+    uint8_t rule = 99, shortage[2] = {99, 99}, choice[3] = {99, 99, 99}, laid = 99, station[2] = {99, 99};
 
     MUST(ruonfidd_check_table(table, sizeof table, &place) == 0 && place == 0);
     MUST(ruonfidd_check_table(table, 12, &place) == 9 && place == 12);
@@ -134,6 +142,35 @@ int main(void) {
         MUST(ruonfidd_step(several, sizeof several, hall, sizeof hall, choice[0], choice[1], choice[2], tally,
                            &rule, shortage, &place) == 0);
     }
+
+    /* The opening turn by turn: the stations come in the order of the hall. */
+    MUST(RUONFIDD_LAID_NOTHING == 0 && RUONFIDD_LAID_STATION == 1 && RUONFIDD_LAID_PAST_END == 2);
+    MUST(ruonfidd_open_hall(several, sizeof several, hall, sizeof hall, &place) == 0);
+    for (size_t turn = 0; turn < sizeof turns / sizeof *turns; turn++) {
+        laid = 99;
+        memset(station, 99, sizeof station);
+        left = place = unset;
+        MUST(ruonfidd_opening_turn(several, sizeof several, turn, &laid, station, &left, &place) == 0);
+        MUST(laid == turns[turn][0] && left == turns[turn][3] && place == 0);
+        MUST(memcmp(station, turns[turn] + 1, sizeof station) == 0);
+        if (laid == RUONFIDD_LAID_STATION) {
+            MUST(memcmp(station, hall + standing, sizeof station) == 0);
+            standing += sizeof station;
+        }
+    }
+    MUST(hall[standing] == 0);
+    /* Any turn may be asked for. Refused, and without memory: nothing is laid down or left. */
+    laid = 99;
+    left = place = unset;
+    MUST(ruonfidd_opening_turn(several, sizeof several, unset, &laid, station, &left, &place) == 0);
+    MUST(laid == RUONFIDD_LAID_PAST_END && station[0] == 0 && station[1] == 0 && left == 0 && place == 0);
+    laid = 99;
+    memset(station, 99, sizeof station);
+    left = place = unset;
+    MUST(ruonfidd_opening_turn(several, sizeof several - 1, 1, &laid, station, &left, &place) == 2);
+    MUST(laid == RUONFIDD_LAID_NOTHING && station[0] == 0 && station[1] == 0 && left == 0);
+    MUST(place == sizeof several - 2);
+    MUST(ruonfidd_opening_turn(NULL, 0, 0, &laid, station, &left, &place) == 9 && place == 0);
 
     /* A commit that comes too late and then a read that finds nothing: which tray was short, and the two bytes
      * handed on to the sentence. */

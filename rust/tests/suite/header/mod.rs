@@ -107,7 +107,7 @@ fn every_function_is_declared_and_called() {
     declared.sort_unstable();
     called.sort_unstable();
     called.dedup();
-    assert_eq!(declared.len(), 9, "{declared:?}");
+    assert_eq!(declared.len(), 10, "{declared:?}");
     assert_eq!(called, declared);
     let library = fs::read(env!("RUONFIDD_LIBRARY")).expect("the library");
     for name in declared {

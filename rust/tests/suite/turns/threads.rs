@@ -1,0 +1,22 @@
+//! Several threads at once.
+
+use reference::generator::Random;
+
+use crate::common::by_chance::{accepted, tree_table};
+use crate::common::turns::{has_turns, turns_of};
+
+/// The call keeps nothing from one turn to the next.
+#[test]
+fn several_threads() {
+    std::thread::scope(|scope| {
+        for seed in 0..4 {
+            scope.spawn(move || {
+                let mut random = Random::new(seed);
+                for _ in 0..150 {
+                    let table = tree_table(&mut random);
+                    has_turns(&table, &turns_of(&accepted(&table)));
+                }
+            });
+        }
+    });
+}
