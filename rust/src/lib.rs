@@ -3,7 +3,7 @@
 //! The engine is a static library, `libruonfidd.a`, that is proved to answer
 //! as the scope's definitions say. This package links it and adds nothing to
 //! its answers: only its number and its place become a [`Result`], those of a
-//! step with its choice, and two bytes an optional [`Shortage`].
+//! step with its choice, and two bytes an optional [`Shortage`] or [`Station`].
 //!
 //! # Linking
 //!
@@ -20,6 +20,9 @@
 //!   printed run some 20 KB, so any thread may call it at any time. A [`Hall`]
 //!   and a [`Printed`] own memory for their bytes; nothing else is allocated.
 //! - The same bytes always get the same answer.
+//! - An opening lays its stations down by turns, at most one a turn, in the order
+//!   of the hall. [`opening_turn`] gives any of them, [`opening_stations`] the
+//!   stations one after the other; both read the table alone.
 //! - A suggestion is the first accepted choice: the one with the lowest
 //!   position, and of several there the one with the lowest node.
 //! - Refused by table or hall, 1 to 11, hall and tally stay as they are.

@@ -182,6 +182,9 @@ impl Iterator for OpeningTurns<'_> {
     type Item = Turn;
 
     fn next(&mut self) -> Option<Turn> {
+        if self.left == 0 {
+            return None;
+        }
         // The table was accepted and has not changed since: nothing is refused.
         let turn = opening_turn(self.table, self.made).ok().flatten()?;
         self.made += 1;
@@ -199,7 +202,7 @@ impl Iterator for OpeningTurns<'_> {
     }
 }
 
-/// Past its end an opening has no turn, however often it is asked for.
+/// Where nothing is left to open, there is no further turn.
 impl FusedIterator for OpeningTurns<'_> {}
 
 /// The stations of an opening, one for each item; from [`opening_stations`].

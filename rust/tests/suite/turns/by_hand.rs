@@ -74,6 +74,15 @@ fn each_kind_of_process() {
     opens_by(&table.start(SIDE_BY_SIDE), &both);
 }
 
+/// The example of `docs/FORMAT.md`: a put and a nil side by side, a take beside
+/// both.
+#[test]
+fn the_documents_example() {
+    let table = [1, 2, 4, 3, 0, 0, 5, 1, 0, 5, 3, 2, 13, 4];
+    let turns = [nothing(2), nothing(3), puts(4, 2), nothing(1), waits(2, 0)];
+    opens_by(&table, &turns);
+}
+
 /// What follows a take is not opened, however wide it is.
 #[test]
 fn a_take_of_many() {
