@@ -14,6 +14,7 @@
 //! | [`stations`], [`ways`] | a hall's stations, read from its bytes; the ways of a block |
 //! | [`names`] | names of stations that stay while positions shift |
 //! | [`rehearsal`] | a hall under way, with its names |
+//! | [`turns`](mod@turns) | an opening turn by turn |
 //! | [`lesson`] | choices made one by one, and once more as whole runs |
 //! | [`rules`], [`sentences`], [`refusals`] | what a choice did, or why it is refused, in words |
 //! | [`board`], [`why`](mod@why) | the hall as it stands; what an attempt will come to |
@@ -39,5 +40,6 @@ pub mod stations;
 pub mod style;
 pub mod table;
 pub mod text;
+pub mod turns;
 pub mod ways;
 pub mod why;

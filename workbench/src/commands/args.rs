@@ -20,6 +20,7 @@ fn known(command: &str) -> (&'static [&'static str], usize) {
         "check" => (&["--json", "--binary"], 2),
         "build" => (&["-o", "--choices", "--binary"], 1),
         "show" => (&["--exact", "--binary"], 1),
+        "opening" => (&["--json", "--binary"], 1),
         "run" => (&["--board", "--quiet", "--json", "--binary"], 2),
         "play" => (&["--binary"], 2),
         "explore" => (&["--groups", "--engine", "--all", "--json", "--binary"], 1),

@@ -7,6 +7,7 @@ hall, the workbench of the hall engine: rules as text, runs in sentences
   hall check FILE [HALL]       is it accepted, and how near is each limit
   hall build FILE -o TABLE     the bytes of a text's table
   hall show FILE               the text of a table
+  hall opening FILE            how its stations are laid down, turn by turn
   hall run FILE [CHOICES]      a lesson, choice by choice, in sentences
   hall play FILE [CHOICES]     the same by hand
   hall explore FILE            every way the hall can go, and what can go wrong
@@ -19,7 +20,9 @@ itself.
 ";
 
 /// Their words.
-pub const COMMANDS: [&str; 6] = ["check", "build", "show", "run", "play", "explore"];
+pub const COMMANDS: [&str; 7] = [
+    "check", "build", "show", "opening", "run", "play", "explore",
+];
 
 /// The page of a command.
 #[must_use]
@@ -28,6 +31,7 @@ pub fn page(command: &str) -> Option<&'static str> {
         "check" => CHECK,
         "build" => BUILD,
         "show" => SHOW,
+        "opening" => OPENING,
         "run" => RUN,
         "play" => PLAY,
         "explore" => EXPLORE,
@@ -68,6 +72,20 @@ table again, without the terms that nothing uses and with equal terms made one.
 
   --exact    one line a record: it builds the very same bytes, which a signed
              table needs, and stored halls, since these hold term numbers
+  --binary   FILE is a table, whatever it looks like
+";
+
+const OPENING: &str = "\
+usage: hall opening FILE [--json] [--binary]
+
+Steps through the opening of the hall, as the engine does it: a line for each
+turn, counted from 0. Terms wait to be opened, at first the start alone. A turn
+takes the next one. Two beside each other give way to the left one, then the
+right one; 'nothing' lays down no station, anything else one. Each line ends
+with how many terms are left. The stations that are laid down are compared with
+those of the opened hall.
+
+  --json     one object a line, for programs
   --binary   FILE is a table, whatever it looks like
 ";
 

@@ -6,6 +6,7 @@ mod check;
 mod explore;
 pub mod help;
 pub mod load;
+mod opening;
 mod play;
 mod run;
 mod show;
@@ -157,6 +158,7 @@ fn dispatch(arguments: &[String], streams: &mut Streams<'_>) -> Outcome {
         "check" => check::check(&args, streams),
         "build" => build::build(&args, streams),
         "show" => show::show(&args, streams),
+        "opening" => opening::opening(&args, streams),
         "run" => run::run(&args, streams),
         "play" => play::play(&args, streams),
         "explore" => explore::explore(&args, streams),

@@ -10,7 +10,9 @@ use workbench::style::Style;
 
 use crate::common::{called, hall, hall_in, package, raw_hall_in, scratch, Answer};
 
-const COMMANDS: [&str; 6] = ["check", "build", "show", "run", "play", "explore"];
+const COMMANDS: [&str; 7] = [
+    "check", "build", "show", "opening", "run", "play", "explore",
+];
 
 const TEXT: &str = "tray a has 1\ntray b\nrule desk is block (take a, put b, end)\nstart desk\n";
 const TABLE: [u8; 14] = [7, 10, 1, 0, 9, 0, 1, 6, 2, 12, 0, 1, 13, 3];
@@ -68,7 +70,7 @@ fn every_command_has_a_page_that_fits_a_screen() {
 
 #[test]
 fn called_wrongly() {
-    let wrong: [&[&str]; 10] = [
+    let wrong: [&[&str]; 12] = [
         &[],
         &["sing"],
         &["help", "sing"],
@@ -77,6 +79,8 @@ fn called_wrongly() {
         &["check", "a", "b", "c"],
         &["build", "a", "-o"],
         &["show", "a", "b"],
+        &["opening", "a", "b"],
+        &["opening", "--quiet", "a"],
         &["run", "--json", "--quiet", "examples/handover.hall"],
         &["play", "-"],
     ];
@@ -462,6 +466,7 @@ fn colour_adds_no_words() {
     for (command, file) in [
         ("run", "examples/version-two-leftover.hall"),
         ("check", "examples/handover.hall"),
+        ("opening", "examples/handover.hall"),
         ("run", "tests/errors/run-missed.hall"),
         ("check", "tests/errors/stations.hall"),
     ] {

@@ -307,12 +307,14 @@ fn damaged_tables() {
 fn any_file_on_any_command() {
     let texts = texts();
     let mut random = Random::new(36);
-    let calls: [&[&str]; 9] = [
+    let calls: [&[&str]; 11] = [
         &["check", "-"],
         &["check", "--json", "-"],
         &["show", "-"],
         &["show", "--exact", "-"],
         &["build", "--choices", "-"],
+        &["opening", "-"],
+        &["opening", "--json", "-"],
         &["run", "-"],
         &["run", "--board", "-"],
         &["run", "--json", "-"],

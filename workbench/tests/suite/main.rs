@@ -18,6 +18,7 @@ mod errors;
 mod examples;
 mod json;
 mod meaning;
+mod openings;
 mod planted;
 mod playing;
 mod round_trips;

@@ -11,7 +11,7 @@ use crate::consoles::fenced;
 
 /// Said, with exit 70, where the program is at odds with itself. No input leads
 /// there; tests/explore/contradictions.rs makes some of them come about.
-const AT_ODDS: [&str; 26] = [
+const AT_ODDS: [&str; 27] = [
     "'{words}' was not made: {unmade:?}",
     "a hall of the engine has a station of no table",
     "a question cannot be read again",
@@ -37,6 +37,7 @@ const AT_ODDS: [&str; 26] = [
     "the table of a group is another one",
     "the table of a group is not accepted",
     "the text does not build its table again",
+    "the turns of an opening lay down other stations than its hall has",
     "two situations that no step joins",
 ];
 
