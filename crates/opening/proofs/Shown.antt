@@ -39,7 +39,8 @@ laid-read c hall at hall′ end l h =
 
 -- ---- what is shown
 
-module _ (d : List ℕ) (i number : ℕ) (hall₀ : List ℕ) (from : ℕ) (stack : List ℕ) (n : ℕ) (hall : List ℕ) (at : ℕ) (y : TurnsMade d i number hall₀ from stack n hall at) where
+module _ (d : List ℕ) (i number : ℕ) (hall₀ : List ℕ) (from : ℕ) (stack : List ℕ) (n v u : ℕ) (hall : List ℕ) (at : ℕ)
+    (y : TurnsMade d i number hall₀ from stack n v u hall at) where
   pub past-shown : n ≡ 0 → TurnShown d i number shown.PastEnd
   unfolding shownFor showNext
   past-shown h = record { found = λ ts P u e. go ts (waitingAfter number (P ∷ [])) (y .found ts P u e .0) }
@@ -50,17 +51,17 @@ module _ (d : List ℕ) (i number : ℕ) (hall₀ : List ℕ) (from : ℕ) (stac
 
   -- the next turn can be made, and a component fits where it would lay one down
   module _ (x : AProcess d i) (room : from + idleSize * maxComponents ≤ length hall₀) (h : n ≡ 0 → ⊥) where
-    pub can-show : CanTurn d stack n hall at
-    can-show = can-turn d i hall₀ from (process-fits d i hall₀ from x room) number stack n hall at y h
+    pub can-show : CanTurn d stack n v u hall at
+    can-show = can-turn d i hall₀ from (process-fits d i hall₀ from x room) number stack n v u hall at y h
 
     pub room-shown : at + idleSize ≤ length hall₀
     unfolding widths
     room-shown =
         let f = can-show .fits in
         let w = width-some (can-show .next) in
-        let l = turns-long d i hall₀ from (process-fits d i hall₀ from x room) number stack n hall at y in omega arith
+        let l = turns-long d i hall₀ from (process-fits d i hall₀ from x room) number stack n v u hall at y in omega arith
 
-  module _ (h : n ≡ 0 → ⊥) (stack′ : List ℕ) (n′ : ℕ) (hall′ : List ℕ) (end : ℕ) (z : TurnMade d stack n hall at stack′ n′ hall′ end) where
+  module _ (h : n ≡ 0 → ⊥) (stack′ : List ℕ) (n′ v′ u′ : ℕ) (hall′ : List ℕ) (end : ℕ) (z : TurnMade d stack n hall at stack′ n′ v′ u′ hall′ end) where
     -- what the next turn shows, by the one that is made
     shows : (r : Shown) →
         ((c : Option Idle) (m : ℕ) → n′ ≡ m → LaidDown (listed c) hall at hall′ end → r ≡ shownFor (lays c m)) → TurnShown d i number r

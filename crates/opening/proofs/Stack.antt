@@ -3,7 +3,8 @@
 use Prim.Native.Nat.{ℕ, zero, suc, _+_, _-_, _*_, _≤_, _<_}
 use native.Mathlib.Omega.{arith}
 use mathlib.Core.Path.{_≡_, refl, sym, ap, _∙_}
-use mathlib.Core.Option.{Option, none, some}
+use mathlib.Core.Logic.{_⊎_, inl, inr}
+use mathlib.Core.Option.{some}
 use mathlib.Core.List.{List, [], _∷_, _++_, flatten}
 use lib.ListN.{length, getD, set, getElem?, length-append, length-set}
 use lib.Seq.{getD-set-same, getD-set-other}
@@ -12,14 +13,15 @@ use mir.Val.{Fits}
 use Rattle.semantics.specs.Definitions.Terms.{Program, nilT, putT, takeT, repeatT, parT, atomT, Term, process, width}
 use Rattle.semantics.specs.Definitions.Configuration.{Idle, opens}
 use Rattle.semantics.specs.Definitions.Turns.{turn, waitingAfter, listed, laidBy}
-use Rattle.theorems.proofs.Turns.{widths, width-some, terms-narrow, waiting-narrow, waiting-more, laid-more, waiting-ended, laid-ended, all-laid, alone-wide}
-use Rattle.terms.specs.Decoded.{kindAt, firstAt, secondAt, RecordOf, Decoded, maxTerms}
+use Rattle.semantics.specs.Claims.Turns.{turnsToGo, TurnsFall}
+use Rattle.theorems.proofs.Turns.{widths, width-some, terms-narrow, waiting-narrow, waiting-more, laid-more, waiting-ended, laid-ended, ends, all-laid, alone-wide, turns-fall}
+use Rattle.terms.specs.Decoded.{kindAt, firstAt, secondAt, breadthAt, breadth, RecordOf, Decoded, maxTerms}
 use Rattle.buffer.specs.Splice.{written}
 use Rattle.buffer.proofs.Written.{written-none, written-length, written-twice}
 use Rattle.stored.specs.Layout.{idleSize, maxComponents}
 use Rattle.storedlaws.specs.Positions.{allBytes}
 use Rattle.opening.specs.Opening.{idleBytes, componentsBytes, ComponentsFit, ComponentsWritten}
-use Rattle.opening.specs.Turns.{Waiting, LaidDown, CanTurn, TurnMade, TurnsMade}
+use Rattle.opening.specs.Turns.{Waiting, LaidDown, AfterNext, OnTop, CanTurn, TurnMade, Begun, TurnsMade}
 use Rattle.opening.proofs.Processes.{Sides, sides-at, inside, idle-append, idle-length}
 
 -- ---- what waits
@@ -43,9 +45,14 @@ module _ (ts : List Term) where
   waiting-push stack n Ps v P h w at =
       (n, refl, rw (getD-set-same stack n v 0 h) at, waiting-set stack n Ps n v (omega arith) w)
 
+-- the entry after the next one, where two or more wait
+pub after-stands : (stack : List ℕ) (n at u : ℕ) → u ≡ getD stack at 0 → (n < 2) ⊎ (at ≡ n - 2) → AfterNext stack n u
+after-stands stack n at u e (inl few) = record { stands = λ h. absurd (omega arith) }
+after-stands stack n at u e (inr there) = record { stands = λ h. e ∙ ap (λ j. getD stack j 0) there }
+
 -- ---- what a turn finds
 
-module _ (d stack : List ℕ) (n : ℕ) (hall : List ℕ) (at : ℕ) (x : CanTurn d stack n hall at) where
+module _ (d stack : List ℕ) (n v u : ℕ) (hall : List ℕ) (at : ℕ) (x : CanTurn d stack n v u hall at) where
   pub some-waits : 1 ≤ n
   some-waits = let e = x .waiting .1 in omega arith
 
@@ -58,32 +65,36 @@ module _ (d stack : List ℕ) (n : ℕ) (hall : List ℕ) (at : ℕ) (x : CanTur
   pub top-inside : n - 1 < maxComponents
   top-inside = let h = few-wait in omega arith
 
+  pub fewer-wait : n - 1 ≤ maxComponents
+  fewer-wait = let h = few-wait in omega arith
+
   pub one-more-fits : Fits w64 (n + 1)
   one-more-fits = let h = few-wait in record { fits = omega arith }
 
-  module _ (b : ℕ) (o : b ≡ n - 1) (v : ℕ) (p : v ≡ getD stack b 0) where
-    -- the entry on top
-    on-top : getElem? (x .terms) v ≡ some (process (x .next))
-    on-top = let e = x .waiting .1 in let q : b ≡ x .waiting .0 = omega arith in rw (p, q) (x .waiting .2)
+  -- the next one stands on top
+  next-stands : getElem? (x .terms) v ≡ some (process (x .next))
+  next-stands =
+      let e = x .waiting .1 in
+      let q : n - 1 ≡ x .waiting .0 = omega arith in rw (x .on-top .next some-waits, q) (x .waiting .2)
 
-    pub next-fits : ComponentsFit d v hall at
-    unfolding widths
-    next-fits = let h = x .fits in record { terms = x .terms; tree = x .next; decoded = x .decoded; at = on-top; fits = omega arith }
+  pub next-fits : ComponentsFit d v hall at
+  unfolding widths
+  next-fits = let h = x .fits in record { terms = x .terms; tree = x .next; decoded = x .decoded; at = next-stands; fits = omega arith }
 
-    pub next-inside : v < maxTerms
-    next-inside = inside d v hall at next-fits
+  pub next-inside : v < maxTerms
+  next-inside = inside d v hall at next-fits
 
-    -- two side by side leave room for one entry more
-    pub room-above : (k : ℕ) → k ≡ kindAt d v → k ≡ 5 → n < maxComponents
-    unfolding widths width
-    room-above k kind h =
-        let s = sides-at d v k kind (x .terms) (x .next) (x .decoded) on-top h in
-        let l = waiting-length (x .terms) stack n (x .next ∷ x .rest) (x .waiting) in
-        let t = terms-narrow (x .rest) in
-        let w : width (x .next) ≡ width (s .left) + width (s .right) = ap width (s .both) in
-        let f = width-some (s .left) in
-        let g = width-some (s .right) in
-        let r = x .narrow in omega arith
+  -- two side by side leave room for one entry more
+  pub room-above : (k : ℕ) → k ≡ kindAt d v → k ≡ 5 → n < maxComponents
+  unfolding widths width
+  room-above k kind h =
+      let s = sides-at d v k kind (x .terms) (x .next) (x .decoded) next-stands h in
+      let l = waiting-length (x .terms) stack n (x .next ∷ x .rest) (x .waiting) in
+      let t = terms-narrow (x .rest) in
+      let w : width (x .next) ≡ width (s .left) + width (s .right) = ap width (s .both) in
+      let f = width-some (s .left) in
+      let g = width-some (s .right) in
+      let r = x .narrow in omega arith
 
 -- ---- what a turn leaves and lays down
 
@@ -102,22 +113,36 @@ one-opens i k l r (repeatT n a P) Ps e h = (refl, refl)
 one-opens i k l r (parT n P Q) Ps e h = absurd (h (e .0))
 one-opens i k l r (atomT n M) Ps e h = (refl, refl)
 
-module _ (d stack : List ℕ) (n : ℕ) (hall : List ℕ) (at b : ℕ) (o : b ≡ n - 1) (v : ℕ) (p : v ≡ getD stack b 0) (k : ℕ) (kind : k ≡ kindAt d v) where
-  -- what waits below the top
+module _ (d stack : List ℕ) (n v u : ℕ) (hall : List ℕ) (at : ℕ) (y : CanTurn d stack n v u hall at) (b : ℕ) (o : b ≡ n - 1) (k : ℕ) (kind : k ≡ kindAt d v) where
+  -- of any terms that wait: the next one, and those below it
   module _ (ts : List Term) (P : Program) (Ps : List Program) (w : Waiting ts stack n (P ∷ Ps)) where
     top-at : getElem? ts v ≡ some (process P)
-    top-at = let e = w .1 in let q : b ≡ w .0 = omega arith in rw (p, q) (w .2)
+    top-at =
+        let e = w .1 in
+        let q : n - 1 ≡ w .0 = omega arith in rw (y .on-top .next (omega arith), q) (w .2)
 
     below-top : Waiting ts stack b Ps
     below-top = let e = w .1 in let q : b ≡ w .0 = omega arith in rw q (w .3)
 
-  pub sides-wait : CanTurn d stack n hall at → k ≡ 5 → (r : ℕ) → r ≡ secondAt d v → (l : ℕ) → l ≡ firstAt d v →
-      TurnMade d stack n hall at (set (set stack b r) n l) (n + 1) hall at
+  pub sides-wait : k ≡ 5 → (l : ℕ) → l ≡ firstAt d v → (r : ℕ) → r ≡ secondAt d v → (v′ : ℕ) → v′ ≡ l → (u′ : ℕ) → u′ ≡ r →
+      TurnMade d stack n hall at (set (set stack b r) n l) (n + 1) v′ u′ hall at
   unfolding turn listed
-  sides-wait y h r q l u = record { sized = length-set (set stack b r) n l ∙ length-set stack b r; found = go }
+  sides-wait h l f r q v′ i u′ j =
+      let top = getD-set-same (set stack b r) n l 0 (rw (length-set stack b r) room) in
+      let under = getD-set-other (set stack b r) n b l 0 (λ e. let z = some in omega arith) ∙ getD-set-same stack b r 0 (let z = some in let g = room in omega arith) in
+      let n-top : n + 1 - 1 ≡ n = omega arith in
+      let n-under : n + 1 - 2 ≡ b = omega arith in
+      record {
+        sized = length-set (set stack b r) n l ∙ length-set stack b r;
+        on-top = record { next = λ e. rw n-top (i ∙ sym top); after = record { stands = λ e. rw n-under (j ∙ sym under) } };
+        found = go;
+      }
     where
+      some : 1 ≤ n
+      some = some-waits d stack n v u hall at y
+
       room : n < length stack
-      room = let z = room-above d stack n hall at y b o v p k kind h in let sized = y .sized in omega arith
+      room = let z = room-above d stack n v u hall at y k kind h in let sized = y .sized in omega arith
 
       go : (ts : List Term) (P : Program) (Ps : List Program) → Decoded ts d → Waiting ts stack n (P ∷ Ps) →
           Waiting ts (set (set stack b r) n l) (n + 1) (turn P Ps .waiting) × LaidDown (listed (turn P Ps .laid)) hall at hall at
@@ -128,12 +153,19 @@ module _ (d stack : List ℕ) (n : ℕ) (hall : List ℕ) (at b : ℕ) (o : b �
           let below : b < length stack = let z = room in omega arith in
           let top : n + 1 ≡ suc n = omega arith in
           let right = waiting-push ts stack b Ps r (s .right) below (below-top ts P Ps w) (rw q (s .at-right)) in
-          let both = waiting-push ts (set stack b r) n (s .right ∷ Ps) l (s .left) (rw (length-set stack b r) room) (rw above at right) (rw u (s .at-left)) in
+          let both = waiting-push ts (set stack b r) n (s .right ∷ Ps) l (s .left) (rw (length-set stack b r) room) (rw above at right) (rw f (s .at-left)) in
           rw (s .both, top) (both, nothing-laid hall at)
 
-  pub one-laid : (kindAt d v ≡ 5 → ⊥) → (hall′ : List ℕ) (end : ℕ) → ComponentsWritten d v hall at hall′ end → TurnMade d stack n hall at stack b hall′ end
+  pub one-laid : (kindAt d v ≡ 5 → ⊥) → (hall′ : List ℕ) (end : ℕ) → ComponentsWritten d v hall at hall′ end → (u′ : ℕ) → AfterNext stack b u′ →
+      TurnMade d stack n hall at stack b u u′ hall′ end
   unfolding componentsBytes
-  one-laid h hall′ end c = record { sized = refl; found = go }
+  one-laid h hall′ end c u′ under =
+      let n-next : n - 2 ≡ b - 1 = omega arith in
+      record {
+        sized = refl;
+        on-top = record { next = λ e. rw n-next at (y .on-top .after .stands (omega arith)); after = under };
+        found = go;
+      }
     where
       go : (ts : List Term) (P : Program) (Ps : List Program) → Decoded ts d → Waiting ts stack n (P ∷ Ps) →
           Waiting ts stack b (turn P Ps .waiting) × LaidDown (listed (turn P Ps .laid)) hall at hall′ end
@@ -142,6 +174,29 @@ module _ (d stack : List ℕ) (n : ℕ) (hall : List ℕ) (at b : ℕ) (o : b �
           let one = one-opens v (kindAt d v) (firstAt d v) (secondAt d v) P Ps (x .records v (process P) at-top) h in
           let laid = c .found ts P x at-top in
           rw (one .0, one .1) (below-top ts P Ps w, record { end = laid .0; bytes = laid .1 })
+
+-- ---- the measure
+
+-- the turns that the terms on the stack take, by their breadths in the decoded table
+unfoldable pub toGo : (d stack : List ℕ) → ℕ → ℕ
+toGo d stack zero = 0
+toGo d stack (suc m) = (2 * breadthAt d (getD stack m 0) - 1) + toGo d stack m
+
+waiting-to-go : (ts : List Term) (d : List ℕ) → Decoded ts d → (stack : List ℕ) (n : ℕ) (Ps : List Program) → Waiting ts stack n Ps → toGo d stack n ≡ turnsToGo Ps
+unfolding toGo turnsToGo breadth
+waiting-to-go ts d x stack n [] w = rw w
+waiting-to-go ts d x stack n (P ∷ Ps) (m, e, at, w) =
+    let wide = x .measures (getD stack m 0) (process P) at .0 in
+    let below = waiting-to-go ts d x stack m Ps w in rw e (omega arith)
+
+pub to-go-falls : (d stack : List ℕ) (n v u : ℕ) (hall : List ℕ) (at : ℕ) → CanTurn d stack n v u hall at →
+    (stack′ : List ℕ) (n′ v′ u′ : ℕ) (hall′ : List ℕ) (end : ℕ) → TurnMade d stack n hall at stack′ n′ v′ u′ hall′ end → toGo d stack′ n′ < toGo d stack n
+unfolding TurnsFall
+to-go-falls d stack n v u hall at x stack′ n′ v′ u′ hall′ end z =
+    let before = waiting-to-go (x .terms) d (x .decoded) stack n (x .next ∷ x .rest) (x .waiting) in
+    let next = z .found (x .terms) (x .next) (x .rest) (x .decoded) (x .waiting) in
+    let after = waiting-to-go (x .terms) d (x .decoded) stack′ n′ (turn (x .next) (x .rest) .waiting) (next .0) in
+    let falls = turns-fall (x .next) (x .rest) in omega arith
 
 -- ---- many turns
 
@@ -162,8 +217,8 @@ laid-long : (cs : List Idle) (s : List ℕ) (at : ℕ) (s′ : List ℕ) (end : 
 laid-long cs s at s′ end a h =
     let l = idle-length cs in ap length (a .bytes) ∙ written-length s at (idleBytes cs) (length (idleBytes cs)) (omega arith) (omega arith)
 
-module _ (d : List ℕ) (i : ℕ) (hall : List ℕ) (at : ℕ) (x : ComponentsFit d i hall at) (made : ℕ) (stack : List ℕ) (n : ℕ) (hall′ : List ℕ) (end : ℕ)
-    (y : TurnsMade d i made hall at stack n hall′ end) where
+module _ (d : List ℕ) (i : ℕ) (hall : List ℕ) (at : ℕ) (x : ComponentsFit d i hall at) (made : ℕ) (stack : List ℕ) (n v u : ℕ) (hall′ : List ℕ) (end : ℕ)
+    (y : TurnsMade d i made hall at stack n v u hall′ end) where
   pub turns-long : length hall′ ≡ length hall
   turns-long =
       let now = y .found (x .terms) (x .tree) (x .decoded) (x .at) in
@@ -173,10 +228,10 @@ module _ (d : List ℕ) (i : ℕ) (hall : List ℕ) (at : ℕ) (x : ComponentsFi
       let fits = x .fits in laid-long cs hall at hall′ end (now .1) (omega arith)
 
   -- something waits, and it fits
-  pub can-turn : (n ≡ 0 → ⊥) → CanTurn d stack n hall′ end
+  pub can-turn : (n ≡ 0 → ⊥) → CanTurn d stack n v u hall′ end
   can-turn h = go (waitingAfter made (x .tree ∷ [])) refl
     where
-      go : (Ps : List Program) → waitingAfter made (x .tree ∷ []) ≡ Ps → CanTurn d stack n hall′ end
+      go : (Ps : List Program) → waitingAfter made (x .tree ∷ []) ≡ Ps → CanTurn d stack n v u hall′ end
       go [] e = absurd (h (rw e at (y .found (x .terms) (x .tree) (x .decoded) (x .at) .0)))
       go (P ∷ Ps) e =
           let now = y .found (x .terms) (x .tree) (x .decoded) (x .at) in
@@ -193,6 +248,7 @@ module _ (d : List ℕ) (i : ℕ) (hall : List ℕ) (at : ℕ) (x : ComponentsFi
             next = P;
             rest = Ps;
             decoded = x .decoded;
+            on-top = y .on-top;
             sized = y .sized;
             waiting = rw e at (now .0);
             narrow = omega arith;
@@ -200,9 +256,9 @@ module _ (d : List ℕ) (i : ℕ) (hall : List ℕ) (at : ℕ) (x : ComponentsFi
           }
 
   -- one more
-  pub one-made : (n ≡ 0 → ⊥) → (stack′ : List ℕ) (n′ : ℕ) (hall″ : List ℕ) (end′ : ℕ) → TurnMade d stack n hall′ end stack′ n′ hall″ end′ →
-      TurnsMade d i (made + 1) hall at stack′ n′ hall″ end′
-  one-made h stack′ n′ hall″ end′ z = record { sized = z .sized ∙ y .sized; found = λ ts P u e. go ts P u e (waitingAfter made (P ∷ [])) refl }
+  pub one-made : (n ≡ 0 → ⊥) → (stack′ : List ℕ) (n′ v′ u′ : ℕ) (hall″ : List ℕ) (end′ : ℕ) → TurnMade d stack n hall′ end stack′ n′ v′ u′ hall″ end′ →
+      TurnsMade d i (made + 1) hall at stack′ n′ v′ u′ hall″ end′
+  one-made h stack′ n′ v′ u′ hall″ end′ z = record { sized = z .sized ∙ y .sized; on-top = z .on-top; found = λ ts P u e. go ts P u e (waitingAfter made (P ∷ [])) refl }
     where
       go : (ts : List Term) (P : Program) → Decoded ts d → getElem? ts i ≡ some (process P) → (Ps : List Program) → waitingAfter made (P ∷ []) ≡ Ps →
           Waiting ts stack′ n′ (waitingAfter (made + 1) (P ∷ [])) × LaidDown (laidBy (made + 1) (P ∷ [])) hall at hall″ end′
@@ -216,54 +272,87 @@ module _ (d : List ℕ) (i : ℕ) (hall : List ℕ) (at : ℕ) (x : ComponentsFi
           (next .0, laid-twice (laidBy made (P ∷ [])) (listed (turn Q Qs .laid)) hall at hall′ end hall″ end′ (omega arith) (now .1) (next .1))
 
   -- nothing waits: more turns change nothing
-  pub none-waits : n ≡ 0 → (turns : ℕ) → made ≤ turns → TurnsMade d i turns hall at stack n hall′ end
-  none-waits h turns few = record { sized = y .sized; found = λ ts P u e. go ts P u e (waitingAfter made (P ∷ [])) refl }
+  pub none-waits : n ≡ 0 → (turns : ℕ) → made ≤ turns → TurnsMade d i turns hall at stack n v u hall′ end
+  none-waits h turns few = record { sized = y .sized; on-top = y .on-top; found = λ ts P u e. go ts P u e (waitingAfter made (P ∷ [])) refl }
     where
       go : (ts : List Term) (P : Program) → Decoded ts d → getElem? ts i ≡ some (process P) → (Ps : List Program) → waitingAfter made (P ∷ []) ≡ Ps →
           Waiting ts stack n (waitingAfter turns (P ∷ [])) × LaidDown (laidBy turns (P ∷ [])) hall at hall′ end
       go ts P u e [] q = rw (waiting-ended made turns (P ∷ []) q few, laid-ended made turns (P ∷ []) q few) (h, y .found ts P u e .1)
       go ts P u e (Q ∷ Qs) q = let w = rw q at (y .found ts P u e .0) in let z = w .1 in absurd (omega arith)
 
--- ---- the loop
+  -- nothing waits: all that the process opens into is written
+  pub all-written : n ≡ 0 → ComponentsWritten d i hall at hall′ end
+  unfolding componentsBytes
+  all-written h = record { found = λ ts P u e. go ts P u e (waitingAfter made (P ∷ [])) refl }
+    where
+      go : (ts : List Term) (P : Program) → Decoded ts d → getElem? ts i ≡ some (process P) → (Ps : List Program) → waitingAfter made (P ∷ []) ≡ Ps →
+          (end ≡ at + length (componentsBytes P)) × (hall′ ≡ written hall at (componentsBytes P) (length (componentsBytes P)))
+      go ts P u e [] q = let laid = rw (all-laid P made (ends P made .0 q)) at (y .found ts P u e .1) in (laid .end, laid .bytes)
+      go ts P u e (Q ∷ Qs) q = let w = rw q at (y .found ts P u e .0) in let z = w .1 in absurd (omega arith)
+
+-- ---- the loops
+
+-- before the first turn
+begun-made : (d : List ℕ) (i : ℕ) (hall : List ℕ) (at : ℕ) (stack stack′ : List ℕ) (n v u end : ℕ) → length stack ≡ maxComponents → Begun stack i at stack′ n v u end →
+    TurnsMade d i 0 hall at stack′ n v u hall end
+unfolding waitingAfter laidBy
+begun-made d i hall at stack stack′ n v u end h z =
+    let here = getD-set-same stack 0 i 0 (omega arith) in
+    rw (z .alone, z .next, z .stands, z .nowhere) (record {
+      sized = length-set stack 0 i ∙ h;
+      on-top = record { next = λ e. sym here; after = record { stands = λ e. absurd (omega arith) } };
+      found = λ ts P x e. (waiting-push ts stack 0 [] i P (omega arith) refl e, nothing-laid hall at);
+    })
+
+-- some turns are made
+pub record Opening (d : List ℕ) (i : ℕ) (hall : List ℕ) (at : ℕ) (stack : List ℕ) (n v u : ℕ) (hall′ : List ℕ) (end : ℕ) : Type 0 where
+  pub made : ℕ
+  pub sized : length hall′ ≡ length hall
+  pub so-far : TurnsMade d i made hall at stack n v u hall′ end
 
 -- so many turns are made of those asked for
-pub record Making (d : List ℕ) (i turns : ℕ) (hall : List ℕ) (at made : ℕ) (stack : List ℕ) (n : ℕ) (hall′ : List ℕ) (end : ℕ) : Type 0 where
+pub record Making (d : List ℕ) (i turns : ℕ) (hall : List ℕ) (at made : ℕ) (stack : List ℕ) (n v u : ℕ) (hall′ : List ℕ) (end : ℕ) : Type 0 where
   pub few : made ≤ turns
   pub sized : length hall′ ≡ length hall
-  pub so-far : TurnsMade d i made hall at stack n hall′ end
+  pub so-far : TurnsMade d i made hall at stack n v u hall′ end
 
-module _ (d : List ℕ) (i : ℕ) (hall : List ℕ) (at : ℕ) (turns : ℕ) where
-  pub none-made : (stack : List ℕ) → length stack ≡ maxComponents → Making d i turns hall at 0 (set stack 0 i) 1 hall at
-  unfolding waitingAfter laidBy
-  none-made stack h = record {
-    few = omega arith;
-    sized = refl;
-    so-far = record {
-      sized = length-set stack 0 i ∙ h;
-      found = λ ts P x e. (waiting-push ts stack 0 [] i P (omega arith) refl e, nothing-laid hall at);
-    };
-  }
+module _ (d : List ℕ) (i : ℕ) (hall : List ℕ) (at : ℕ) where
+  module _ (stack stack′ : List ℕ) (n v u end : ℕ) (h : length stack ≡ maxComponents) (z : Begun stack i at stack′ n v u end) where
+    pub opening-begun : Opening d i hall at stack′ n v u hall end
+    opening-begun = record { made = 0; sized = refl; so-far = begun-made d i hall at stack stack′ n v u end h z }
 
-  module _ (made : ℕ) (stack : List ℕ) (n : ℕ) (hall′ : List ℕ) (end : ℕ) (y : Making d i turns hall at made stack n hall′ end) where
-    pub made-more : ComponentsFit d i hall at → made < turns → (n ≡ 0 → ⊥) → (stack′ : List ℕ) (n′ : ℕ) (hall″ : List ℕ) (end′ : ℕ) →
-        TurnMade d stack n hall′ end stack′ n′ hall″ end′ → Making d i turns hall at (made + 1) stack′ n′ hall″ end′
-    made-more x less h stack′ n′ hall″ end′ z =
-        let more = one-made d i hall at x made stack n hall′ end (y .so-far) h stack′ n′ hall″ end′ z in
-        record { few = omega arith; sized = turns-long d i hall at x (made + 1) stack′ n′ hall″ end′ more; so-far = more }
+    pub making-begun : (turns : ℕ) → Making d i turns hall at 0 stack′ n v u hall end
+    making-begun turns = record { few = omega arith; sized = refl; so-far = begun-made d i hall at stack stack′ n v u end h z }
 
-    pub all-made : turns ≤ made → TurnsMade d i turns hall at stack n hall′ end
-    all-made h = let few = y .few in let same : turns ≡ made = omega arith in rw same (y .so-far)
+  module _ (x : ComponentsFit d i hall at) (stack : List ℕ) (n v u : ℕ) (hall′ : List ℕ) (end : ℕ) where
+    module _ (y : Opening d i hall at stack n v u hall′ end) (h : n ≡ 0 → ⊥) where
+      pub opening-turns : CanTurn d stack n v u hall′ end
+      opening-turns = can-turn d i hall at x (y .made) stack n v u hall′ end (y .so-far) h
 
--- ---- all turns
+      module _ (stack′ : List ℕ) (n′ v′ u′ : ℕ) (hall″ : List ℕ) (end′ : ℕ) (z : TurnMade d stack n hall′ end stack′ n′ v′ u′ hall″ end′) where
+        pub opening-on : Opening d i hall at stack′ n′ v′ u′ hall″ end′
+        opening-on =
+            let more = one-made d i hall at x (y .made) stack n v u hall′ end (y .so-far) h stack′ n′ v′ u′ hall″ end′ z in
+            record { made = y .made + 1; sized = turns-long d i hall at x (y .made + 1) stack′ n′ v′ u′ hall″ end′ more; so-far = more }
 
--- as many as the widest process takes lay down all that a process opens into
-pub all-written : (d : List ℕ) (i : ℕ) (hall : List ℕ) (at : ℕ) (turns : ℕ) (stack : List ℕ) (n : ℕ) (hall′ : List ℕ) (end : ℕ) → 127 ≤ turns →
-    TurnsMade d i turns hall at stack n hall′ end → ComponentsWritten d i hall at hall′ end
-unfolding componentsBytes
-all-written d i hall at turns stack n hall′ end h y = record { found = λ ts P x e. go ts P x e }
-  where
-    go : (ts : List Term) (P : Program) → Decoded ts d → getElem? ts i ≡ some (process P) →
-        (end ≡ at + length (componentsBytes P)) × (hall′ ≡ written hall at (componentsBytes P) (length (componentsBytes P)))
-    go ts P x e =
-        let limit = x .good .limits i (process P) e in
-        let laid = rw (all-laid P turns (omega arith)) at (y .found ts P x e .1) in (laid .end, laid .bytes)
+        pub opening-falls : toGo d stack′ n′ < toGo d stack n
+        opening-falls = to-go-falls d stack n v u hall′ end opening-turns stack′ n′ v′ u′ hall″ end′ z
+
+    pub opening-ends : Opening d i hall at stack n v u hall′ end → n ≡ 0 → ComponentsWritten d i hall at hall′ end
+    opening-ends y h = all-written d i hall at x (y .made) stack n v u hall′ end (y .so-far) h
+
+    module _ (turns made : ℕ) (y : Making d i turns hall at made stack n v u hall′ end) where
+      pub making-turns : (n ≡ 0 → ⊥) → CanTurn d stack n v u hall′ end
+      making-turns h = can-turn d i hall at x made stack n v u hall′ end (y .so-far) h
+
+      pub making-on : made < turns → (n ≡ 0 → ⊥) → (stack′ : List ℕ) (n′ v′ u′ : ℕ) (hall″ : List ℕ) (end′ : ℕ) →
+          TurnMade d stack n hall′ end stack′ n′ v′ u′ hall″ end′ → Making d i turns hall at (made + 1) stack′ n′ v′ u′ hall″ end′
+      making-on less h stack′ n′ v′ u′ hall″ end′ z =
+          let more = one-made d i hall at x made stack n v u hall′ end (y .so-far) h stack′ n′ v′ u′ hall″ end′ z in
+          record { few = omega arith; sized = turns-long d i hall at x (made + 1) stack′ n′ v′ u′ hall″ end′ more; so-far = more }
+
+      pub making-ends : turns ≤ made → TurnsMade d i turns hall at stack n v u hall′ end
+      making-ends h = let few = y .few in let same : turns ≡ made = omega arith in rw same (y .so-far)
+
+      pub making-stops : n ≡ 0 → TurnsMade d i turns hall at stack n v u hall′ end
+      making-stops h = none-waits d i hall at x made stack n v u hall′ end (y .so-far) h turns (y .few)

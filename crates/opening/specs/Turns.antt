@@ -2,11 +2,11 @@
 --
 -- d is a decoded table; i is the number of a process.
 -- Assumes nothing.
-use Prim.Native.Nat.{ℕ, suc, _+_, _*_, _≤_}
+use Prim.Native.Nat.{ℕ, suc, _+_, _-_, _*_, _≤_}
 use mathlib.Core.Path.{_≡_}
 use mathlib.Core.Option.{none, some}
 use mathlib.Core.List.{List, [], _∷_}
-use lib.ListN.{length, getD, getElem?}
+use lib.ListN.{length, getD, set, getElem?}
 use Rattle.semantics.specs.Definitions.Terms.{Program, Term, process}
 use Rattle.semantics.specs.Definitions.Configuration.{Idle, idle}
 use Rattle.semantics.specs.Definitions.Turns.{turn, waitingAfter, listed, laidBy, TurnAnswer, lays, pastEnd, notTurned, showNext}
@@ -30,30 +30,49 @@ pub record LaidDown (cs : List Idle) (before : List ℕ) (from : ℕ) (after : L
   pub end : to ≡ from + length (idleBytes cs)
   pub bytes : after ≡ written before from (idleBytes cs) (length (idleBytes cs))
 
+-- u is the number of the term after the next one, where two or more wait
+pub record AfterNext (stack : List ℕ) (n u : ℕ) : Type 0 where
+  pub stands : 2 ≤ n → u ≡ getD stack (n - 2) 0
+
+-- v is the number of the next term, where one waits, and u of the one after it
+pub record OnTop (stack : List ℕ) (n v u : ℕ) : Type 0 where
+  pub next : 1 ≤ n → v ≡ getD stack (n - 1) 0
+  pub after : AfterNext stack n u
+
 -- some terms of a table that d decodes wait, no wider in all than a process may be, and what they open into fits into
 -- the hall from an offset on
-pub record CanTurn (d : List ℕ) (stack : List ℕ) (n : ℕ) (hall : List ℕ) (from : ℕ) : Type 0 where
+pub record CanTurn (d : List ℕ) (stack : List ℕ) (n v u : ℕ) (hall : List ℕ) (from : ℕ) : Type 0 where
   pub terms : List Term
   pub next : Program
   pub rest : List Program
   pub decoded : Decoded terms d
   pub waiting : Waiting terms stack n (next ∷ rest)
+  pub on-top : OnTop stack n v u
   pub sized : length stack ≡ maxComponents
   pub narrow : widths (next ∷ rest) ≤ maxComponents
   pub fits : from + idleSize * widths (next ∷ rest) ≤ length hall
 
 -- of any terms that wait: those wait that a turn leaves, and what it lays down stands in the hall
 pub record TurnMade (d : List ℕ) (stack : List ℕ) (n : ℕ) (hall : List ℕ) (from : ℕ)
-    (stack′ : List ℕ) (n′ : ℕ) (hall′ : List ℕ) (to : ℕ) : Type 0 where
+    (stack′ : List ℕ) (n′ v u : ℕ) (hall′ : List ℕ) (to : ℕ) : Type 0 where
   pub sized : length stack′ ≡ length stack
+  pub on-top : OnTop stack′ n′ v u
   pub found : (ts : List Term) (P : Program) (Ps : List Program) → Decoded ts d → Waiting ts stack n (P ∷ Ps) →
       Waiting ts stack′ n′ (turn P Ps .waiting) × LaidDown (listed (turn P Ps .laid)) hall from hall′ to
+
+-- before the first turn process number i waits alone
+pub record Begun (stack : List ℕ) (i from : ℕ) (stack′ : List ℕ) (n v u to : ℕ) : Type 0 where
+  pub alone : n ≡ 1
+  pub next : v ≡ i
+  pub stands : stack′ ≡ set stack 0 i
+  pub nowhere : to ≡ from
 
 -- of any table that d decodes: after so many turns from process number i on those terms wait that they leave, and what
 -- they lay down stands in the hall
 pub record TurnsMade (d : List ℕ) (i turns : ℕ) (hall : List ℕ) (from : ℕ)
-    (stack : List ℕ) (n : ℕ) (hall′ : List ℕ) (to : ℕ) : Type 0 where
+    (stack : List ℕ) (n v u : ℕ) (hall′ : List ℕ) (to : ℕ) : Type 0 where
   pub sized : length stack ≡ maxComponents
+  pub on-top : OnTop stack n v u
   pub found : (ts : List Term) (P : Program) → Decoded ts d → getElem? ts i ≡ some (process P) →
       Waiting ts stack n (waitingAfter turns (P ∷ [])) × LaidDown (laidBy turns (P ∷ [])) hall from hall′ to
 

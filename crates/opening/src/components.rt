@@ -1,7 +1,5 @@
 // The components (stations) of a process: one written, all of them written, all of them counted.
-use crate::turns::MAX_TURNS;
-use crate::turns::STACK;
-use crate::turns::make_turns;
+use crate::turns::make_all_turns;
 use records::NIL;
 use records::PUT;
 use stored::COMPONENT_BODY;
@@ -52,9 +50,7 @@ pub fn write_components(decoded: &[u8; DECODED], term: usize, hall: &mut [u8], a
     requires { ⌜ ComponentsFit (now decoded) term (now hall) at ⌝ }
     ensures { λ r. ⌜ ComponentsWritten (now (decoded .entry)) term (now (hall .entry)) at (now (hall .exit)) r ⌝ }
 {
-    let mut stack = [0u8; STACK];
-    let turned = make_turns(decoded, term, MAX_TURNS, &mut stack, hall, at);
-    turned.end
+    make_all_turns(decoded, term, hall, at)
 }
 
 // How many components the process at a term number opens into: written into a buffer, and counted there. A process is

@@ -8,82 +8,122 @@ use stored::IDLE_SIZE;
 use stored::MAX_COMPONENTS;
 use terms::DECODED;
 ghost use mathlib.Core.Path.{_≡_};
+ghost use Prim.Native.Nat.{_≤_, _<_};
 ghost use lib.ListN.{length};
 ghost use Rattle.stored.specs.Layout.{maxComponents};
-ghost use Rattle.terms.specs.Decoded.{AProcess};
-ghost use Rattle.opening.specs.Opening.{ComponentsFit};
-ghost use Rattle.opening.specs.Turns.{CanTurn, TurnMade, TurnsMade, TurnShown};
+ghost use Rattle.terms.specs.Decoded.{maxTerms, AProcess};
+ghost use Rattle.opening.specs.Opening.{ComponentsFit, ComponentsWritten};
+ghost use Rattle.opening.specs.Turns.{AfterNext, CanTurn, TurnMade, Begun, TurnsMade, TurnShown};
 
 // The stack's entries: never more terms wait than the process is wide, so that there is nothing to test.
 pub const STACK: usize = MAX_COMPONENTS;
 
-// A process so wide takes so many turns, a narrower one fewer.
-pub const MAX_TURNS: usize = 2 * STACK - 1;
-
-// How many terms are still to open, and the offset behind what is laid down.
-pub struct Turned {
+// How far an opening is: how many terms wait on the stack, the number of the next one and of the one after it, and the
+// offset behind what is laid down. The two numbers stand on the stack as well; read back from there right after they
+// were stored they would be waited for in nearly every turn.
+pub struct Progress {
     pub waiting: usize,
+    pub next: usize,
+    pub after: usize,
     pub end: usize,
 }
 
-// One turn, with so many terms still to open: two side by side give way to their sides, the left one next; any other
-// process is laid down at the offset, if it opens into a component.
+// The number of the term after the next one, where two or more wait. Chosen without a branch.
+fn after_next(stack: &[u8; STACK], waiting: usize) -> usize
+    requires { ⌜ waiting ≤ maxComponents ⌝ }
+    ensures { λ r. ⌜ AfterNext (now (stack .entry)) waiting r ⌝ }
+{
+    let at = if waiting < 2 { 0 } else { waiting - 2 };
+    wide(stack[at])
+}
+
+// One turn, where a term waits: two side by side give way to their sides, the left one next; any other process is laid
+// down, if it opens into a component.
 pub fn turn(
     decoded: &[u8; DECODED],
     stack: &mut [u8; STACK],
-    waiting: usize,
+    from: Progress,
     hall: &mut [u8],
-    at: usize,
-) -> Turned
-    requires { ⌜ CanTurn (now decoded) (now stack) waiting (now hall) at ⌝ }
-    ensures { λ r. ⌜ TurnMade (now (decoded .entry)) (now (stack .entry)) waiting (now (hall .entry)) at
-        (now (stack .exit)) (r .waiting) (now (hall .exit)) (r .end) ⌝ }
+) -> Progress
+    requires { ⌜ CanTurn (now decoded) (now stack) (from .waiting) (from .next) (from .after) (now hall) (from .end) ⌝ }
+    ensures { λ r. ⌜ TurnMade (now (decoded .entry)) (now (stack .entry)) (from .waiting) (now (hall .entry)) (from .end)
+        (now (stack .exit)) (r .waiting) (r .next) (r .after) (now (hall .exit)) (r .end) ⌝ }
 {
+    let waiting = from.waiting;
+    let term = from.next;
     let below = waiting - 1;
-    let term = wide(stack[below]);
     if terms::kind_of(decoded, term) == PAR {
-        stack[below] = terms::second_of(decoded, term);
-        stack[waiting] = terms::first_of(decoded, term);
-        return Turned {
+        let left = terms::first_of(decoded, term);
+        let right = terms::second_of(decoded, term);
+        stack[below] = right;
+        stack[waiting] = left;
+        return Progress {
             waiting: waiting + 1,
-            end: at,
+            next: wide(left),
+            after: wide(right),
+            end: from.end,
         };
     }
-    let end = write_single(decoded, term, hall, at);
-    Turned {
+    let end = write_single(decoded, term, hall, from.end);
+    Progress {
         waiting: below,
+        next: from.after,
+        after: after_next(stack, below),
         end,
     }
 }
 
-// So many turns from the process at a term number on, or fewer where nothing is left to open.
-pub fn make_turns(
+// Before the first turn: the process at a term number waits alone.
+fn begin(stack: &mut [u8; STACK], term: usize, at: usize) -> Progress
+    requires { ⌜ (term < maxTerms) × (length (now stack) ≡ maxComponents) ⌝ }
+    ensures { λ r. ⌜ Begun (now (stack .entry)) term at (now (stack .exit)) (r .waiting) (r .next) (r .after) (r .end) ⌝ }
+{
+    stack[0] = term as u8;
+    Progress {
+        waiting: 1,
+        next: term,
+        after: 0,
+        end: at,
+    }
+}
+
+// All turns from the process at a term number on: the answer is the offset behind what they lay down.
+pub fn make_all_turns(decoded: &[u8; DECODED], term: usize, hall: &mut [u8], at: usize) -> usize
+    requires { ⌜ ComponentsFit (now decoded) term (now hall) at ⌝ }
+    ensures { λ r. ⌜ ComponentsWritten (now (decoded .entry)) term (now (hall .entry)) at (now (hall .exit)) r ⌝ }
+{
+    let mut stack = [0u8; STACK];
+    let mut progress = begin(&mut stack, term, at);
+    while progress.waiting != 0 {
+        progress = turn(decoded, &mut stack, progress, hall);
+    }
+    progress.end
+}
+
+// So many turns, or fewer where nothing waits any more.
+fn make_turns(
     decoded: &[u8; DECODED],
     term: usize,
     turns: usize,
     stack: &mut [u8; STACK],
     hall: &mut [u8],
     at: usize,
-) -> Turned
+) -> Progress
     requires { ⌜ ComponentsFit (now decoded) term (now hall) at ⌝ }
     requires { ⌜ length (now stack) ≡ maxComponents ⌝ }
     ensures { λ r. ⌜ TurnsMade (now (decoded .entry)) term turns (now (hall .entry)) at (now (stack .exit)) (r .waiting)
-        (now (hall .exit)) (r .end) ⌝ }
+        (r .next) (r .after) (now (hall .exit)) (r .end) ⌝ }
 {
-    stack[0] = term as u8;
-    let mut waiting = 1;
-    let mut end = at;
+    let mut progress = begin(stack, term, at);
     let mut made = 0;
     while made < turns {
-        if waiting == 0 {
-            return Turned { waiting, end };
+        if progress.waiting == 0 {
+            return progress;
         }
-        let turned = turn(decoded, stack, waiting, hall, end);
-        waiting = turned.waiting;
-        end = turned.end;
+        progress = turn(decoded, stack, progress, hall);
         made = made + 1;
     }
-    Turned { waiting, end }
+    progress
 }
 
 // What a turn shows: the two bytes of a component that it lays down, or that it lays down none, each with how many terms
@@ -106,9 +146,9 @@ pub fn show_turn(decoded: &[u8; DECODED], term: usize, number: usize) -> Shown
     if before.waiting == 0 {
         return Shown::PastEnd;
     }
-    let after = turn(decoded, &mut stack, before.waiting, &mut laid, at);
-    let waiting = after.waiting;
-    if after.end == at {
+    let made = turn(decoded, &mut stack, before, &mut laid);
+    let waiting = made.waiting;
+    if made.end == at {
         return Shown::Nothing { waiting };
     }
     Shown::Component {

@@ -219,7 +219,7 @@ unfolding turnsToGo
 alone-turns P = omega arith
 
 -- nothing waits, exactly from so many turns on
-ends : (P : Program) (n : ℕ) → (waitingAfter n (P ∷ []) ≡ []) ↔ (2 * width P - 1 ≤ n)
+pub ends : (P : Program) (n : ℕ) → (waitingAfter n (P ∷ []) ≡ []) ↔ (2 * width P - 1 ≤ n)
 unfolding turnsToGo
 ends P n =
     let c = turns-counted n (P ∷ []) in

@@ -22,7 +22,7 @@ slice-aggregate-turn c = search needs
 turn-requires : tie.Need-turn-requires
 turn-requires c κs =
     let made = c .before .before .before .before .before in
-    can-show _ _ _ _ _ _ _ _ _ (made .make-turns .ensures) (made .before .before .before .pre) (omega arith) (search needs)
+    can-show _ _ _ _ _ _ _ _ _ _ _ (made .make-turns .ensures) (made .before .before .before .pre) (omega arith) (search needs)
 
 returns-2 : tie.Need-returns-2
 returns-2 c = search nothing-shown
@@ -30,23 +30,23 @@ returns-2 c = search nothing-shown
 array-read-t19 : tie.Need-array-read-t19
 array-read-t19 c =
     let made = c .before .before .before .before .before .before .before .before .before in
-    let room = room-shown _ _ _ _ _ _ _ _ _ (made .make-turns .ensures) (made .before .before .before .pre) (omega arith) (search needs) in omega arith
+    let room = room-shown _ _ _ _ _ _ _ _ _ _ _ (made .make-turns .ensures) (made .before .before .before .pre) (omega arith) (search needs) in omega arith
 
 add-t20 : tie.Need-add-t20
 add-t20 c =
     let made = c .before .before .before .before .before .before .before .before .before in
-    let room = room-shown _ _ _ _ _ _ _ _ _ (made .make-turns .ensures) (made .before .before .before .pre) (omega arith) (search needs) in record { fits = omega arith }
+    let room = room-shown _ _ _ _ _ _ _ _ _ _ _ (made .make-turns .ensures) (made .before .before .before .pre) (omega arith) (search needs) in record { fits = omega arith }
 
 array-read-t23 : tie.Need-array-read-t23
 array-read-t23 c =
     let made = c .before .before .before .before .before .before .before .before .before in
-    let room = room-shown _ _ _ _ _ _ _ _ _ (made .make-turns .ensures) (made .before .before .before .pre) (omega arith) (search needs) in omega arith
+    let room = room-shown _ _ _ _ _ _ _ _ _ _ _ (made .make-turns .ensures) (made .before .before .before .pre) (omega arith) (search needs) in omega arith
 
 returns-3 : tie.Need-returns-3
 returns-3 c =
     let made = c .before .before .before .before .before .before .before .before .before in
-    let room = room-shown _ _ _ _ _ _ _ _ _ (made .make-turns .ensures) (made .before .before .before .pre) (omega arith) (search needs) in
-    component-shown _ _ _ _ _ _ _ _ _ (made .make-turns .ensures) (search needs) _ _ _ _ (c .before .before .before .turn .ensures) (search needs) (omega arith) _ refl _ refl
+    let room = room-shown _ _ _ _ _ _ _ _ _ _ _ (made .make-turns .ensures) (made .before .before .before .pre) (omega arith) (search needs) in
+    component-shown _ _ _ _ _ _ _ _ _ _ _ (made .make-turns .ensures) (search needs) _ _ _ _ _ _ (c .before .before .before .turn .ensures) (search needs) (omega arith) _ refl _ refl
 
 pub show-turn-spec : {M : Type 1} → statement M
 show-turn-spec =
