@@ -55,10 +55,11 @@ pub fn turn(
     if terms::kind_of(decoded, term) == PAR {
         let left = terms::first_of(decoded, term);
         let right = terms::second_of(decoded, term);
+        let more = waiting + 1;
         stack[below] = right;
         stack[waiting] = left;
         return Progress {
-            waiting: waiting + 1,
+            waiting: more,
             next: wide(left),
             after: wide(right),
             end: from.end,
@@ -151,9 +152,11 @@ pub fn show_turn(decoded: &[u8; DECODED], term: usize, number: usize) -> Shown
     if made.end == at {
         return Shown::Nothing { waiting };
     }
+    let kind = laid[at];
+    let body = laid[at + COMPONENT_BODY];
     Shown::Component {
-        kind: laid[at],
-        body: laid[at + COMPONENT_BODY],
+        kind,
+        body,
         waiting,
     }
 }

@@ -27,18 +27,18 @@ turn-requires c κs =
 returns-2 : tie.Need-returns-2
 returns-2 c = search nothing-shown
 
-array-read-t19 : tie.Need-array-read-t19
-array-read-t19 c =
+array-read-kind : tie.Need-array-read-kind
+array-read-kind c =
     let made = c .before .before .before .before .before .before .before .before .before in
     let room = room-shown _ _ _ _ _ _ _ _ _ _ _ (made .make-turns .ensures) (made .before .before .before .pre) (omega arith) (search needs) in omega arith
 
-add-t20 : tie.Need-add-t20
-add-t20 c =
+add-body : tie.Need-add-body
+add-body c =
     let made = c .before .before .before .before .before .before .before .before .before in
     let room = room-shown _ _ _ _ _ _ _ _ _ _ _ (made .make-turns .ensures) (made .before .before .before .pre) (omega arith) (search needs) in record { fits = omega arith }
 
-array-read-t23 : tie.Need-array-read-t23
-array-read-t23 c =
+array-read-body : tie.Need-array-read-body
+array-read-body c =
     let made = c .before .before .before .before .before .before .before .before .before in
     let room = room-shown _ _ _ _ _ _ _ _ _ _ _ (made .make-turns .ensures) (made .before .before .before .pre) (omega arith) (search needs) in omega arith
 
@@ -58,7 +58,7 @@ show-turn-spec =
     slice-aggregate-turn
     turn-requires
     returns-2
-    array-read-t19
-    add-t20
-    array-read-t23
+    array-read-kind
+    add-body
+    array-read-body
     returns-3)

@@ -18,14 +18,14 @@ first-of-requires c κs = search next-inside
 second-of-requires : tie.Need-second-of-requires
 second-of-requires c κs = search next-inside
 
+add-more : tie.Need-add-more
+add-more c = search one-more-fits
+
 element-write-stack : tie.Need-element-write-stack
 element-write-stack c = search top-inside
 
 element-write-stack-2 : tie.Need-element-write-stack-2
 element-write-stack-2 c = search room-above
-
-add-t17 : tie.Need-add-t17
-add-t17 c = search one-more-fits
 
 wide-requires : tie.Need-wide-requires
 wide-requires c κs = search needs
@@ -56,9 +56,9 @@ turn-spec =
     kind-of-requires
     first-of-requires
     second-of-requires
+    add-more
     element-write-stack
     element-write-stack-2
-    add-t17
     wide-requires
     wide-requires-2
     returns
