@@ -11,13 +11,15 @@ use lib.Dec.{ltb}
 use borrow.Author.Tests.{ltb-true, ltb-false}
 use Rattle.semantics.specs.Definitions.Moves.{Entry, Reply}
 use Rattle.semantics.specs.Definitions.Calls.{Verdict, ok, rejected, checkTable, checkHall, OpenAnswer, opened, notOpened, openHall, openVerdict}
+use Rattle.semantics.specs.Definitions.Turns.{notTurned, turnCall}
 use Rattle.semantics.specs.Definitions.Suggestion.{SuggestAnswer, suggested, still, notSuggested, suggestCall}
 use Rattle.semantics.specs.Definitions.Sentence.{sentenceCall}
 use Rattle.semantics.specs.Claims.Suggestions.{RefusedAsChecked}
+use Rattle.semantics.specs.Claims.Turns.{TurnsRefusedAsChecked}
 use Rattle.semantics.specs.Checks.Conditions.{RefusalNumbers}
 use Rattle.semantics.specs.Checks.Sentences.{ShortBuffersRefused}
-use Rattle.theorems.proofs.Theorems.{refusal-numbers, refused-as-checked, short-buffers-refused}
-use Rattle.ruonfidd.specs.Answered.{VerdictAnswered, OpeningAnswered, choiceWords, SuggestionAnswered, SentenceAnswered}
+use Rattle.theorems.proofs.Theorems.{refusal-numbers, refused-as-checked, turns-refused-as-checked, short-buffers-refused}
+use Rattle.ruonfidd.specs.Answered.{VerdictAnswered, OpeningAnswered, TurnAnswered, choiceWords, SuggestionAnswered, SentenceAnswered}
 
 zero-ok : (v : Verdict) → ((n p : ℕ) → v ≡ rejected n p → 1 ≤ n) → (set : ℕ) → VerdictAnswered v 0 set → v ≡ ok
 zero-ok ok above set t = refl
@@ -41,6 +43,14 @@ zero-opened table hall set bytes t =
     above : (a : OpenAnswer) → (openHall table hall) .answer ≡ a → (n p : ℕ) → openVerdict a ≡ rejected n p → 1 ≤ n
     above (opened c) e n p f = absurd (let z : _≡_ {A = ℕ} 0 1 = cc in omega arith)
     above (notOpened m q) e n p f = refusal-numbers table hall n p .1 (cc) .0
+
+-- a turn with number 0 is shown: its table is not refused
+pub zero-turn : (table : List ℕ) (n place laid : ℕ) (station : List ℕ) (left : ℕ) → TurnAnswered (turnCall table n) 0 place laid station left →
+    (k p : ℕ) → turnCall table n ≡ notTurned k p → ⊥
+unfolding TurnsRefusedAsChecked
+zero-turn table n place laid station left t k p e =
+    let number : 0 ≡ k = rw e at (t .number) in
+    let above = turns-refused-as-checked table n k p .1 e .0 in omega arith
 
 -- a suggestion with number 0 is a choice, or that the hall is still: its three bytes tell which
 pub zero-suggested : (table hall : List ℕ) (place : ℕ) (w : List ℕ) →

@@ -3,10 +3,10 @@
 use mathlib.Core.Path.{refl}
 use Rattle.semantics.specs.Definitions.Report.{printedRun}
 use Rattle.semantics.specs.Checks.Examples.{observed}
-use Rattle.semantics.specs.Checks.LongExamples.{longRuns, longPrints, HallsChecked, Rehearsed, Rejected, Mixed, LongExamples}
+use Rattle.semantics.specs.Checks.LongExamples.{longRuns, longPrints, HallsChecked, Rehearsed, Rejected, Mixed, leaningTable, Leaning, LongExamples}
 
 pub long-examples : LongExamples
-unfolding observed longRuns longPrints printedRun HallsChecked Rehearsed Rejected Mixed
+unfolding observed longRuns longPrints printedRun HallsChecked Rehearsed Rejected Mixed Leaning leaningTable
 long-examples = record {
   runs = (refl, (refl, (refl, (refl, (refl, (refl, (refl, tt)))))));
   printed-runs = (refl, (refl, (refl, tt)));
@@ -14,4 +14,5 @@ long-examples = record {
   rehearsed = refl;
   rejected = (refl, refl, refl, refl);
   mixed = refl;
+  leaning = (refl, refl);
 }

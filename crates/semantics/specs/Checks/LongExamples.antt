@@ -1,16 +1,19 @@
 -- Worked examples that take long to compute: runs through every call beside those of specs/Checks/Examples, printed runs
--- of many choices, a hall that is full, steps one after another, and a list of calls that mixes runs and steps. They are
--- proved in the crate theorems, proofs/LongExamples, where they are computed once, and not with each edit of a definition.
+-- of many choices, a hall that is full, steps one after another, a list of calls that mixes runs and steps, and the turns
+-- of an opening 64 wide. They are proved in the crate theorems, proofs/LongExamples, where they are computed once, and not
+-- with each edit of a definition.
 -- Assumes nothing.
 use Prim.Native.Nat.{ℕ}
 use mathlib.Core.Path.{_≡_}
 use mathlib.Core.Option.{none, some}
-use mathlib.Core.List.{List, [], _∷_, _++_, map}
+use mathlib.Core.List.{List, [], _∷_, _++_, map, flatten}
 use lib.ListN.{replicate}
 use Rattle.calculus.specs.Syntax.{rd, wt}
 use Rattle.calculus.specs.Reduction.{OUT, IN, REP, ATST, ATRE, ATFAIL, ATOK, ARDOK, ARDF, AWR, AOI, AOF, AOE}
-use Rattle.semantics.specs.Definitions.Basics.{All}
+use Rattle.semantics.specs.Definitions.Basics.{All, countUp}
 use Rattle.semantics.specs.Definitions.Shortage.{enough}
+use Rattle.semantics.specs.Definitions.Configuration.{output}
+use Rattle.semantics.specs.Definitions.Turns.{lays, pastEnd, notTurned, turnCall}
 use Rattle.semantics.specs.Definitions.Run.{Counters}
 use Rattle.semantics.specs.Definitions.Calls.{checkHall, openHall, Buffers, StepCall, stepCall, runChoices, stepChoice}
 use Rattle.semantics.specs.Definitions.Sentence.{ascii}
@@ -166,6 +169,21 @@ Mixed =
       oneStep = some (record { counts = trays "0 1"; stations = []; counters = tally 4 4 5 });
     }
 
+-- ---- an opening turn by turn, at the limit of the width (document 02, Q-4)
+
+-- put 0, and so many times more, each to the right of all before it
+unfoldable pub leaningTable : ℕ → List ℕ
+unfolding countUp flatten
+leaningTable n = 2 ∷ 0 ∷ (flatten (map (λ k. 5 ∷ k ∷ 0 ∷ []) (countUp 0 n)) ++ (13 ∷ n ∷ []))
+
+-- 64 wide: all 64 terms wait at once; 65 wide: refused, at the record that is too wide
+unfoldable pub Leaning : Type 0
+unfolding leaningTable turnCall
+Leaning =
+    (map (turnCall (leaningTable 63)) (62 ∷ 63 ∷ 126 ∷ 127 ∷ []) ≡
+    lays none 64 ∷ lays (some (output 0)) 63 ∷ lays (some (output 0)) 0 ∷ pastEnd ∷ []) ×
+    (turnCall (leaningTable 64) 0 ≡ notTurned 7 191)
+
 -- ---- the claim
 
 pub record LongExamples : Type 0 where
@@ -175,3 +193,4 @@ pub record LongExamples : Type 0 where
   pub rehearsed : Rehearsed
   pub rejected : Rejected
   pub mixed : Mixed
+  pub leaning : Leaning
