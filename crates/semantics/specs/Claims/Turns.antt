@@ -103,8 +103,8 @@ CallsShowTurns =
 unfoldable pub CallsShowTheOpening : Type 0
 unfolding turnCall shownBy countUp opening flatten width
 CallsShowTheOpening =
-    (table : List ℕ) (t : Table) → readTable table ≡ accepted t →
-    map idle (flatten (map (λ n. shownBy (turnCall table n)) (countUp 0 (2 * width (t .start) - 1)))) ≡ opening t .components
+    (table : List ℕ) (t : Table) → readTable table ≡ accepted t → let turns = countUp 0 (2 * width (t .start) - 1) in
+    map idle (flatten (map (λ n. shownBy (turnCall table n)) turns)) ≡ opening t .components
 
 -- a refusal is that of a check of the table, whatever the turn, and no other than 1 to 9
 unfoldable pub TurnsRefusedAsChecked : Type 0
