@@ -1,13 +1,17 @@
-//! Turns of an opening: each call's answer, compared, and the turns that the
-//! shape of a start term asks for.
+//! Turns of an opening, each call's answer compared with the second
+//! implementation's.
 
 use std::fmt;
 
+use reference::calls;
+use reference::hall::Station;
 use reference::table::{byte_of, width, Table, Term};
-use ruonfidd::{check_table, ffi, opening_turn, Station};
+use reference::turns::Turn;
+use ruonfidd::{ffi, opening_turn};
 
+use super::answers::Answer;
 use super::by_hand::{PUTTING, WAITING};
-use super::wrong_turns::WRONG;
+use super::wrong_turns::{right, WRONG};
 
 /// What a turn lays down, by the two bytes that it has in a hall, and how many
 /// terms are left then.
@@ -17,78 +21,76 @@ pub(crate) struct OneTurn {
     pub(crate) left: usize,
 }
 
-/// Everything that a call answers and sets.
-#[derive(Clone, Copy, Debug, PartialEq, Eq)]
-pub(crate) struct TurnAnswer {
-    pub(crate) number: u8,
-    pub(crate) place: usize,
-    pub(crate) laid: u8,
-    pub(crate) station: [u8; 2],
-    pub(crate) left: usize,
-}
+/// The turn, none past the end, or the refusal.
+pub(crate) type TurnAnswer = Result<Option<OneTurn>, Answer>;
 
-impl TurnAnswer {
-    /// The answer to a turn that there is, or past the end.
-    pub(crate) fn of(turn: Option<OneTurn>) -> TurnAnswer {
-        let station = turn.and_then(|turn| turn.laid);
-        TurnAnswer {
-            number: 0,
-            place: 0,
-            laid: match turn {
-                None => 2,
-                Some(turn) => u8::from(turn.laid.is_some()),
-            },
-            station: station.unwrap_or([0, 0]),
-            left: turn.map_or(0, |turn| turn.left),
-        }
-    }
+/// Number, place, laid, station and left: all that a bare call sets.
+type AllSet = (u8, usize, u8, [u8; 2], usize);
 
-    /// The answer where the table is refused.
-    pub(crate) fn refused(number: u8, place: usize) -> TurnAnswer {
-        TurnAnswer {
-            number,
-            place,
-            laid: 0,
-            station: [0, 0],
-            left: 0,
-        }
+fn all_set(answer: TurnAnswer) -> AllSet {
+    match answer {
+        Err((number, place)) => (number, place, 0, [0, 0], 0),
+        Ok(None) => (0, 0, 2, [0, 0], 0),
+        Ok(Some(OneTurn { laid: None, left })) => (0, 0, 0, [0, 0], left),
+        Ok(Some(OneTurn {
+            laid: Some(station),
+            left,
+        })) => (0, 0, 1, station, left),
     }
 }
 
-/// The answer of the bare call, which has to set everything.
-fn bare(table: &[u8], turn: usize) -> TurnAnswer {
+/// What the bare call sets. Before it stands there what no call sets, so that
+/// something left as it was would be noticed.
+fn bare(table: &[u8], turn: usize) -> AllSet {
     let (mut laid, mut station) = (u8::MAX, [u8::MAX; 2]);
     let (mut left, mut place) = (usize::MAX, usize::MAX);
     let number = ffi::opening_turn(table, turn, &mut laid, &mut station, &mut left, &mut place);
-    TurnAnswer {
-        number,
-        place,
-        laid,
-        station,
-        left,
-    }
+    (number, place, laid, station, left)
 }
 
 /// The answer of the safe call.
 fn safe(table: &[u8], turn: usize) -> TurnAnswer {
     match opening_turn(table, turn) {
-        Err(refusal) => TurnAnswer::refused(refusal.number, refusal.place),
-        Ok(turn) => TurnAnswer::of(turn.map(|turn| OneTurn {
-            laid: turn.laid.map(Station::to_bytes),
+        Err(refusal) => Err((refusal.number, refusal.place)),
+        Ok(turn) => Ok(turn.map(|turn| OneTurn {
+            laid: turn.laid.map(ruonfidd::Station::to_bytes),
             left: turn.left,
         })),
     }
 }
 
-/// The answer to a turn; a difference between the calls fails the test.
+/// The answer of the second implementation.
+fn second(table: &[u8], turn: usize) -> TurnAnswer {
+    match calls::opening_turn(table, turn) {
+        Err(refusal) => Err((refusal.number, refusal.place)),
+        Ok(Turn::PastTheEnd) => Ok(None),
+        Ok(Turn::Nothing { to_open }) => Ok(Some(OneTurn {
+            laid: None,
+            left: to_open,
+        })),
+        Ok(Turn::Laid { station, to_open }) => Ok(Some(OneTurn {
+            laid: Some(bytes_of(&station)),
+            left: to_open,
+        })),
+    }
+}
+
+/// The bytes of a station that an opening lays down.
+pub(crate) fn bytes_of(station: &Station) -> [u8; 2] {
+    match *station {
+        Station::Waiting { term } => [WAITING, byte_of(term)],
+        Station::Putting { tray } => [PUTTING, tray],
+        Station::Attempt { .. } => panic!("an opening begins no attempt"),
+    }
+}
+
+/// The answer to a turn; a difference fails the test.
 #[track_caller]
 pub(crate) fn turn_answer(table: &[u8], turn: usize) -> TurnAnswer {
-    let answer = bare(table, turn);
+    let answer = second(table, turn);
+    let set = all_set(answer);
+    assert_eq!(bare(table, turn), set, "turn {turn} of {table:?}");
     assert_eq!(safe(table, turn), answer, "turn {turn} of {table:?}");
-    // PLUG: here the second implementation's answer is compared.
-    let checked = check_table(table).err();
-    let refused = checked.map_or((0, 0), |refusal| (refusal.number, refusal.place));
-    assert_eq!((answer.number, answer.place), refused, "{table:?}");
     answer
 }
 
@@ -107,61 +109,29 @@ pub(crate) const FAR: [usize; 10] = [
     usize::MAX,
 ];
 
-/// The opening of this table has these turns and no others.
+/// All turns of an accepted table's opening, asked for one by one; past the last
+/// there are none, however far.
 #[track_caller]
-pub(crate) fn has_turns(table: &[u8], turns: &[OneTurn]) {
-    let beyond = (turns.len()..turns.len() + 3).chain(FAR);
-    for number in (0..turns.len()).chain(beyond) {
-        let expected = TurnAnswer::of(turns.get(number).copied());
+pub(crate) fn all_turns(table: &[u8]) -> Vec<OneTurn> {
+    let mut turns = Vec::new();
+    while let Some(turn) = turn_answer(table, turns.len()).expect("an accepted table") {
+        turns.push(turn);
+    }
+    let end = turns.len();
+    for number in [end + 1, end + 2].into_iter().chain(FAR) {
+        let expected = Ok(turns.get(number).copied());
         let answer = turn_answer(table, number);
         assert_eq!(answer, expected, "turn {number} of {table:?}");
     }
+    turns
 }
 
 /// The table is refused so, whichever turn is asked for.
 #[track_caller]
-pub(crate) fn refused_at_every_turn(table: &[u8], number: u8, place: usize) {
+pub(crate) fn refused_at_every_turn(table: &[u8], refusal: Answer) {
     for turn in [0, 1, 2, 3, 62, 63, 64].into_iter().chain(FAR) {
-        let expected = TurnAnswer::refused(number, place);
-        assert_eq!(
-            turn_answer(table, turn),
-            expected,
-            "turn {turn} of {table:?}"
-        );
-    }
-}
-
-/// The turns of a table's opening, by the shape of its start term.
-pub(crate) fn turns_of(table: &Table) -> Vec<OneTurn> {
-    let mut turns = Vec::new();
-    add_turns(&table.terms, table.start, 0, &mut turns);
-    turns
-}
-
-/// The turns that open a term with so many terms behind it. Of two side by side
-/// the left one opens with one more behind it, the right one.
-fn add_turns(terms: &[Term], term: usize, behind: usize, turns: &mut Vec<OneTurn>) {
-    if let Term::SideBySide { left, right } = terms[term] {
-        turns.push(OneTurn {
-            laid: None,
-            left: behind + 2,
-        });
-        add_turns(terms, left, behind + 1, turns);
-        add_turns(terms, right, behind, turns);
-        return;
-    }
-    turns.push(OneTurn {
-        laid: station_of(terms, term),
-        left: behind,
-    });
-}
-
-/// The station of a process that is not two side by side.
-pub(crate) fn station_of(terms: &[Term], term: usize) -> Option<[u8; 2]> {
-    match terms[term] {
-        Term::Nil => None,
-        Term::Put { tray } => Some([PUTTING, tray]),
-        _ => Some([WAITING, byte_of(term)]),
+        let answer = turn_answer(table, turn);
+        assert_eq!(answer, Err(refusal), "turn {turn} of {table:?}");
     }
 }
 
@@ -188,17 +158,16 @@ pub(crate) struct TurnsMet {
 impl TurnsMet {
     /// Notes what there is to meet in a table's opening, with its turns.
     pub(crate) fn note(&mut self, table: &Table, turns: &[OneTurn]) {
-        let laid: Vec<bool> = turns.iter().map(|turn| turn.laid.is_some()).collect();
-        let stations = laid.iter().filter(|laid| **laid).count();
         self.tables += 1;
         self.turns += turns.len();
-        self.stations += stations;
+        self.stations += turns.iter().filter_map(|turn| turn.laid).count();
         self.left_nested += usize::from(is_nested(table, |left, _| left));
         self.right_nested += usize::from(is_nested(table, |_, right| right));
         self.nil_between += usize::from(has_nil_between(turns));
         self.wide += usize::from(width(&table.terms, table.start) > 8);
         let most = turns.iter().map(|turn| turn.left).max();
         self.most_left = self.most_left.max(most.unwrap_or(0));
+        assert_eq!(right(table), turns, "{table:?}");
         for (times, wrong) in self.wrong.iter_mut().zip(WRONG) {
             *times += usize::from((wrong.turns)(table) != turns);
         }

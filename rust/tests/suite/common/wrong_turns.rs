@@ -3,10 +3,11 @@
 
 use std::collections::VecDeque;
 
+use reference::hall::stations_of;
 use reference::table::{byte_of, Table, Term};
 
 use super::by_hand::{PUTTING, WAITING};
-use super::turns::{station_of, turns_of, OneTurn};
+use super::turns::{bytes_of, OneTurn};
 
 /// A way to open: all its turns.
 pub(crate) struct Wrong {
@@ -25,7 +26,7 @@ type Enter = fn(&mut Waiting, usize, usize);
 fn walk(
     table: &Table,
     enter: Enter,
-    station: fn(&[Term], usize) -> Option<[u8; 2]>,
+    station: fn(&Table, usize) -> Option<[u8; 2]>,
 ) -> Vec<OneTurn> {
     let mut waiting = Waiting::from([table.start]);
     let mut turns = Vec::new();
@@ -35,7 +36,7 @@ fn walk(
                 enter(&mut waiting, left, right);
                 None
             }
-            _ => station(&table.terms, term),
+            _ => station(table, term),
         };
         turns.push(OneTurn {
             laid,
@@ -51,11 +52,21 @@ fn both_next(waiting: &mut Waiting, left: usize, right: usize) {
     waiting.push_front(left);
 }
 
+/// The station of a process that is not two side by side.
+fn station_of(table: &Table, term: usize) -> Option<[u8; 2]> {
+    stations_of(table, term).first().map(bytes_of)
+}
+
+/// The way that none of the wrong ones is.
+pub(crate) fn right(table: &Table) -> Vec<OneTurn> {
+    walk(table, both_next, station_of)
+}
+
 /// The right turns without some of them: each is looked at with how many terms
 /// were left before it.
 fn without(table: &Table, leave_out: fn(OneTurn, usize) -> bool) -> Vec<OneTurn> {
     let mut before = 1;
-    let mut turns = turns_of(table);
+    let mut turns = right(table);
     turns.retain(|turn| {
         let kept = !leave_out(*turn, before);
         before = turn.left;
@@ -115,17 +126,17 @@ pub(crate) const WRONG: [Wrong; 12] = [
     Wrong {
         name: "a nil laid down",
         turns: |table| {
-            walk(table, both_next, |terms, term| {
-                station_of(terms, term).or(Some([WAITING, byte_of(term)]))
+            walk(table, both_next, |table, term| {
+                station_of(table, term).or(Some([WAITING, byte_of(term)]))
             })
         },
     },
     Wrong {
         name: "a put told by its term",
         turns: |table| {
-            walk(table, both_next, |terms, term| match terms[term] {
+            walk(table, both_next, |table, term| match table.terms[term] {
                 Term::Put { .. } => Some([PUTTING, byte_of(term)]),
-                _ => station_of(terms, term),
+                _ => station_of(table, term),
             })
         },
     },
@@ -153,7 +164,7 @@ pub(crate) const WRONG: [Wrong; 12] = [
         name: "how many were left before the turn",
         turns: |table| {
             let mut before = 1;
-            let mut turns = turns_of(table);
+            let mut turns = right(table);
             for turn in &mut turns {
                 before = std::mem::replace(&mut turn.left, before);
             }

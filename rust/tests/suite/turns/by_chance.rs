@@ -1,24 +1,33 @@
 //! Openings of tables by chance, turn by turn.
 
-use reference::calls;
-use reference::generator::{damaged_table, Random};
-use reference::table::read_table;
+use reference::generator::{damaged_table, input, Random};
 
-use super::stations_are_those_of_the_hall;
+use super::turns_to_the_hall;
+use crate::common::answers::{table_answer, ACCEPTED};
 use crate::common::by_chance::{accepted, any_table, tree_table};
 use crate::common::seeds::{say, seeds};
-use crate::common::turns::{has_turns, turn_answer, turns_of, TurnAnswer, TurnsMet, FAR};
+use crate::common::turns::{turn_answer, TurnsMet, FAR};
 
-/// Every turn of an accepted table, and its stations beside the hall's.
+/// Every turn of an accepted table, beside its hall.
 #[track_caller]
 fn compare(table: &[u8], met: &mut TurnsMet) {
-    let read = accepted(table);
-    let turns = turns_of(&read);
-    has_turns(table, &turns);
-    let stations = stations_are_those_of_the_hall(table);
-    let laid = turns.iter().filter(|turn| turn.laid.is_some()).count();
-    assert_eq!(stations, laid, "{table:?}");
-    met.note(&read, &turns);
+    met.note(&accepted(table), &turns_to_the_hall(table));
+}
+
+/// The same of any table. One that a check refuses is refused so at some turns;
+/// how often each number was the answer is counted.
+#[track_caller]
+fn compare_any(table: &[u8], random: &mut Random, numbers: &mut [usize; 10], met: &mut TurnsMet) {
+    let checked = table_answer(table);
+    numbers[usize::from(checked.0)] += 1;
+    if checked == ACCEPTED {
+        compare(table, met);
+        return;
+    }
+    for turn in [0, random.below(200), FAR[random.below(FAR.len())]] {
+        let answer = turn_answer(table, turn);
+        assert_eq!(answer, Err(checked), "turn {turn} of {table:?}");
+    }
 }
 
 /// Tables of all the generator's sorts.
@@ -51,8 +60,7 @@ fn trees_of_any_shape() {
     met.wrong_at_least(1_000);
 }
 
-/// Damaged tables: refused as a check refuses them, whichever turn is asked for;
-/// the others turn by turn.
+/// Tables with some damage.
 #[test]
 fn damaged_tables() {
     let mut met = TurnsMet::default();
@@ -60,16 +68,7 @@ fn damaged_tables() {
     for seed in seeds("turns of damaged tables", 12_000) {
         let mut random = Random::new(seed);
         let table = damaged_table(&mut random);
-        let second = calls::check_table(&table);
-        numbers[usize::from(second.number)] += 1;
-        if second.number == 0 {
-            compare(&table, &mut met);
-            continue;
-        }
-        let expected = TurnAnswer::refused(second.number, second.place);
-        for turn in [0, random.below(200), FAR[random.below(FAR.len())]] {
-            assert_eq!(turn_answer(&table, turn), expected, "{turn} of {table:?}");
-        }
+        compare_any(&table, &mut random, &mut numbers, &mut met);
     }
     say(&format!(
         "turns of damaged tables: numbers 0 to 9 {numbers:?}; {met}"
@@ -77,31 +76,45 @@ fn damaged_tables() {
     assert!(numbers.iter().all(|times| *times >= 40), "{numbers:?}");
 }
 
-/// Trees with one byte changed: most still open, by other turns.
+/// Trees with one byte changed: many still open, by other turns.
 #[test]
 fn trees_with_a_changed_byte() {
     let mut met = TurnsMet::default();
-    let mut refused = 0;
+    let mut numbers = [0; 10];
     for seed in seeds("turns of changed trees", 3_000) {
         let mut random = Random::new(seed);
         let mut table = tree_table(&mut random);
         let at = random.below(table.len());
         table[at] = random.byte_below(40);
-        match read_table(&table) {
-            Ok(_) => compare(&table, &mut met),
-            Err(refusal) => {
-                refused += 1;
-                let expected = TurnAnswer::refused(refusal.number, refusal.place);
-                let turn = random.below(130);
-                assert_eq!(turn_answer(&table, turn), expected, "{turn} of {table:?}");
-            }
-        }
+        compare_any(&table, &mut random, &mut numbers, &mut met);
     }
-    say(&format!("turns of changed trees: {refused} refused; {met}"));
+    say(&format!(
+        "turns of changed trees: numbers 0 to 9 {numbers:?}; {met}"
+    ));
+    let refused: usize = numbers[1..].iter().sum();
     assert!(
         refused >= 1_000 && met.tables >= 500,
         "{refused} refused; {met}"
     );
+}
+
+/// Tables with choices behind them, some longer than any input that is run: most
+/// are refused for what follows the start record.
+#[test]
+fn tables_with_more_behind_them() {
+    let mut met = TurnsMet::default();
+    let mut numbers = [0; 10];
+    let mut longest = 0;
+    for seed in seeds("turns of tables with more behind them", 3_000) {
+        let mut random = Random::new(seed);
+        let table = input(&mut random);
+        longest = longest.max(table.len());
+        compare_any(&table, &mut random, &mut numbers, &mut met);
+    }
+    say(&format!(
+        "turns of tables with more behind them: longest {longest}; numbers 0 to 9 {numbers:?}"
+    ));
+    assert!(longest > 16_384 && numbers[9] >= 2_000, "{numbers:?}");
 }
 
 /// Bytes without any form, at any turn.
@@ -114,7 +127,7 @@ fn bytes_without_form() {
         let bound = [256, 17, 14][round % 3];
         let table: Vec<u8> = (0..length).map(|_| random.byte_below(bound)).collect();
         let turn = random.below(5);
-        refused += usize::from(turn_answer(&table, turn).number != 0);
+        refused += usize::from(turn_answer(&table, turn).is_err());
     }
     assert!(refused >= 99_000, "{refused}");
 }

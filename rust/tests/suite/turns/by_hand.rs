@@ -2,10 +2,9 @@
 
 use reference::build::Builder;
 
-use super::stations_are_those_of_the_hall;
-use crate::common::by_chance::accepted;
+use super::turns_to_the_hall;
 use crate::common::by_hand::{each_kind, EXAMPLE, PUTTING, WAITING};
-use crate::common::turns::{has_turns, turn_answer, turns_of, OneTurn, TurnAnswer};
+use crate::common::turns::{all_turns, turn_answer, OneTurn};
 
 /// A turn that lays down nothing, with so many terms left.
 fn nothing(left: usize) -> OneTurn {
@@ -24,14 +23,10 @@ fn puts(tray: u8, left: usize) -> OneTurn {
     OneTurn { laid, left }
 }
 
-/// These are the turns, by the start term's shape as well, and their stations are
-/// the hall's.
+/// These are the turns.
 #[track_caller]
 fn opens_by(table: &[u8], turns: &[OneTurn]) {
-    has_turns(table, turns);
-    assert_eq!(turns_of(&accepted(table)), turns, "{table:?}");
-    let laid = turns.iter().filter(|turn| turn.laid.is_some()).count();
-    assert_eq!(stations_are_those_of_the_hall(table), laid, "{table:?}");
+    assert_eq!(turns_to_the_hall(table), turns, "{table:?}");
 }
 
 #[test]
@@ -195,8 +190,7 @@ fn leaning_to_the_left_64_wide() {
     let turns: Vec<OneTurn> = pairs.chain(laid).collect();
     assert_eq!(turns.len(), 127);
     opens_by(&bytes, &turns);
-    let most = TurnAnswer::of(Some(nothing(64)));
-    assert_eq!(turn_answer(&bytes, 62), most);
+    assert_eq!(turn_answer(&bytes, 62), Ok(Some(nothing(64))));
 }
 
 /// 64 puts, each to the left of all behind it: never more than two terms are left.
@@ -280,9 +274,9 @@ fn how_many_turns_each_width_has() {
     for width in 1..=64 {
         let bytes = table.start(all);
         let last = 2 * width - 2;
-        let answer = TurnAnswer::of(Some(puts(0, 0)));
+        let answer = Ok(Some(puts(0, 0)));
         assert_eq!(turn_answer(&bytes, last), answer, "width {width}");
-        let past = TurnAnswer::of(None);
+        let past = Ok(None);
         for turn in [last + 1, last + 2, last + 64, usize::MAX] {
             assert_eq!(turn_answer(&bytes, turn), past, "width {width}, {turn}");
         }
@@ -303,10 +297,10 @@ fn turns_asked_for_backwards() {
     let pair = table.side_by_side(put, nil);
     let all = table.copies(pair, 20);
     let bytes = table.start(all);
-    let turns = turns_of(&accepted(&bytes));
+    let turns = all_turns(&bytes);
     assert_eq!(turns.len(), 79);
     for (number, turn) in turns.iter().enumerate().rev() {
-        assert_eq!(turn_answer(&bytes, number), TurnAnswer::of(Some(*turn)));
-        assert_eq!(turn_answer(&bytes, 79), TurnAnswer::of(None));
+        assert_eq!(turn_answer(&bytes, number), Ok(Some(*turn)));
+        assert_eq!(turn_answer(&bytes, 79), Ok(None));
     }
 }

@@ -36,7 +36,7 @@ fn each_refusal() {
     let all = of_each();
     for (table, number, place) in &all {
         table_gives(table, (*number, *place));
-        refused_at_every_turn(table, *number, *place);
+        refused_at_every_turn(table, (*number, *place));
     }
     let mut numbers: Vec<u8> = all.iter().map(|(_, number, _)| *number).collect();
     numbers.dedup();
@@ -64,7 +64,7 @@ fn cut_anywhere() {
     for cut in 0..table.len() {
         let record = *starts.iter().rfind(|at| **at <= cut).expect("a record");
         let number = if record == cut { 9 } else { 2 };
-        refused_at_every_turn(&table[..cut], number, record);
+        refused_at_every_turn(&table[..cut], (number, record));
     }
     assert!(opening_turn(&table, 0).is_ok());
 }

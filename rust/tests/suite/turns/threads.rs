@@ -2,8 +2,8 @@
 
 use reference::generator::Random;
 
-use crate::common::by_chance::{accepted, tree_table};
-use crate::common::turns::{has_turns, turns_of};
+use crate::common::by_chance::tree_table;
+use crate::common::turns::all_turns;
 
 /// The call keeps nothing from one turn to the next.
 #[test]
@@ -13,8 +13,7 @@ fn several_threads() {
             scope.spawn(move || {
                 let mut random = Random::new(seed);
                 for _ in 0..150 {
-                    let table = tree_table(&mut random);
-                    has_turns(&table, &turns_of(&accepted(&table)));
+                    all_turns(&tree_table(&mut random));
                 }
             });
         }
