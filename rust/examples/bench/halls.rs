@@ -1,9 +1,12 @@
-//! Opening a hall and checking a stored one; the table is read by each call.
+//! Opening a hall, one turn of it, and checking a stored one; the table is read
+//! by each call.
 
 use std::hint::black_box;
 
 use reference::build::Builder;
+use reference::calls;
 use reference::hall::{encode, Action, Hall, Leaf, Log, Node, Rest, Station};
+use reference::turns::Turn;
 use ruonfidd::HALL_BYTES;
 
 use crate::measure::{print_part, print_row};
@@ -75,7 +78,27 @@ fn opening(name: &str, table: &[u8]) {
         name,
         ROUNDS,
         &mut || ruonfidd::open_hall(black_box(table), black_box(&mut by_engine)).is_ok(),
-        &mut || reference::calls::open(black_box(table), black_box(&mut by_second)).is_ok(),
+        &mut || calls::open(black_box(table), black_box(&mut by_second)).is_ok(),
+    );
+}
+
+/// The last turn of an opening, 64 wide; each call makes those before it too.
+fn last_turn(name: &str) {
+    let table = puts(6);
+    let turn = 126;
+    let put = ruonfidd::Station::Putting { tray: 0 };
+    let last = Turn::Laid {
+        station: Station::Putting { tray: 0 },
+        to_open: 0,
+    };
+    print_row(
+        name,
+        ROUNDS,
+        &mut || {
+            let turn = ruonfidd::opening_turn(black_box(&table), black_box(turn));
+            matches!(turn, Ok(Some(turn)) if turn.laid == Some(put) && turn.left == 0)
+        },
+        &mut || calls::opening_turn(black_box(&table), black_box(turn)).as_ref() == Ok(&last),
     );
 }
 
@@ -86,7 +109,7 @@ fn checking(name: &str, stations: Vec<Station>) {
         name,
         ROUNDS,
         &mut || ruonfidd::check_hall(black_box(&table), black_box(&hall)).is_ok(),
-        &mut || reference::calls::check_hall(black_box(&table), black_box(&hall)).number == 0,
+        &mut || calls::check_hall(black_box(&table), black_box(&hall)).number == 0,
     );
 }
 
@@ -97,6 +120,7 @@ pub(crate) fn print() {
     opening("open, width 64", &puts(6));
     opening("open, width 64, leaning to the left", &leaning_left());
     opening("open, width 64, leaning to the right", &leaning_right());
+    last_turn("one turn, the last of width 64");
     checking("check, 4 small stations", vec![small.clone(); 4]);
     checking("check, 64 small stations", vec![small; 64]);
     checking("check, 64 full attempts", vec![full_attempt(); 64]);
