@@ -1,12 +1,12 @@
 -- A turn that is shown: after the turns before it nothing waits, or one more turn is made and what it laid down is read
 -- back.
 -- Assumes nothing.
-use Prim.Native.Nat.{ℕ, _+_, _*_, _≤_, _<_}
+use Prim.Native.Nat.{ℕ, _+_, _*_, _≤_}
 use native.Mathlib.Omega.{arith}
-use mathlib.Core.Path.{_≡_, refl, sym, ap, _∙_}
+use mathlib.Core.Path.{_≡_, refl, ap, _∙_}
 use mathlib.Core.Option.{Option, none, some}
-use mathlib.Core.List.{List, [], _∷_, _++_, flatten, append-nil}
-use lib.ListN.{length, getD, getElem?}
+use mathlib.Core.List.{List, [], _∷_, flatten, append-nil}
+use lib.ListN.{length, getD}
 use Rattle.semantics.specs.Definitions.Terms.{Program, Term, process}
 use Rattle.semantics.specs.Definitions.Configuration.{Idle, idle}
 use Rattle.semantics.specs.Definitions.Stored.{componentBytes}

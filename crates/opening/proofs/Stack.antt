@@ -21,8 +21,8 @@ use Rattle.buffer.proofs.Written.{written-none, written-length, written-twice}
 use Rattle.stored.specs.Layout.{idleSize, maxComponents}
 use Rattle.storedlaws.specs.Positions.{allBytes}
 use Rattle.opening.specs.Opening.{idleBytes, componentsBytes, ComponentsFit, ComponentsWritten}
-use Rattle.opening.specs.Turns.{Waiting, LaidDown, AfterNext, OnTop, CanTurn, TurnMade, Begun, TurnsMade}
-use Rattle.opening.proofs.Processes.{Sides, sides-at, inside, idle-append, idle-length}
+use Rattle.opening.specs.Turns.{Waiting, LaidDown, AfterNext, CanTurn, TurnMade, Begun, TurnsMade}
+use Rattle.opening.proofs.Processes.{sides-at, inside, idle-append, idle-length}
 
 -- ---- what waits
 

@@ -13,10 +13,10 @@ use Rattle.semantics.specs.Definitions.Terms.{Program, nilT, putT, takeT, repea
 use Rattle.semantics.specs.Definitions.Table.{Table, TableAnswer, accepted, refusedAt, readTable}
 use Rattle.semantics.specs.Definitions.Configuration.{Idle, idle, opens, opening}
 use Rattle.semantics.specs.Definitions.Calls.{rejected, checkTable, tableVerdict}
-use Rattle.semantics.specs.Definitions.Turns.{turn, waitingAfter, listed, laidBy, TurnAnswer, lays, pastEnd, notTurned, showNext, turnTested, turnCall}
+use Rattle.semantics.specs.Definitions.Turns.{turn, waitingAfter, listed, laidBy, pastEnd, notTurned, showNext, turnTested, turnCall}
 use Rattle.semantics.specs.Claims.Turns.{opensAll, turnsToGo, leaning, shownBy, leftBy, LaidThenWaiting, TurnsFall, TurnsEnd, WaitingFits, StackSuffices, LeaningNeedsItsWidth, CallsShowTurns, CallsShowTheOpening, OneATurn, TurnsRefusedAsChecked}
 use Rattle.semantics.specs.Checks.Conditions.{RefusalNumbers}
-use Rattle.theorems.proofs.First.{Growing, blocks-grow}
+use Rattle.theorems.proofs.First.{blocks-grow}
 use Rattle.theorems.proofs.GoodTable.{accepted-is-good}
 use Rattle.theorems.proofs.HallConditions.{refusal-numbers}
 
