@@ -7,7 +7,7 @@ use mathlib.Core.Path.{_≡_, refl, ap, _∙_}
 use mathlib.Core.Option.{Option, none, some}
 use mathlib.Core.List.{List, [], _∷_, flatten, append-nil}
 use lib.ListN.{length, getD}
-use Rattle.semantics.specs.Definitions.Terms.{Program, Term, process}
+use Rattle.semantics.specs.Definitions.Terms.{Program, Term}
 use Rattle.semantics.specs.Definitions.Configuration.{Idle, idle}
 use Rattle.semantics.specs.Definitions.Stored.{componentBytes}
 use Rattle.semantics.specs.Definitions.Turns.{turn, waitingAfter, listed, lays, showNext}

@@ -21,7 +21,7 @@ use Rattle.buffer.proofs.Written.{written-none, written-length, written-twice}
 use Rattle.stored.specs.Layout.{idleSize, maxComponents}
 use Rattle.storedlaws.specs.Positions.{allBytes}
 use Rattle.opening.specs.Opening.{idleBytes, componentsBytes, ComponentsFit, ComponentsWritten}
-use Rattle.opening.specs.Turns.{Waiting, LaidDown, AfterNext, CanTurn, TurnMade, Begun, TurnsMade}
+use Rattle.opening.specs.Turns.{Waiting, LaidDown, AfterNext, OnTop, CanTurn, TurnMade, Begun, TurnsMade}
 use Rattle.opening.proofs.Processes.{sides-at, inside, idle-append, idle-length}
 
 -- ---- what waits
@@ -45,7 +45,12 @@ module _ (ts : List Term) where
   waiting-push stack n Ps v P h w at =
       (n, refl, rw (getD-set-same stack n v 0 h) at, waiting-set stack n Ps n v (omega arith) w)
 
--- the entry after the next one, where two or more wait
+-- the next one stands on top
+top-stands : (ts : List Term) (stack : List ℕ) (n v u : ℕ) → OnTop stack n v u → (P : Program) (Ps : List Program) → Waiting ts stack n (P ∷ Ps) →
+    getElem? ts v ≡ some (process P)
+top-stands ts stack n v u top P Ps (m, e, at, w) = let q : n - 1 ≡ m = omega arith in rw (top .next (omega arith), q) at
+
+-- the entry after it, where two or more wait
 pub after-stands : (stack : List ℕ) (n at u : ℕ) → u ≡ getD stack at 0 → (n < 2) ⊎ (at ≡ n - 2) → AfterNext stack n u
 after-stands stack n at u e (inl few) = record { stands = λ h. absurd (omega arith) }
 after-stands stack n at u e (inr there) = record { stands = λ h. e ∙ ap (λ j. getD stack j 0) there }
@@ -71,11 +76,8 @@ module _ (d stack : List ℕ) (n v u : ℕ) (hall : List ℕ) (at : ℕ) (x : Ca
   pub one-more-fits : Fits w64 (n + 1)
   one-more-fits = let h = few-wait in record { fits = omega arith }
 
-  -- the next one stands on top
   next-stands : getElem? (x .terms) v ≡ some (process (x .next))
-  next-stands =
-      let e = x .waiting .1 in
-      let q : n - 1 ≡ x .waiting .0 = omega arith in rw (x .on-top .next some-waits, q) (x .waiting .2)
+  next-stands = top-stands (x .terms) stack n v u (x .on-top) (x .next) (x .rest) (x .waiting)
 
   pub next-fits : ComponentsFit d v hall at
   unfolding widths
@@ -117,9 +119,7 @@ module _ (d stack : List ℕ) (n v u : ℕ) (hall : List ℕ) (at : ℕ) (y : Ca
   -- of any terms that wait: the next one, and those below it
   module _ (ts : List Term) (P : Program) (Ps : List Program) (w : Waiting ts stack n (P ∷ Ps)) where
     top-at : getElem? ts v ≡ some (process P)
-    top-at =
-        let e = w .1 in
-        let q : n - 1 ≡ w .0 = omega arith in rw (y .on-top .next (omega arith), q) (w .2)
+    top-at = top-stands ts stack n v u (y .on-top) P Ps w
 
     below-top : Waiting ts stack b Ps
     below-top = let e = w .1 in let q : b ≡ w .0 = omega arith in rw q (w .3)
@@ -293,7 +293,7 @@ module _ (d : List ℕ) (i : ℕ) (hall : List ℕ) (at : ℕ) (x : ComponentsFi
 -- ---- the loops
 
 -- before the first turn
-begun-made : (d : List ℕ) (i : ℕ) (hall : List ℕ) (at : ℕ) (stack stack′ : List ℕ) (n v u end : ℕ) → length stack ≡ maxComponents → Begun stack i at stack′ n v u end →
+begun-made : (d : List ℕ) (i : ℕ) (hall : List ℕ) (at : ℕ) (stack stack′ : List ℕ) (n v u end : ℕ) → length stack ≡ maxComponents → Begun stack i at stack′ n v end →
     TurnsMade d i 0 hall at stack′ n v u hall end
 unfolding waitingAfter laidBy
 begun-made d i hall at stack stack′ n v u end h z =
@@ -317,7 +317,7 @@ pub record Making (d : List ℕ) (i turns : ℕ) (hall : List ℕ) (at made : �
   pub so-far : TurnsMade d i made hall at stack n v u hall′ end
 
 module _ (d : List ℕ) (i : ℕ) (hall : List ℕ) (at : ℕ) where
-  module _ (stack stack′ : List ℕ) (n v u end : ℕ) (h : length stack ≡ maxComponents) (z : Begun stack i at stack′ n v u end) where
+  module _ (stack stack′ : List ℕ) (n v u end : ℕ) (h : length stack ≡ maxComponents) (z : Begun stack i at stack′ n v end) where
     pub opening-begun : Opening d i hall at stack′ n v u hall end
     opening-begun = record { made = 0; sized = refl; so-far = begun-made d i hall at stack stack′ n v u end h z }
 

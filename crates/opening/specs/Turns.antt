@@ -61,7 +61,7 @@ pub record TurnMade (d : List ℕ) (stack : List ℕ) (n : ℕ) (hall : List ℕ
       Waiting ts stack′ n′ (turn P Ps .waiting) × LaidDown (listed (turn P Ps .laid)) hall from hall′ to
 
 -- before the first turn process number i waits alone
-pub record Begun (stack : List ℕ) (i from : ℕ) (stack′ : List ℕ) (n v u to : ℕ) : Type 0 where
+pub record Begun (stack : List ℕ) (i from : ℕ) (stack′ : List ℕ) (n v to : ℕ) : Type 0 where
   pub alone : n ≡ 1
   pub next : v ≡ i
   pub stands : stack′ ≡ set stack 0 i

@@ -46,7 +46,8 @@ pub fn write_single(decoded: &[u8; DECODED], term: usize, hall: &mut [u8], at: u
 }
 
 // The components of the process at a term number, from an offset on, from left to right: the answer is the offset
-// behind them. What is not two side by side takes one turn, and needs no stack for it.
+// behind them. What is not two side by side is laid down as its one turn would, without a
+// stack.
 pub fn write_components(decoded: &[u8; DECODED], term: usize, hall: &mut [u8], at: usize) -> usize
     requires { ⌜ ComponentsFit (now decoded) term (now hall) at ⌝ }
     ensures { λ r. ⌜ ComponentsWritten (now (decoded .entry)) term (now (hall .entry)) at (now (hall .exit)) r ⌝ }

@@ -1,5 +1,5 @@
 // Opening a process turn by turn (document 02, Q-4): a stack of the numbers of terms still to open, the next one on top,
-// a turn, and the loop that makes turns.
+// a turn, the loop that makes all turns, and the one that makes so many.
 use crate::components::write_single;
 use buffer::wide;
 use records::PAR;
@@ -19,8 +19,8 @@ ghost use Rattle.opening.specs.Turns.{AfterNext, CanTurn, TurnMade, Begu
 pub const STACK: usize = MAX_COMPONENTS;
 
 // How far an opening is: how many terms wait on the stack, the number of the next one and of the one after it, and the
-// offset behind what is laid down. The two numbers stand on the stack as well; read back from there right after they
-// were stored they would be waited for in nearly every turn.
+// offset behind what is laid down. The two numbers stand on the stack as well; but many turns would wait for what the one
+// before has just stored there.
 pub struct Progress {
     pub waiting: usize,
     pub next: usize,
@@ -28,7 +28,7 @@ pub struct Progress {
     pub end: usize,
 }
 
-// The number of the term after the next one, where two or more wait. Chosen without a branch.
+// The number of the term after the next one, where two or more wait; where fewer do, any number will do.
 fn after_next(stack: &[u8; STACK], waiting: usize) -> usize
     requires { ⌜ waiting ≤ maxComponents ⌝ }
     ensures { λ r. ⌜ AfterNext (now (stack .entry)) waiting r ⌝ }
@@ -77,7 +77,7 @@ pub fn turn(
 // Before the first turn: the process at a term number waits alone.
 fn begin(stack: &mut [u8; STACK], term: usize, at: usize) -> Progress
     requires { ⌜ (term < maxTerms) × (length (now stack) ≡ maxComponents) ⌝ }
-    ensures { λ r. ⌜ Begun (now (stack .entry)) term at (now (stack .exit)) (r .waiting) (r .next) (r .after) (r .end) ⌝ }
+    ensures { λ r. ⌜ Begun (now (stack .entry)) term at (now (stack .exit)) (r .waiting) (r .next) (r .end) ⌝ }
 {
     stack[0] = term as u8;
     Progress {

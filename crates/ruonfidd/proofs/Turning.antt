@@ -7,6 +7,7 @@ use mathlib.Core.List.{[], _∷_}
 use Rattle.semantics.specs.Definitions.Configuration.{Idle, taking, repeating, block, output, idle}
 use Rattle.semantics.specs.Definitions.Stored.{componentBytes}
 use Rattle.semantics.specs.Definitions.Turns.{TurnAnswer, lays, pastEnd, notTurned}
+use Rattle.semantics.specs.Claims.Turns.{leftBy}
 use Rattle.opening.specs.Turns.{kindIn, bodyIn}
 use Rattle.engine.specs.declared.turns.TurnAnswer as engine
 use Rattle.engine.specs.declared.turns.TurnAnswer.the-variants as turn
@@ -29,7 +30,7 @@ Told turn.PastEnd v = TurnAnswered v 0 0 2 (0 ∷ 0 ∷ []) 0
 Told (turn.Refused n p) v = TurnAnswered v n p 0 (0 ∷ 0 ∷ []) 0
 
 told : (v : TurnAnswer) → Told (turnAnswerFor v) v
-unfolding turnAnswerFor
+unfolding turnAnswerFor leftBy
 told (lays (some c) n) = record { number = refl; place = refl; laid-down = refl; bytes = two-bytes c; left-open = refl }
 told (lays none n) = record { number = refl; place = refl; laid-down = refl; bytes = refl; left-open = refl }
 told pastEnd = record { number = refl; place = refl; laid-down = refl; bytes = refl; left-open = refl }

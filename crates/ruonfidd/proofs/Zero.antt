@@ -2,20 +2,23 @@
 -- Assumes nothing.
 use Prim.Native.Nat.{ℕ, _≤_}
 use native.Mathlib.Omega.{arith}
-use mathlib.Core.Path.{_≡_, refl}
+use mathlib.Core.Path.{_≡_, refl, sym, ap, _∙_}
 use mathlib.Core.Bool.{Bool, true, false}
 use mathlib.Core.Logic.{_⊎_, inl, inr}
+use mathlib.Core.Option.{none, some}
 use mathlib.Core.List.{List, [], _∷_}
 use lib.ListN.{length}
 use lib.Dec.{ltb}
 use borrow.Author.Tests.{ltb-true, ltb-false}
 use Rattle.semantics.specs.Definitions.Moves.{Entry, Reply}
 use Rattle.semantics.specs.Definitions.Calls.{Verdict, ok, rejected, checkTable, checkHall, OpenAnswer, opened, notOpened, openHall, openVerdict}
-use Rattle.semantics.specs.Definitions.Turns.{notTurned, turnCall}
+use Rattle.semantics.specs.Definitions.Configuration.{Idle, idle}
+use Rattle.semantics.specs.Definitions.Stored.{componentBytes}
+use Rattle.semantics.specs.Definitions.Turns.{TurnAnswer, lays, pastEnd, notTurned, turnCall}
 use Rattle.semantics.specs.Definitions.Suggestion.{SuggestAnswer, suggested, still, notSuggested, suggestCall}
 use Rattle.semantics.specs.Definitions.Sentence.{sentenceCall}
 use Rattle.semantics.specs.Claims.Suggestions.{RefusedAsChecked}
-use Rattle.semantics.specs.Claims.Turns.{TurnsRefusedAsChecked}
+use Rattle.semantics.specs.Claims.Turns.{leftBy, TurnsRefusedAsChecked}
 use Rattle.semantics.specs.Checks.Conditions.{RefusalNumbers}
 use Rattle.semantics.specs.Checks.Sentences.{ShortBuffersRefused}
 use Rattle.theorems.proofs.Theorems.{refusal-numbers, refused-as-checked, turns-refused-as-checked, short-buffers-refused}
@@ -44,13 +47,24 @@ zero-opened table hall set bytes t =
     above (opened c) e n p f = absurd (let z : _≡_ {A = ℕ} 0 1 = cc in omega arith)
     above (notOpened m q) e n p f = refusal-numbers table hall n p .1 (cc) .0
 
--- a turn with number 0 is shown: its table is not refused
+-- a turn with number 0 is shown, and the byte tells which case it is
 pub zero-turn : (table : List ℕ) (n place laid : ℕ) (station : List ℕ) (left : ℕ) → TurnAnswered (turnCall table n) 0 place laid station left →
-    (k p : ℕ) → turnCall table n ≡ notTurned k p → ⊥
-unfolding TurnsRefusedAsChecked
-zero-turn table n place laid station left t k p e =
-    let number : 0 ≡ k = rw e at (t .number) in
-    let above = turns-refused-as-checked table n k p .1 e .0 in omega arith
+    ((laid ≡ 0) × (turnCall table n ≡ lays none left)) ⊎
+    (((c : Idle) × (laid ≡ 1) × (station ≡ componentBytes (idle c)) × (turnCall table n ≡ lays (some c) left)) ⊎
+    ((laid ≡ 2) × (turnCall table n ≡ pastEnd)))
+unfolding TurnsRefusedAsChecked leftBy
+zero-turn table n place laid station left t = go (turnCall table n) refl t
+  where
+    go : (v : TurnAnswer) → turnCall table n ≡ v → TurnAnswered v 0 place laid station left →
+        ((laid ≡ 0) × (turnCall table n ≡ lays none left)) ⊎
+        (((c : Idle) × (laid ≡ 1) × (station ≡ componentBytes (idle c)) × (turnCall table n ≡ lays (some c) left)) ⊎
+        ((laid ≡ 2) × (turnCall table n ≡ pastEnd)))
+    go (lays none m) e t = inl (t .laid-down, e ∙ ap (lays none) (sym (t .left-open)))
+    go (lays (some c) m) e t = inr (inl (c, t .laid-down, t .bytes, e ∙ ap (lays (some c)) (sym (t .left-open))))
+    go pastEnd e t = inr (inr (t .laid-down, e))
+    go (notTurned k p) e t =
+        let above = turns-refused-as-checked table n k p .1 e .0 in
+        let number = t .number in absurd (omega arith)
 
 -- a suggestion with number 0 is a choice, or that the hall is still: its three bytes tell which
 pub zero-suggested : (table hall : List ℕ) (place : ℕ) (w : List ℕ) →

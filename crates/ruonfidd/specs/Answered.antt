@@ -15,6 +15,7 @@ use Rattle.semantics.specs.Definitions.Calls.{Verdict, verdictNumber, verdictPl
 use Rattle.semantics.specs.Definitions.Configuration.{idle}
 use Rattle.semantics.specs.Definitions.Stored.{componentBytes}
 use Rattle.semantics.specs.Definitions.Turns.{TurnAnswer, lays, pastEnd, notTurned}
+use Rattle.semantics.specs.Claims.Turns.{leftBy}
 use Rattle.semantics.specs.Definitions.Suggestion.{SuggestAnswer, suggested, still, notSuggested}
 use Rattle.semantics.specs.Definitions.Sentence.{SentenceAnswer, told, notTold, SentenceCall}
 use Rattle.sentences.specs.Answers.{shortageFrom, replyIn}
@@ -48,12 +49,7 @@ turnStation (lays (some c) n) = componentBytes (idle c)
 turnStation pastEnd = 0 ∷ 0 ∷ []
 turnStation (notTurned n p) = 0 ∷ 0 ∷ []
 
--- how many terms are left to open; no number and no place but those of a refusal
-abbrev pub turnLeft : TurnAnswer → ℕ
-turnLeft (lays c n) = n
-turnLeft pastEnd = 0
-turnLeft (notTurned n p) = 0
-
+-- no number and no place but those of a refusal
 abbrev pub turnNumber : TurnAnswer → ℕ
 turnNumber (lays c n) = 0
 turnNumber pastEnd = 0
@@ -69,7 +65,7 @@ pub record TurnAnswered (a : TurnAnswer) (returned p laid : ℕ) (station : List
   pub place : p ≡ turnPlace a
   pub laid-down : laid ≡ turnLaid a
   pub bytes : station ≡ turnStation a
-  pub left-open : left ≡ turnLeft a
+  pub left-open : left ≡ leftBy a
 
 -- ---- a tally
 

@@ -58,7 +58,7 @@ use Rattle.semantics.proofs.Answers as Telling
 use Rattle.theorems.proofs.ZeroNumbers as Zero
 use Rattle.theorems.proofs.RunConditions as OnRuns
 use Rattle.theorems.proofs.CallConditions as OnCalls
-use Rattle.theorems.proofs.CallLists as Turns
+use Rattle.theorems.proofs.CallLists as InTurn
 use Rattle.theorems.proofs.Steps as OnSteps
 use Rattle.theorems.proofs.Turns as ByTurns
 use Rattle.semantics.proofs.TurnExamples as WorkedTurns
@@ -294,13 +294,13 @@ pub step-is-call : StepIsCall
 step-is-call = OnSteps.step-is-call
 
 pub call-bytes : CallBytes
-call-bytes = Turns.call-bytes
+call-bytes = InTurn.call-bytes
 
 pub calls-in-turn : CallsInTurn
-calls-in-turn = Turns.calls-in-turn
+calls-in-turn = InTurn.calls-in-turn
 
 pub calls-cut : CallsCut
-calls-cut = Turns.calls-cut
+calls-cut = InTurn.calls-cut
 
 -- ---- the printed run
 

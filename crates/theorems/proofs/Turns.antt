@@ -75,10 +75,10 @@ unfolding waitingAfter
 none-waiting zero = refl
 none-waiting (suc n) = refl
 
-none-laid : (n : ℕ) → laidBy n [] ≡ []
+none-at-most : (n : ℕ) → laidBy n [] ≡ []
 unfolding laidBy
-none-laid zero = refl
-none-laid (suc n) = refl
+none-at-most zero = refl
+none-at-most (suc n) = refl
 
 -- some turns, and k more: m in all
 waiting-sum : (n k m : ℕ) → m ≡ n + k → (Ps : List Program) → waitingAfter m Ps ≡ waitingAfter k (waitingAfter n Ps)
@@ -92,7 +92,7 @@ laid-sum : (n k m : ℕ) → m ≡ n + k → (Ps : List Program) → laidBy m Ps
 unfolding waitingAfter laidBy
 laid-sum zero k m e Ps = let z : m ≡ k = omega arith in ap (λ j. laidBy j Ps) z
 laid-sum (suc n) k zero e Ps = absurd (omega arith)
-laid-sum (suc n) k (suc m) e [] = sym (none-laid k)
+laid-sum (suc n) k (suc m) e [] = sym (none-at-most k)
 laid-sum (suc n) k (suc m) e (P ∷ Ps) =
     let first = listed (turn P Ps .laid) in
     ap (_++_ first) (laid-sum n k m (omega arith) (turn P Ps .waiting)) ∙ sym (append-assoc first (laidBy n (turn P Ps .waiting)) _)
@@ -119,38 +119,34 @@ module _ (n m : ℕ) (Qs : List Program) (e : waitingAfter n Qs ≡ []) (h : n �
   laid-ended =
       laid-sum n (m - n) m (omega arith) Qs
       ∙ ap (λ Rs. laidBy n Qs ++ laidBy (m - n) Rs) e
-      ∙ ap (_++_ (laidBy n Qs)) (none-laid (m - n))
+      ∙ ap (_++_ (laidBy n Qs)) (none-at-most (m - n))
       ∙ append-nil (laidBy n Qs)
 
 -- ---- the whole opening
 
-one-laid : (Ps : List Program) → length (laidBy 1 Ps) ≤ 1
+one-at-most : (Ps : List Program) → length (laidBy 1 Ps) ≤ 1
 unfolding laidBy listed
-one-laid [] = omega arith
-one-laid (P ∷ Ps) = go (turn P Ps .laid)
+one-at-most [] = omega arith
+one-at-most (P ∷ Ps) = go (turn P Ps .laid)
   where
     go : (c : Option Idle) → length (listed c ++ []) ≤ 1
     go none = omega arith
     go (some c) = omega arith
 
-whole-opens : (n : ℕ) (Ps : List Program) → laidBy n Ps ++ opensAll (waitingAfter n Ps) ≡ opensAll Ps
-unfolding laidBy waitingAfter
-whole-opens zero Ps = refl
-whole-opens (suc n) [] = refl
-whole-opens (suc n) (P ∷ Ps) =
-    append-assoc (listed (turn P Ps .laid)) (laidBy n (turn P Ps .waiting)) _
-    ∙ ap (_++_ (listed (turn P Ps .laid))) (whole-opens n (turn P Ps .waiting))
-    ∙ turn-opens P Ps
-
 pub laid-then-waiting : LaidThenWaiting
-unfolding LaidThenWaiting
-laid-then-waiting Ps n = whole-opens n Ps
+unfolding LaidThenWaiting laidBy waitingAfter
+laid-then-waiting Ps zero = refl
+laid-then-waiting [] (suc n) = refl
+laid-then-waiting (P ∷ Ps) (suc n) =
+    append-assoc (listed (turn P Ps .laid)) (laidBy n (turn P Ps .waiting)) _
+    ∙ ap (_++_ (listed (turn P Ps .laid))) (laid-then-waiting (turn P Ps .waiting) n)
+    ∙ turn-opens P Ps
 
 pub one-a-turn : OneATurn
 unfolding OneATurn
 one-a-turn Ps n =
     let l = length-append (laidBy n Ps) (laidBy 1 (waitingAfter n Ps)) in
-    let h = one-laid (waitingAfter n Ps) in
+    let h = one-at-most (waitingAfter n Ps) in
     let z : length (laidBy (suc n) Ps) ≡ length (laidBy n Ps ++ laidBy 1 (waitingAfter n Ps)) = ap length (laid-sum n 1 (suc n) (omega arith) Ps) in omega arith
 
 -- ---- what waits
@@ -228,12 +224,12 @@ ends P n =
 
 -- and then the whole opening is laid down
 pub all-laid : (P : Program) (n : ℕ) → 2 * width P - 1 ≤ n → laidBy n (P ∷ []) ≡ opens P
-unfolding flatten
+unfolding flatten LaidThenWaiting
 all-laid P n h =
     let e = ends P n .1 h in
     sym (append-nil (laidBy n (P ∷ [])))
     ∙ ap (λ Ps. laidBy n (P ∷ []) ++ opensAll Ps) (sym e)
-    ∙ whole-opens n (P ∷ [])
+    ∙ laid-then-waiting (P ∷ []) n
     ∙ append-nil (opens P)
 
 pub turns-end : TurnsEnd
