@@ -12,3 +12,4 @@ mod stored;
 mod suggestions;
 mod tallies;
 mod threads;
+mod wide;
