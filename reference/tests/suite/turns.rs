@@ -244,6 +244,8 @@ fn width_64_grouped_to_the_right() {
 
 /// In a balanced term each side entered to the left has its right side still
 /// to open: as many as the station's number has zeros among its six digits.
+/// Before a station come the terms entered since the one before it: all six for
+/// the first, then one for each zero at the end of its number.
 #[test]
 fn width_64_balanced() {
     let (mut table, takes) = takes();
@@ -254,20 +256,16 @@ fn width_64_balanced() {
             .map(|pair| table.side_by_side(pair[0], pair[1]))
             .collect();
     }
-    let bytes = table.start(level[0]);
-    let turns = turns_of(&bytes);
-    turns_are(&bytes, &turns);
-    let down: Vec<Turn> = (2..=7).map(nothing).collect();
-    assert_eq!(turns[..6], down);
-    let stations: Vec<&Turn> = turns
-        .iter()
-        .filter(|turn| station(turn).is_some())
-        .collect();
-    assert_eq!(stations.len(), 64);
-    for (index, turn) in stations.into_iter().enumerate() {
+    let mut expected = Vec::new();
+    for (index, take) in takes.iter().enumerate() {
         let zeros = (0..6).filter(|digit| index >> digit & 1 == 0).count();
-        assert_eq!(*turn, waiting(takes[index], zeros));
+        let entered = (0..6).take_while(|digit| index >> digit & 1 == 0).count();
+        expected.extend((0..entered).rev().map(|below| nothing(zeros + 1 - below)));
+        expected.push(waiting(*take, zeros));
     }
+    turns_are(&table.start(level[0]), &expected);
+    let down: Vec<Turn> = (2..=7).map(nothing).collect();
+    assert_eq!(expected[..6], down);
 }
 
 /// Nil counts for the width, so a full table of nils takes all turns too.
