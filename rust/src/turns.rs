@@ -4,10 +4,12 @@ use std::iter::FusedIterator;
 
 use crate::{check_table, ffi, Refusal};
 
-/// What a turn has laid down where there is no such turn.
+/// What a turn has laid down: nothing, or a station; or there is no such turn.
+const NOTHING: u8 = 0;
+const STATION: u8 = 1;
 const PAST_END: u8 = 2;
 
-/// The first bytes of stations in a hall.
+/// The first bytes of stations in a hall, of those that an opening lays down.
 const WAITING: u8 = 20;
 const PUTTING: u8 = 24;
 
@@ -50,12 +52,14 @@ impl Station {
         }
     }
 
-    /// The station of these two bytes; zeros are none.
-    fn from_bytes([kind, body]: [u8; 2]) -> Option<Station> {
+    /// The station of these two bytes, which a turn has laid down.
+    fn from_bytes([kind, body]: [u8; 2]) -> Station {
         match kind {
-            WAITING => Some(Station::Waiting { term: body }),
-            PUTTING => Some(Station::Putting { tray: body }),
-            _ => None,
+            WAITING => Station::Waiting { term: body },
+            PUTTING => Station::Putting { tray: body },
+            // It is proved of the engine that an opening lays down no other. A
+            // station of a further kind must not be passed over in silence.
+            _ => unreachable!("an opening lays down no station of kind {kind}"),
         }
     }
 }
@@ -70,6 +74,21 @@ pub struct Turn {
     /// How many terms are left to open after it. None is left after the last
     /// turn, and never more than 64 are.
     pub left: usize,
+}
+
+impl Turn {
+    /// The turn that the library has told of without a refusal; none past the end.
+    /// What is laid down is decided by `laid` alone.
+    fn told(laid: u8, station: [u8; 2], left: usize) -> Option<Turn> {
+        let laid = match laid {
+            NOTHING => None,
+            STATION => Some(Station::from_bytes(station)),
+            PAST_END => return None,
+            // It is proved of the engine that it tells one of these three.
+            _ => unreachable!("no turn tells {laid} of what it has laid down"),
+        };
+        Some(Turn { laid, left })
+    }
 }
 
 /// One turn of a table's opening, counted from 0; none where the opening has no
@@ -105,10 +124,7 @@ pub fn opening_turn(table: &[u8], turn: usize) -> Result<Option<Turn>, Refusal> 
     let (mut laid, mut station, mut left, mut place) = (0, [0; 2], 0, 0);
     let number = ffi::opening_turn(table, turn, &mut laid, &mut station, &mut left, &mut place);
     Refusal::unless_zero(number, place)?;
-    Ok((laid != PAST_END).then(|| Turn {
-        laid: Station::from_bytes(station),
-        left,
-    }))
+    Ok(Turn::told(laid, station, left))
 }
 
 /// The turns of a table's opening, from the first to the last; each is asked for
@@ -237,7 +253,7 @@ impl FusedIterator for OpeningStations<'_> {}
 
 #[cfg(test)]
 mod tests {
-    use super::Station;
+    use super::{Station, Turn};
 
     #[test]
     fn bytes_and_back() {
@@ -247,9 +263,40 @@ mod tests {
                 Station::Putting { tray: byte },
             ] {
                 assert_eq!(station.to_bytes()[1], byte);
-                assert_eq!(Station::from_bytes(station.to_bytes()), Some(station));
+                assert_eq!(Station::from_bytes(station.to_bytes()), station);
             }
         }
-        assert_eq!(Station::from_bytes([0, 0]), None);
+    }
+
+    /// Whatever the station's bytes are, where none is told of they count for
+    /// nothing.
+    #[test]
+    fn what_is_laid_down_is_told_by_one_byte() {
+        for station in [[0, 0], [20, 3], [24, 7], [99, 99]] {
+            let nothing = Turn {
+                laid: None,
+                left: 5,
+            };
+            assert_eq!(Turn::told(0, station, 5), Some(nothing));
+            assert_eq!(Turn::told(2, station, 5), None);
+        }
+        let laid = |station| Turn::told(1, station, 5).map(|turn| (turn.laid, turn.left));
+        let waiting = Station::Waiting { term: 3 };
+        assert_eq!(laid([20, 3]), Some((Some(waiting), 5)));
+        let putting = Station::Putting { tray: 7 };
+        assert_eq!(laid([24, 7]), Some((Some(putting), 5)));
+    }
+
+    /// A station that is told of is never taken for none.
+    #[test]
+    #[should_panic(expected = "no station of kind 21")]
+    fn a_station_of_a_further_kind() {
+        Turn::told(1, [21, 0], 5);
+    }
+
+    #[test]
+    #[should_panic(expected = "no turn tells 3")]
+    fn something_else_laid_down() {
+        Turn::told(3, [20, 0], 5);
     }
 }
