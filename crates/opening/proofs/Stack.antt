@@ -293,7 +293,7 @@ module _ (d : List ℕ) (i : ℕ) (hall : List ℕ) (at : ℕ) (x : ComponentsFi
 -- ---- the loops
 
 -- before the first turn
-begun-made : (d : List ℕ) (i : ℕ) (hall : List ℕ) (at : ℕ) (stack stack′ : List ℕ) (n v u end : ℕ) → length stack ≡ maxComponents → Begun stack i at stack′ n v end →
+pub begun-made : (d : List ℕ) (i : ℕ) (hall : List ℕ) (at : ℕ) (stack stack′ : List ℕ) (n v u end : ℕ) → length stack ≡ maxComponents → Begun stack i at stack′ n v end →
     TurnsMade d i 0 hall at stack′ n v u hall end
 unfolding waitingAfter laidBy
 begun-made d i hall at stack stack′ n v u end h z =
@@ -304,55 +304,38 @@ begun-made d i hall at stack stack′ n v u end h z =
       found = λ ts P x e. (waiting-push ts stack 0 [] i P (omega arith) refl e, nothing-laid hall at);
     })
 
--- some turns are made
-pub record Opening (d : List ℕ) (i : ℕ) (hall : List ℕ) (at : ℕ) (stack : List ℕ) (n v u : ℕ) (hall′ : List ℕ) (end : ℕ) : Type 0 where
+-- some turns are made, whatever their number
+pub record SomeMade (d : List ℕ) (i : ℕ) (hall : List ℕ) (at : ℕ) (stack : List ℕ) (n v u : ℕ) (hall′ : List ℕ) (end : ℕ) : Type 0 where
   pub made : ℕ
-  pub sized : length hall′ ≡ length hall
   pub so-far : TurnsMade d i made hall at stack n v u hall′ end
 
--- so many turns are made of those asked for
-pub record Making (d : List ℕ) (i turns : ℕ) (hall : List ℕ) (at made : ℕ) (stack : List ℕ) (n v u : ℕ) (hall′ : List ℕ) (end : ℕ) : Type 0 where
+pub none-made : (d : List ℕ) (i : ℕ) (hall : List ℕ) (at : ℕ) (stack stack′ : List ℕ) (n v u end : ℕ) → length stack ≡ maxComponents → Begun stack i at stack′ n v end →
+    SomeMade d i hall at stack′ n v u hall end
+none-made d i hall at stack stack′ n v u end h z = record { made = 0; so-far = begun-made d i hall at stack stack′ n v u end h z }
+
+module _ (d : List ℕ) (i : ℕ) (hall : List ℕ) (at : ℕ) (x : ComponentsFit d i hall at) where
+  module _ (stack : List ℕ) (n v u : ℕ) (hall′ : List ℕ) (end : ℕ) (y : SomeMade d i hall at stack n v u hall′ end) where
+    pub some-can : (n ≡ 0 → ⊥) → CanTurn d stack n v u hall′ end
+    some-can h = can-turn d i hall at x (y .made) stack n v u hall′ end (y .so-far) h
+
+    module _ (h : n ≡ 0 → ⊥) (stack′ : List ℕ) (n′ v′ u′ : ℕ) (hall″ : List ℕ) (end′ : ℕ) (z : TurnMade d stack n hall′ end stack′ n′ v′ u′ hall″ end′) where
+      pub some-made : SomeMade d i hall at stack′ n′ v′ u′ hall″ end′
+      some-made = record { made = y .made + 1; so-far = one-made d i hall at x (y .made) stack n v u hall′ end (y .so-far) h stack′ n′ v′ u′ hall″ end′ z }
+
+      pub some-falls : toGo d stack′ n′ < toGo d stack n
+      some-falls = to-go-falls d stack n v u hall′ end (some-can h) stack′ n′ v′ u′ hall″ end′ z
+
+    pub some-long : length hall′ ≡ length hall
+    some-long = turns-long d i hall at x (y .made) stack n v u hall′ end (y .so-far)
+
+    pub some-written : n ≡ 0 → ComponentsWritten d i hall at hall′ end
+    some-written h = all-written d i hall at x (y .made) stack n v u hall′ end (y .so-far) h
+
+-- so many turns are made, of those asked for
+pub record FewMade (d : List ℕ) (i turns : ℕ) (hall : List ℕ) (at made : ℕ) (stack : List ℕ) (n v u : ℕ) (hall′ : List ℕ) (end : ℕ) : Type 0 where
   pub few : made ≤ turns
-  pub sized : length hall′ ≡ length hall
   pub so-far : TurnsMade d i made hall at stack n v u hall′ end
 
-module _ (d : List ℕ) (i : ℕ) (hall : List ℕ) (at : ℕ) where
-  module _ (stack stack′ : List ℕ) (n v u end : ℕ) (h : length stack ≡ maxComponents) (z : Begun stack i at stack′ n v end) where
-    pub opening-begun : Opening d i hall at stack′ n v u hall end
-    opening-begun = record { made = 0; sized = refl; so-far = begun-made d i hall at stack stack′ n v u end h z }
-
-    pub making-begun : (turns : ℕ) → Making d i turns hall at 0 stack′ n v u hall end
-    making-begun turns = record { few = omega arith; sized = refl; so-far = begun-made d i hall at stack stack′ n v u end h z }
-
-  module _ (x : ComponentsFit d i hall at) (stack : List ℕ) (n v u : ℕ) (hall′ : List ℕ) (end : ℕ) where
-    module _ (y : Opening d i hall at stack n v u hall′ end) (h : n ≡ 0 → ⊥) where
-      pub opening-turns : CanTurn d stack n v u hall′ end
-      opening-turns = can-turn d i hall at x (y .made) stack n v u hall′ end (y .so-far) h
-
-      module _ (stack′ : List ℕ) (n′ v′ u′ : ℕ) (hall″ : List ℕ) (end′ : ℕ) (z : TurnMade d stack n hall′ end stack′ n′ v′ u′ hall″ end′) where
-        pub opening-on : Opening d i hall at stack′ n′ v′ u′ hall″ end′
-        opening-on =
-            let more = one-made d i hall at x (y .made) stack n v u hall′ end (y .so-far) h stack′ n′ v′ u′ hall″ end′ z in
-            record { made = y .made + 1; sized = turns-long d i hall at x (y .made + 1) stack′ n′ v′ u′ hall″ end′ more; so-far = more }
-
-        pub opening-falls : toGo d stack′ n′ < toGo d stack n
-        opening-falls = to-go-falls d stack n v u hall′ end opening-turns stack′ n′ v′ u′ hall″ end′ z
-
-    pub opening-ends : Opening d i hall at stack n v u hall′ end → n ≡ 0 → ComponentsWritten d i hall at hall′ end
-    opening-ends y h = all-written d i hall at x (y .made) stack n v u hall′ end (y .so-far) h
-
-    module _ (turns made : ℕ) (y : Making d i turns hall at made stack n v u hall′ end) where
-      pub making-turns : (n ≡ 0 → ⊥) → CanTurn d stack n v u hall′ end
-      making-turns h = can-turn d i hall at x made stack n v u hall′ end (y .so-far) h
-
-      pub making-on : made < turns → (n ≡ 0 → ⊥) → (stack′ : List ℕ) (n′ v′ u′ : ℕ) (hall″ : List ℕ) (end′ : ℕ) →
-          TurnMade d stack n hall′ end stack′ n′ v′ u′ hall″ end′ → Making d i turns hall at (made + 1) stack′ n′ v′ u′ hall″ end′
-      making-on less h stack′ n′ v′ u′ hall″ end′ z =
-          let more = one-made d i hall at x made stack n v u hall′ end (y .so-far) h stack′ n′ v′ u′ hall″ end′ z in
-          record { few = omega arith; sized = turns-long d i hall at x (made + 1) stack′ n′ v′ u′ hall″ end′ more; so-far = more }
-
-      pub making-ends : turns ≤ made → TurnsMade d i turns hall at stack n v u hall′ end
-      making-ends h = let few = y .few in let same : turns ≡ made = omega arith in rw same (y .so-far)
-
-      pub making-stops : n ≡ 0 → TurnsMade d i turns hall at stack n v u hall′ end
-      making-stops h = none-waits d i hall at x made stack n v u hall′ end (y .so-far) h turns (y .few)
+pub all-made : (d : List ℕ) (i turns : ℕ) (hall : List ℕ) (at made : ℕ) (stack : List ℕ) (n v u : ℕ) (hall′ : List ℕ) (end : ℕ) →
+    FewMade d i turns hall at made stack n v u hall′ end → turns ≤ made → TurnsMade d i turns hall at stack n v u hall′ end
+all-made d i turns hall at made stack n v u hall′ end y h = let few = y .few in let same : turns ≡ made = omega arith in rw same (y .so-far)

@@ -1,7 +1,6 @@
-// The components (stations) of a process: one written, all of them written, all of them counted.
-use crate::turns::make_all_turns;
+// One component (station) written, and the components of a process counted.
+use crate::turns::write_components;
 use records::NIL;
-use records::PAR;
 use records::PUT;
 use stored::COMPONENT_BODY;
 use stored::IDLE_SIZE;
@@ -43,19 +42,6 @@ pub fn write_single(decoded: &[u8; DECODED], term: usize, hall: &mut [u8], at: u
         PUT => write_idle(hall, at, KIND_OUTPUT, terms::first_of(decoded, term)),
         _ => write_idle(hall, at, KIND_WAITING, term as u8),
     }
-}
-
-// The components of the process at a term number, from an offset on, from left to right: the answer is the offset
-// behind them. What is not two side by side is laid down as its one turn would, without a
-// stack.
-pub fn write_components(decoded: &[u8; DECODED], term: usize, hall: &mut [u8], at: usize) -> usize
-    requires { ⌜ ComponentsFit (now decoded) term (now hall) at ⌝ }
-    ensures { λ r. ⌜ ComponentsWritten (now (decoded .entry)) term (now (hall .entry)) at (now (hall .exit)) r ⌝ }
-{
-    if terms::kind_of(decoded, term) == PAR {
-        return make_all_turns(decoded, term, hall, at);
-    }
-    write_single(decoded, term, hall, at)
 }
 
 // How many components the process at a term number opens into: written into a buffer, and counted there. A process is

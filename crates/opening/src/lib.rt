@@ -5,13 +5,12 @@ mod components;
 mod turns;
 
 pub use components::component_count;
-pub use components::write_components;
 pub use components::write_idle;
 use stored::CHANNELS;
 use terms::DECODED;
 pub use turns::Shown;
-use turns::make_all_turns;
 pub use turns::show_turn;
+pub use turns::write_components;
 ghost use mathlib.Core.Path.{_≡_};
 ghost use lib.ListN.{length};
 ghost use Rattle.stored.specs.Layout.{hallBytes};
@@ -27,7 +26,7 @@ pub fn write_opening(decoded: &[u8; DECODED], start: usize, hall: &mut [u8])
 {
     let table = &decoded[..];
     buffer::write_at(hall, 0, &table[..CHANNELS]);
-    let end = make_all_turns(decoded, start, hall, CHANNELS);
+    let end = write_components(decoded, start, hall, CHANNELS);
     let rest = hall.len() - end;
     buffer::clear(hall, end, rest);
 }

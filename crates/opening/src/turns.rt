@@ -88,8 +88,9 @@ fn begin(stack: &mut [u8; STACK], term: usize, at: usize) -> Progress
     }
 }
 
-// All turns from the process at a term number on: the answer is the offset behind what they lay down.
-pub fn make_all_turns(decoded: &[u8; DECODED], term: usize, hall: &mut [u8], at: usize) -> usize
+// The components of the process at a term number, from an offset on, from left to right, by all its turns: the answer is
+// the offset behind them.
+pub fn write_components(decoded: &[u8; DECODED], term: usize, hall: &mut [u8], at: usize) -> usize
     requires { ⌜ ComponentsFit (now decoded) term (now hall) at ⌝ }
     ensures { λ r. ⌜ ComponentsWritten (now (decoded .entry)) term (now (hall .entry)) at (now (hall .exit)) r ⌝ }
 {

@@ -3,7 +3,7 @@
 use Prim.Native.Nat.{ℕ}
 use mathlib.Core.Path.{_≡_, refl, sym, subst, _∙_}
 use mathlib.Core.Option.{none, some}
-use mathlib.Core.List.{[], _∷_}
+use mathlib.Core.List.{List, [], _∷_}
 use Rattle.semantics.specs.Definitions.Configuration.{Idle, taking, repeating, block, output, idle}
 use Rattle.semantics.specs.Definitions.Stored.{componentBytes}
 use Rattle.semantics.specs.Definitions.Turns.{TurnAnswer, lays, pastEnd, notTurned}
@@ -52,3 +52,27 @@ module _ (v : TurnAnswer) (a : engine.TurnAnswer) (e : a ≡ turnAnswerFor v) wh
 
   pub turn-turned-down : (n p : ℕ) → a ≡ turn.Refused n p → TurnAnswered v n p 0 (0 ∷ 0 ∷ []) 0
   turn-turned-down n p q = by-case (turn.Refused n p) q
+
+-- ---- what C is told, case by case
+
+module _ (returned place laid : ℕ) (station : List ℕ) (left : ℕ) where
+  pub refused-told : (n p : ℕ) → TurnAnswered (notTurned n p) returned place laid station left →
+      (returned ≡ n) × (place ≡ p) × (laid ≡ 0) × (station ≡ 0 ∷ 0 ∷ []) × (left ≡ 0)
+  unfolding leftBy
+  refused-told n p t = (t .number, t .place, t .laid-down, t .bytes, t .left-open)
+
+  pub past-told : TurnAnswered pastEnd returned place laid station left →
+      (returned ≡ 0) × (place ≡ 0) × (laid ≡ 2) × (station ≡ 0 ∷ 0 ∷ []) × (left ≡ 0)
+  unfolding leftBy
+  past-told t = (t .number, t .place, t .laid-down, t .bytes, t .left-open)
+
+  pub nothing-told : (n : ℕ) → TurnAnswered (lays none n) returned place laid station left →
+      (returned ≡ 0) × (place ≡ 0) × (laid ≡ 0) × (station ≡ 0 ∷ 0 ∷ []) × (left ≡ n)
+  unfolding leftBy
+  nothing-told n t = (t .number, t .place, t .laid-down, t .bytes, t .left-open)
+
+  -- a putting station, as an example of one
+  pub put-told : (a n : ℕ) → TurnAnswered (lays (some (output a)) n) returned place laid station left →
+      (returned ≡ 0) × (place ≡ 0) × (laid ≡ 1) × (station ≡ 24 ∷ a ∷ []) × (left ≡ n)
+  unfolding leftBy componentBytes
+  put-told a n t = (t .number, t .place, t .laid-down, t .bytes, t .left-open)

@@ -12,18 +12,18 @@ slice-aggregate-write-at c = tokens-length _ _ (c .before .before .before .befor
 write-at-requires : tie.Need-write-at-requires
 write-at-requires c κs = omega (arith, tokens-length _ _ (c .before .before .before .before .pre .0))
 
-make-all-turns-requires : tie.Need-make-all-turns-requires
-make-all-turns-requires c κs = process-fits _ _ _ _ (c .before .before .before .before .before .before .before .before .pre .0) (omega arith)
+write-components-requires : tie.Need-write-components-requires
+write-components-requires c κs = process-fits _ _ _ _ (c .before .before .before .before .before .before .before .before .pre .0) (omega arith)
 
 sub-rest : tie.Need-sub-rest
 sub-rest c =
     let start = c .before .before .before .before .before .before .before .before .before .before .before in
-    let h = components-inside _ _ _ _ _ (start .pre .0) (c .before .before .make-all-turns .ensures) (omega arith) in omega arith
+    let h = components-inside _ _ _ _ _ (start .pre .0) (c .before .before .write-components .ensures) (omega arith) in omega arith
 
 clear-requires : tie.Need-clear-requires
 clear-requires c κs =
     let start = c .before .before .before .before .before .before .before .before .before .before .before .before in
-    let h = components-inside _ _ _ _ _ (start .pre .0) (c .before .before .before .make-all-turns .ensures) (omega arith) in omega arith
+    let h = components-inside _ _ _ _ _ (start .pre .0) (c .before .before .before .write-components .ensures) (omega arith) in omega arith
 
 same-length : tie.Need-same-length
 same-length c = search needs
@@ -33,7 +33,7 @@ returns c =
     let components = c .before .before .before .before .before .before in
     let counts = components .before .before .before .before in
     let start = counts .before .before .before .before .before in
-    opening-written _ _ _ _ _ _ _ _ refl (start .pre .1) (counts .write-at .ensures) (components .make-all-turns .ensures) (c .before .before .clear .ensures) (omega arith)
+    opening-written _ _ _ _ _ _ _ _ refl (start .pre .1) (counts .write-at .ensures) (components .write-components .ensures) (c .before .before .clear .ensures) (omega arith)
 
 pub write-opening-spec : {M : Type 1} → statement M
 write-opening-spec =
@@ -41,7 +41,7 @@ write-opening-spec =
     (tie.spec
     slice-aggregate-write-at
     write-at-requires
-    make-all-turns-requires
+    write-components-requires
     sub-rest
     clear-requires
     same-length
