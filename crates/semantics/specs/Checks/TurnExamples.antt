@@ -54,5 +54,5 @@ pub record TurnExamples : Type 0 where
       ∷ lays (some (block 1 (endT 0))) 0 ∷ pastEnd ∷ []
   -- past the end at any number, and refused at any
   pub far-past : turnCall (numbers "2 7 13 0") 1000 ≡ pastEnd
-  pub refused : firstTurns 2 (numbers "2 16 13 0") ≡ notTurned 4 0 ∷ notTurned 4 0 ∷ []
+  pub refused : firstTurns 2 (numbers "1 2 16 13 0") ≡ notTurned 4 1 ∷ notTurned 4 1 ∷ []
   pub nothing-read : turnCall [] 1000 ≡ notTurned 9 0
