@@ -16,7 +16,7 @@ use Rattle.semantics.specs.Definitions.Calls.{admission, Buffers, runResult, ru
 use Rattle.semantics.specs.Definitions.Suggestion.{suggestFound, suggestCall}
 use Rattle.semantics.specs.Checks.Conditions.{RefusalNumbers}
 use Rattle.semantics.specs.Checks.Steps.{Names, names-act, names-inside}
-use Rattle.theorems.proofs.Theorems.{refusal-numbers}
+use Rattle.theorems.proofs.HallConditions.{refusal-numbers}
 use Rattle.theorems.proofs.Suggestions.{admitted-suggests, refused-suggests}
 use Rattle.theorems.proofs.Steps.{answered, step-turned-down, step-unknown, step-answered}
 use Rattle.rules.specs.declared.Shortage as shortage

@@ -4,6 +4,7 @@ use stored::INDEX_SIZE;
 use terms::DECODED;
 ghost use mathlib.Core.Path.{_≡_};
 ghost use Rattle.semantics.specs.Definitions.Calls.{checkHall};
+ghost use Rattle.semantics.specs.Promises.{Promised, OnHalls};
 ghost use Rattle.engine.specs.Answers.{hallVerdictOf};
 
 // Whether a hall is well formed for a table; where not, the refusal's number and place.
@@ -16,6 +17,7 @@ pub enum HallVerdict {
 // where it is not well formed.
 pub fn check_hall(table: &[u8], hall: &[u8]) -> HallVerdict
     ensures { λ v. ⌜ hallVerdictOf v ≡ checkHall (now (table .entry)) (now (hall .entry)) ⌝ }
+    ensures promised { λ _. ⌜ Promised OnHalls ⌝ }
 {
     let mut decoded = [0u8; DECODED];
     let mut starts = [0usize; INDEX_SIZE];

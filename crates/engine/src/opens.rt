@@ -7,6 +7,7 @@ use table::Read;
 use terms::DECODED;
 ghost use mathlib.Core.Path.{_≡_};
 ghost use Rattle.semantics.specs.Definitions.Calls.{openHall};
+ghost use Rattle.semantics.specs.Promises.{Promised, OnOpenings};
 ghost use Rattle.engine.specs.Answers.{openingOf};
 
 // The fresh counters, or the number and the place of the refusal.
@@ -19,6 +20,7 @@ pub enum OpenAnswer {
 // place, and by 10 where the hall has another length.
 pub fn open_hall(table: &[u8], hall: &mut [u8]) -> OpenAnswer
     ensures { λ r. ⌜ openingOf r (now (hall .exit)) ≡ openHall (now (table .entry)) (now (hall .entry)) ⌝ }
+    ensures promised { λ _. ⌜ Promised OnOpenings ⌝ }
 {
     let mut decoded = [0u8; DECODED];
     match table::read_table(table, &mut decoded) {

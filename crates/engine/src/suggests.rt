@@ -6,6 +6,7 @@ use suggestions::Suggestion;
 use terms::DECODED;
 ghost use mathlib.Core.Path.{_≡_};
 ghost use Rattle.semantics.specs.Definitions.Suggestion.{suggestCall};
+ghost use Rattle.semantics.specs.Promises.{Promised, OnSuggestions};
 ghost use Rattle.engine.specs.Answers.{suggestAnswerOf};
 
 // The choice that is suggested; that none is accepted (document 01's still); or the refusal's number and place.
@@ -18,6 +19,7 @@ pub enum SuggestAnswer {
 // Suggests the first choice that is accepted: at the lowest position, there at the lowest node.
 pub fn suggest(table: &[u8], hall: &[u8]) -> SuggestAnswer
     ensures { λ r. ⌜ suggestAnswerOf r ≡ suggestCall (now (table .entry)) (now (hall .entry)) ⌝ }
+    ensures promised { λ _. ⌜ Promised OnSuggestions ⌝ }
 {
     let mut decoded = [0u8; DECODED];
     let mut starts = [0usize; INDEX_SIZE];

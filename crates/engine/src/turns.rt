@@ -5,6 +5,7 @@ use table::Read;
 use terms::DECODED;
 ghost use mathlib.Core.Path.{_≡_};
 ghost use Rattle.semantics.specs.Definitions.Turns.{turnCall};
+ghost use Rattle.semantics.specs.Promises.{Promised, OnTurns};
 ghost use Rattle.engine.specs.Answers.{turnAnswerFor};
 
 // The component (station) that the turn lays down, in its two bytes, or that it lays down none, each with how many terms
@@ -19,6 +20,7 @@ pub enum TurnAnswer {
 // The turn of this number, counted from 0, of the opening of a table. Refused by 1 to 9 alone, with the table's place.
 pub fn opening_turn(table: &[u8], turn: usize) -> TurnAnswer
     ensures { λ r. ⌜ r ≡ turnAnswerFor (turnCall (now (table .entry)) turn) ⌝ }
+    ensures promised { λ _. ⌜ Promised OnTurns ⌝ }
 {
     let mut decoded = [0u8; DECODED];
     match table::read_table(table, &mut decoded) {

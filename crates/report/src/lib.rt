@@ -8,6 +8,7 @@ use stored::HALL_SIZE;
 ghost use Prim.Native.Nat.{_≤_};
 ghost use lib.ListN.{length};
 ghost use Rattle.semantics.specs.Definitions.Report.{printedRun};
+ghost use Rattle.semantics.specs.Promises.{Promised, OnPrintedRuns};
 ghost use Rattle.decimals.specs.Wrote.{Wrote};
 ghost use Rattle.sections.specs.Limits.{linesMost};
 ghost use Rattle.sections.specs.Printed.{Printed};
@@ -41,6 +42,7 @@ fn write_report(input: &[u8], out: &mut [u8]) -> usize
 pub fn report(input: &[u8], output: &mut [u8; OUTPUT]) -> usize
     ensures equation { λ r. ⌜ Wrote (now (output .entry)) 0 (printedRun (now (input .entry))) (now (output .exit)) r ⌝ }
     ensures short { λ r. ⌜ r ≤ linesMost ⌝ }
+    ensures promised { λ _. ⌜ Promised OnPrintedRuns ⌝ }
 {
     write_report(input, output)
 }

@@ -16,7 +16,8 @@ use Rattle.semantics.specs.Claims.Sentences.{AllBytes}
 use Rattle.semantics.specs.Definitions.Calls.{Buffers, stepCall}
 use Rattle.semantics.specs.Checks.Steps.{StepCallNumbers, stepReply}
 use Rattle.semantics.specs.Checks.Sentences.{ShortBuffersRefused, SentenceStands}
-use Rattle.theorems.proofs.Theorems.{step-call-numbers, short-buffers-refused, sentence-stands}
+use Rattle.theorems.proofs.Steps.{step-call-numbers}
+use Rattle.theorems.proofs.Sentences.{short-buffers-refused, sentence-stands}
 use Rattle.sentences.specs.Answers.{shortageFrom, replyIn, sentenceCallOf}
 use Rattle.sentences.specs.declared.SentenceAnswer.{SentenceAnswer}
 use Rattle.sentences.specs.declared.SentenceAnswer.the-variants as answer

@@ -21,7 +21,10 @@ use Rattle.semantics.specs.Claims.Suggestions.{RefusedAsChecked}
 use Rattle.semantics.specs.Claims.Turns.{leftBy, TurnsRefusedAsChecked}
 use Rattle.semantics.specs.Checks.Conditions.{RefusalNumbers}
 use Rattle.semantics.specs.Checks.Sentences.{ShortBuffersRefused}
-use Rattle.theorems.proofs.Theorems.{refusal-numbers, refused-as-checked, turns-refused-as-checked, short-buffers-refused}
+use Rattle.theorems.proofs.HallConditions.{refusal-numbers}
+use Rattle.theorems.proofs.Suggestions.{refused-as-checked}
+use Rattle.theorems.proofs.Turns.{turns-refused-as-checked}
+use Rattle.theorems.proofs.Sentences.{short-buffers-refused}
 use Rattle.ruonfidd.specs.Answered.{VerdictAnswered, OpeningAnswered, TurnAnswered, choiceWords, SuggestionAnswered, SentenceAnswered}
 
 zero-ok : (v : Verdict) → ((n p : ℕ) → v ≡ rejected n p → 1 ≤ n) → (set : ℕ) → VerdictAnswered v 0 set → v ≡ ok

@@ -1,3 +1,4 @@
 pub mod Definitions
 pub mod Claims
 pub mod Checks
+pub mod Promises

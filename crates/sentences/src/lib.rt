@@ -12,6 +12,7 @@ ghost use mathlib.Core.Path.{_≡_};
 ghost use Prim.Native.Nat.{_+_, _≤_};
 ghost use lib.ListN.{length};
 ghost use Rattle.semantics.specs.Definitions.Sentence.{choiceNamed, shortNamed, replyNamed, sentence as Sentence·sentence, sentenceCall};
+ghost use Rattle.semantics.specs.Promises.{Promised, OnSentences};
 ghost use Rattle.decimals.specs.Wrote.{Wrote};
 ghost use Rattle.sentences.specs.Answers.{shortageFrom, replyIn, sentenceCallOf};
 
@@ -112,6 +113,7 @@ pub fn sentence(
 ) -> SentenceAnswer
     ensures { λ r. ⌜ sentenceCallOf r (now (buffer .exit)) ≡
         sentenceCall kind position node (replyIn moved number (shortageFrom short tray by)) (now (buffer .entry)) ⌝ }
+    ensures promised { λ _. ⌜ Promised OnSentences ⌝ }
 {
     if buffer.len() < SENTENCE_BYTES {
         return SentenceAnswer::Refused {

@@ -24,6 +24,7 @@ ghost use lib.ListN.{length, replicate};
 ghost use Rattle.semantics.specs.Definitions.Layout.{channels};
 ghost use Rattle.semantics.specs.Definitions.Table.{tokensRecord, badTokens, readTable};
 ghost use Rattle.semantics.specs.Definitions.Calls.{checkTable};
+ghost use Rattle.semantics.specs.Promises.{Promised, OnTables};
 ghost use Rattle.records.specs.Parsing.{WholeRecord};
 ghost use Rattle.terms.specs.Decoded.{decodedBytes, tokensIn};
 ghost use Rattle.table.specs.RecordTests.{DecodedSoFar, TermLimitTested, EarlierReference, ClassTested, FieldsTested};
@@ -283,6 +284,7 @@ pub fn read_table(table: &[u8], decoded: &mut [u8; DECODED]) -> Read
 // Whether a table is accepted; where not, the refusal's number and place.
 pub fn check_table(table: &[u8]) -> TableVerdict
     ensures { λ v. ⌜ verdictOf v ≡ checkTable (now (table .entry)) ⌝ }
+    ensures promised { λ _. ⌜ Promised OnTables ⌝ }
 {
     let mut decoded = [0u8; DECODED];
     match read_table(table, &mut decoded) {

@@ -43,6 +43,7 @@ pub mod Suggestions
 pub mod Turns
 pub mod Decimals
 pub mod Sentences
-pub mod Theorems
+pub mod Atomicity
 pub mod PrintedRun
 pub mod LongExamples
+pub mod Theorems

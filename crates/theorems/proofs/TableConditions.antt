@@ -19,7 +19,7 @@ use Rattle.calculus.specs.State.{count}
 use Rattle.semantics.specs.Definitions.Basics.{firstOf}
 use Rattle.semantics.specs.Definitions.Terms.{Program, Term, process, expression, width, branches, pathLength}
 use Rattle.semantics.specs.Definitions.Table.{Kind, kindByNumber, Field, channelF, programF, expressionF, amountF, fields, Reading, Table, TableAnswer, accepted, refusedAt, isProgram, isExpression, Content, termRecord, tokensRecord, startRecord, recordContent, anyField, tooManyTerms, channelOutOfRange, forwardReference, classMismatch, overLimit, badTokens, Test, tests, RecordAnswer, stop, more, tableEnd, recordPassed, recordTested, recordOfKind, readRecord, thenRead, readFrom, emptyReading, readTable}
-use Rattle.semantics.specs.Checks.Conditions.{Body, BodyByte, RecordAsStated, start13, ReadAsStated, TableCondition, kind-unknown, body-short, terms-many, channel-over, forward-reference, class-expression, class-process, width-over, paths-over, tokens-none, tokens-again, byte-follows, start-missing, NoCondition, Reached, at-first, after-term, after-tokens, TableRefused, TableAccepted, TableNumbers}
+use Rattle.semantics.specs.Checks.Conditions.{Body, BodyByte, RecordAsStated, start13, ReadAsStated, TableCondition, kind-unknown, body-short, terms-many, channel-over, forward-reference, class-expression, class-process, width-over, paths-over, tokens-none, tokens-again, byte-follows, start-missing, NoCondition, Reached, at-first, after-term, after-tokens, TableRefused, TableAccepted, TableNumbers, MissingAtLength}
 use Rattle.theorems.proofs.Lists.{none-found, found-below, none-past}
 use Rattle.semantics.specs.Checks.AcceptedTables.{kindByte}
 use Rattle.theorems.proofs.RecordShapes.{kind-number, kind-within, kind-positive, kind-without, ContentReason, said-reason, body-of, body-is, read-as-stated, Fits, no-field, a-channel, a-program, an-expression, an-amount, printed-as-read}
@@ -678,9 +678,10 @@ module _ (bs : List ℕ) where
   reached-within q s (after-tokens {p} {w} {r} {a} {n} reached passes prints) =
       further p w r (tokensRecord a n) passes prints (reached-within p r reached)
 
-  pub missing-at-length : (p : ℕ) (r : Reading) → Reached bs p r → drop p bs ≡ [] → p ≡ length bs
-  missing-at-length p r reached e =
-      let a = reached-within p r reached in let b = length-drop p bs in let c = ap length e in omega arith
+pub missing-at-length : MissingAtLength
+unfolding MissingAtLength
+missing-at-length bs p r reached e =
+    let a = reached-within bs p r reached in let b = length-drop p bs in let c = ap length e in omega arith
 
 pub table-numbers : TableNumbers
 unfolding TableNumbers readTable emptyReading

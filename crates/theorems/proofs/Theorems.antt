@@ -1,429 +1,229 @@
--- The claims of specs/, each as one named theorem.
+-- The claims of specs/Promises, each proved: a field is the theorem of its name. The contracts of the public calls cite
+-- these records, so that none of them is proved without all of its claims.
 -- Assumes nothing.
-use Rattle.semantics.specs.Claims.Correspondence.{Soundness, RunSoundness, EveryHallDenotes, AcceptedIsWithinLimits, Completeness, CompletenessAnyOrder, StillIsStill, KeepsWellFormed, OpeningDenotes, Located, LogOrderAsStated, HandoverIsCOM}
-use Rattle.semantics.specs.Claims.Accounts.{RunAccounts, CallsAccounts}
-use Rattle.semantics.specs.Checks.ConverseSteps.{StartIsOpening, ConverseStepsAreMoves, ReadableBlocksCommit, ConverseStepsGoOn}
-use Rattle.semantics.specs.Claims.InnerMoves.{MovesLowerWeight, MovesGoOn, SettledHasNoRule, MovesSettleFirstPath, OneOutcome}
-use Rattle.semantics.specs.Checks.StatedMoves.{OpensAsStated, MovesAsStated, MovesWorked}
-use Rattle.semantics.specs.Checks.StatedSuggestions.{SuggestionAsStated}
-use Rattle.semantics.specs.Claims.Suggestions.{SuggestedIsFirst, KindsApart, KindsInEitherOrder, StillIsQuiescent, StillRunsNone, RefusedAsChecked}
-use Rattle.semantics.specs.Claims.Atomicity.{AtomicityOfCalls, initialBuffers, finalBuffers, allDone, doneWithoutAborted, atomic}
-use Rattle.semantics.specs.Checks.Conditions.{ReadAsStated, TableNumbers, MissingAtLength, HallNumbers, CheckNumbers, OpenNumbers, RefusalNumbers, ChoiceNumbers, RunNumbers, OneReason, RunCallNumbers, RunCallZero}
-use Rattle.semantics.specs.Checks.Answers.{AnswersReported, AnswersDiffer, ZeroIsAccepted}
-use Rattle.semantics.specs.Checks.CallLists.{CallBytes, CallsInTurn, CallsCut}
-use Rattle.semantics.specs.Checks.Steps.{StepCallsAsStated, StepCallNumbers, StepReplies, NodeOfKind1, StepIsCall}
-use Rattle.semantics.specs.Claims.Turns.{LaidThenWaiting, OneATurn, TurnsFall, TurnsEnd, WaitingFits, StackSuffices, LeaningNeedsItsWidth, CallsShowTurns, CallsShowTheOpening, TurnsRefusedAsChecked}
-use Rattle.semantics.specs.Checks.TurnExamples.{TurnExamples}
-use Rattle.semantics.specs.Claims.Shortages.{ShortageIsLowest, ShortageIsExact, EnoughIsIncluded, ReadLacksOne, FailuresTellTheirTest, FailuresAloneName, ShortagesAreSmall}
-use Rattle.semantics.specs.Checks.ShortageExamples.{ShortageExamples}
-use Rattle.semantics.specs.Claims.Sentences.{SentencesAreShort, SentencesArePrintable, SentencesTellApart}
-use Rattle.semantics.specs.Checks.Sentences.{WordsEnd, ShortBuffersRefused, SentenceStands, RoomOfAShortage, LongestSentence, RoomIsLeft, SentencesWorked, SentenceInBytes, CallsWorked}
-use mathlib.Core.Path.{_≡_, refl, sym, ap, _∙_}
-use mathlib.Core.List.{map}
-use native.Mathlib.Omega.{arith}
-use lib.ListN.{length, take}
-use lib.Seq.{take-length}
-use Rattle.calculus.specs.Reduction.{ARDF}
-use Rattle.semantics.specs.Definitions.Configuration.{opening}
-use Rattle.semantics.specs.Definitions.Stored.{bytesOf, configurationOf}
-use Rattle.semantics.specs.Definitions.Moves.{inside, ruleNumber}
-use Rattle.semantics.specs.Definitions.Run.{steps, finalConfiguration}
-use Rattle.semantics.specs.Claims.NumberedRun.{NumberedIsAtomic}
-use Rattle.semantics.specs.Checks.Notes.{NotesAtBlocks}
-use Rattle.semantics.specs.Checks.PrintedRun.{TableFound, AcceptedIsFound, PrintedLong, PrintedRefused, PrintedAsCalls}
-use Rattle.theorems.proofs.WellFormedKept as Kept
-use Rattle.theorems.proofs.Soundness as Sound
-use Rattle.theorems.proofs.Accounts as Counting
-use Rattle.theorems.proofs.Completeness as Complete
-use Rattle.theorems.proofs.Handover as Together
-use Rattle.theorems.proofs.AnyOrder as Any
-use Rattle.theorems.proofs.InnerMoves as Inside
-use Rattle.theorems.proofs.Notes as Noting
-use Rattle.theorems.proofs.StatedMoves as Printing
-use Rattle.semantics.proofs.MovesWorked as WorkedMoves
-use Rattle.theorems.proofs.CallsAsOne.{firstBuffers, opened-calls}
-use Rattle.theorems.proofs.Abandoned.{kept-runs}
-use Rattle.theorems.proofs.GoodTable.{accepted-is-good}
-use Rattle.theorems.proofs.RoundTrip.{read-back}
-use Rattle.theorems.proofs.Runs.{runs-steps}
-use Rattle.theorems.proofs.Simulation as Pace
-use Rattle.theorems.proofs.Simulation.{atomic-of-runs, unbegun-stations, each-choice}
-use Rattle.theorems.proofs.PathClause.{commits-ok, attempts-ok}
-use Rattle.theorems.proofs.Converse.{converse-holds}
-use Rattle.theorems.proofs.ConverseSteps as Steps
-use Rattle.theorems.proofs.TableConditions as OnTables
-use Rattle.theorems.proofs.HallConditions as OnHalls
-use Rattle.theorems.proofs.ChoiceConditions as OnChoices
-use Rattle.semantics.proofs.Answers as Telling
-use Rattle.theorems.proofs.ZeroNumbers as Zero
-use Rattle.theorems.proofs.RunConditions as OnRuns
-use Rattle.theorems.proofs.CallConditions as OnCalls
-use Rattle.theorems.proofs.CallLists as InTurn
-use Rattle.theorems.proofs.Steps as OnSteps
-use Rattle.theorems.proofs.Turns as ByTurns
-use Rattle.semantics.proofs.TurnExamples as WorkedTurns
-use Rattle.theorems.proofs.ToldShort as Lacking
-use Rattle.semantics.proofs.ShortageExamples as WorkedShortages
-use Rattle.theorems.proofs.Suggestions as Suggesting
-use Rattle.theorems.proofs.RecordShapes as Shapes
-use Rattle.theorems.proofs.Limits as Bounds
-use Rattle.theorems.proofs.PrintedRun as Prints
-use Rattle.theorems.proofs.Sentences as Saying
-use Rattle.semantics.proofs.Sentences as WorkedSentences
-
--- ---- demand 2
-
-pub opening-denotes : OpeningDenotes
-opening-denotes = Sound.opening-denotes
-
-pub every-hall-denotes : EveryHallDenotes
-every-hall-denotes = Bounds.every-hall-denotes
-
-pub soundness : Soundness
-soundness = Sound.soundness
-
-pub located : Located
-located = Sound.located
-
-pub log-order-as-stated : LogOrderAsStated
-log-order-as-stated = Any.log-order-as-stated
-
-pub accepted-is-within-limits : AcceptedIsWithinLimits
-accepted-is-within-limits = Bounds.accepted-is-within-limits
-
-pub handover-is-com : HandoverIsCOM
-handover-is-com = Together.handover-is-com
-
-pub run-soundness : RunSoundness
-run-soundness = Sound.run-soundness
-
-pub keeps-well-formed : KeepsWellFormed
-keeps-well-formed = Kept.keeps-well-formed
-
-pub completeness : Completeness
-completeness = Complete.completeness
-
-pub completeness-any-order : CompletenessAnyOrder
-completeness-any-order = Any.completeness-any-order
-
-pub still-is-still : StillIsStill
-still-is-still = Any.still-is-still
-
--- ---- suggestions
-
-pub suggested-is-first : SuggestedIsFirst
-suggested-is-first = Suggesting.suggested-is-first
-
-pub kinds-apart : KindsApart
-kinds-apart = Suggesting.kinds-apart
-
-pub kinds-in-either-order : KindsInEitherOrder
-kinds-in-either-order = Suggesting.kinds-in-either-order
-
-pub suggestion-as-stated : SuggestionAsStated
-suggestion-as-stated = Suggesting.suggestion-as-stated
-
-pub still-is-quiescent : StillIsQuiescent
-still-is-quiescent = Suggesting.still-is-quiescent
-
-pub still-runs-none : StillRunsNone
-still-runs-none = Suggesting.still-runs-none
-
-pub refused-as-checked : RefusedAsChecked
-refused-as-checked = Suggesting.refused-as-checked
-
-pub answers-differ : AnswersDiffer
-answers-differ = Telling.answers-differ
-
--- ---- the moves as the scope prints them
-
-pub opens-as-stated : OpensAsStated
-opens-as-stated = Printing.opens-as-stated
-
-pub moves-as-stated : MovesAsStated
-moves-as-stated = Printing.moves-as-stated
-
-pub moves-worked : MovesWorked
-moves-worked = WorkedMoves.moves-worked
-
--- ---- the counts after a run
-
-pub run-accounts : RunAccounts
-run-accounts = Counting.run-accounts
-
-pub calls-accounts : CallsAccounts
-calls-accounts = Counting.calls-accounts
-
--- ---- the moves inside an attempt
-
-pub moves-lower-weight : MovesLowerWeight
-moves-lower-weight = Inside.moves-lower-weight
-
-pub moves-go-on : MovesGoOn
-moves-go-on = Inside.moves-go-on
-
-pub settled-has-no-rule : SettledHasNoRule
-settled-has-no-rule = Inside.settled-has-no-rule
-
-pub one-outcome : OneOutcome
-one-outcome = Inside.one-outcome
-
-pub moves-settle-first-path : MovesSettleFirstPath
-moves-settle-first-path = Inside.moves-settle-first-path
-
--- ---- demand 3
-
-pub notes-at-blocks : NotesAtBlocks
-notes-at-blocks = Noting.notes-at-blocks
-
-pub numbered-is-atomic : NumberedIsAtomic
-numbered-is-atomic = Pace.numbered-is-atomic
-
-pub atomicity-of-calls : AtomicityOfCalls
-unfolding AtomicityOfCalls initialBuffers finalBuffers allDone doneWithoutAborted atomic firstBuffers
-atomicity-of-calls table t accepts buffer size first cs =
-    let all = opened-calls table t accepts buffer size first cs in
-    let led = runs-steps (all .runs) in
-    let run = atomic-of-runs t first (all .runs) in
-    let spared = kept-runs t first (all .runs) in
-    let kept-led = runs-steps (spared .runs) in
-    let kept-run = atomic-of-runs t first (spared .runs) in
-    let told = spared .counters first first refl in
-    record {
-      never-rejected = all .numbers;
-      whole = led .0;
-      hall = all .hall ∙ ap bytesOf (sym (led .1));
-      after = all .after;
-      read =
-          ap (configurationOf (t .terms)) (all .hall)
-          ∙ read-back (t .terms) (all .after) (accepted-is-good table t (accepts .1)) (all .well-formed);
-      counts = ap (λ a. a .counts) (sym run);
-      stations = unbegun-stations (all .after .components) ∙ ap (λ a. map (λ x. x .station) (a .stations)) (sym run);
-      tally = all .tally ∙ ap (λ a. a .counters) (sym run);
-      each-choice = each-choice t first (all .runs);
-      unaborted-whole = kept-led .0;
-      unaborted-hall = ap bytesOf (kept-led .1) ∙ sym (all .hall);
-      unaborted-atomic =
-          kept-run
-          ∙ λ i. record {
-            counts = sym run i .counts;
-            stations = sym run i .stations;
-            counters =
-                (told
-                ∙ ap (λ a. record { commits = a .counters .commits; failed = first .failed; retries = first .retries }) (sym run)) i;
-          };
-      unaborted-effects = spared .same-effects;
-      unaborted-none = spared .none-abandoned;
-      paths = commits-ok t first (allDone table t buffer first cs);
-      attempts = λ j h. attempts-ok t first (allDone table t buffer first cs) j (rw (led .0) h);
-      converse = converse-holds table t accepts buffer size first cs;
-    }
-
-pub start-is-opening : StartIsOpening
-start-is-opening = Steps.start-is-opening
-
-pub converse-steps-are-moves : ConverseStepsAreMoves
-converse-steps-are-moves = Steps.converse-steps-are-moves
-
-pub readable-blocks-commit : ReadableBlocksCommit
-readable-blocks-commit = Steps.readable-blocks-commit
-
-pub converse-steps-go-on : ConverseStepsGoOn
-converse-steps-go-on = Steps.converse-steps-go-on
-
--- ---- the numbered conditions
-
-pub read-as-stated : ReadAsStated
-read-as-stated = Shapes.read-as-stated
-
-pub table-numbers : TableNumbers
-table-numbers = OnTables.table-numbers
-
-pub missing-at-length : MissingAtLength
-unfolding MissingAtLength
-missing-at-length = OnTables.missing-at-length
-
-pub hall-numbers : HallNumbers
-hall-numbers = OnHalls.hall-numbers
-
-pub check-numbers : CheckNumbers
-check-numbers = OnHalls.check-numbers
-
-pub open-numbers : OpenNumbers
-open-numbers = OnHalls.open-numbers
-
-pub refusal-numbers : RefusalNumbers
-refusal-numbers = OnHalls.refusal-numbers
-
-pub answers-reported : AnswersReported
-answers-reported = Telling.answers-reported
-
-pub zero-is-accepted : ZeroIsAccepted
-zero-is-accepted = Zero.zero-is-accepted
-
-pub choice-numbers : ChoiceNumbers
-choice-numbers = OnChoices.choice-numbers
-
-pub run-numbers : RunNumbers
-run-numbers = OnRuns.run-numbers
-
-pub one-reason : OneReason
-one-reason = OnRuns.one-reason
-
-pub run-call-numbers : RunCallNumbers
-run-call-numbers = OnCalls.run-call-numbers
-
-pub run-call-zero : RunCallZero
-run-call-zero = OnCalls.run-call-zero
-
--- ---- a step, and lists of calls
-
-pub step-calls-as-stated : StepCallsAsStated
-step-calls-as-stated = OnSteps.step-calls-as-stated
-
-pub step-call-numbers : StepCallNumbers
-step-call-numbers = OnSteps.step-call-numbers
-
-pub step-replies : StepReplies
-step-replies = OnSteps.step-replies
-
-pub node-of-kind-1 : NodeOfKind1
-node-of-kind-1 = OnSteps.node-of-kind-1
-
-pub step-is-call : StepIsCall
-step-is-call = OnSteps.step-is-call
-
-pub call-bytes : CallBytes
-call-bytes = InTurn.call-bytes
-
-pub calls-in-turn : CallsInTurn
-calls-in-turn = InTurn.calls-in-turn
-
-pub calls-cut : CallsCut
-calls-cut = InTurn.calls-cut
-
--- ---- the printed run
-
-pub table-found : TableFound
-table-found = Prints.table-found
-
-pub accepted-is-found : AcceptedIsFound
-accepted-is-found = Prints.accepted-is-found
-
-pub printed-long : PrintedLong
-printed-long = Prints.printed-long
-
-pub printed-refused : PrintedRefused
-printed-refused = Prints.printed-refused
-
-pub printed-as-calls : PrintedAsCalls
-printed-as-calls = Prints.printed-as-calls
-
--- ---- what was short
-
-pub shortage-is-lowest : ShortageIsLowest
-shortage-is-lowest = Lacking.shortage-is-lowest
-
-pub shortage-is-exact : ShortageIsExact
-shortage-is-exact = Lacking.shortage-is-exact
-
-pub enough-is-included : EnoughIsIncluded
-enough-is-included = Lacking.enough-is-included
-
-pub read-lacks-one : ReadLacksOne
-unfolding ReadLacksOne finalBuffers initialBuffers firstBuffers allDone ruleNumber
-read-lacks-one table t accepts buffer size first cs h g read p k w q =
-    let all = opened-calls table t accepts buffer size first cs in
-    let led = runs-steps (all .runs) in
-    let es = allDone table t buffer first cs in
-    let back = ap (configurationOf (t .terms)) (all .hall) ∙ read-back (t .terms) (all .after) (accepted-is-good table t (accepts .1)) (all .well-formed) in
-    let same : h ≡ all .after = cc in
-    let whole : finalConfiguration (opening t) (take (length (steps (opening t) es)) (steps (opening t) es)) ≡ h =
-    rw (take-length (steps (opening t) es)) (led .1 ∙ sym same) in
-    Lacking.opened-lacks-one (Printing.chosen-printed h (inside p k) ARDF w g q)
-    (λ n M s u f. attempts-ok t first es (length (steps (opening t) es)) (omega arith) p n M s u (rw whole f) .2)
-
-pub failures-tell-their-test : FailuresTellTheirTest
-failures-tell-their-test = Lacking.failures-tell-their-test
-
-pub failures-alone-name : FailuresAloneName
-failures-alone-name = Lacking.failures-alone-name
-
-pub shortages-are-small : ShortagesAreSmall
-shortages-are-small = Lacking.shortages-are-small
-
-pub shortage-examples : ShortageExamples
-shortage-examples = WorkedShortages.shortage-examples
-
--- ---- an opening turn by turn
-
-pub laid-then-waiting : LaidThenWaiting
-laid-then-waiting = ByTurns.laid-then-waiting
-
-pub one-a-turn : OneATurn
-one-a-turn = ByTurns.one-a-turn
-
-pub turns-fall : TurnsFall
-turns-fall = ByTurns.turns-fall
-
-pub turns-end : TurnsEnd
-turns-end = ByTurns.turns-end
-
-pub waiting-fits : WaitingFits
-waiting-fits = ByTurns.waiting-fits
-
-pub stack-suffices : StackSuffices
-stack-suffices = ByTurns.stack-suffices
-
-pub leaning-needs-its-width : LeaningNeedsItsWidth
-leaning-needs-its-width = ByTurns.leaning-needs-its-width
-
-pub calls-show-turns : CallsShowTurns
-calls-show-turns = ByTurns.calls-show-turns
-
-pub calls-show-the-opening : CallsShowTheOpening
-calls-show-the-opening = ByTurns.calls-show-the-opening
-
-pub turns-refused-as-checked : TurnsRefusedAsChecked
-turns-refused-as-checked = ByTurns.turns-refused-as-checked
-
-pub turn-examples : TurnExamples
-turn-examples = WorkedTurns.turn-examples
-
--- ---- sentences
-
-pub sentences-are-short : SentencesAreShort
-sentences-are-short = Saying.sentences-are-short
-
-pub sentences-are-printable : SentencesArePrintable
-sentences-are-printable = Saying.sentences-are-printable
-
-pub sentences-tell-apart : SentencesTellApart
-sentences-tell-apart = Saying.sentences-tell-apart
-
-pub words-end : WordsEnd
-words-end = Saying.words-end
-
-pub short-buffers-refused : ShortBuffersRefused
-short-buffers-refused = Saying.short-buffers-refused
-
-pub sentence-stands : SentenceStands
-sentence-stands = Saying.sentence-stands
-
-pub room-of-a-shortage : RoomOfAShortage
-room-of-a-shortage = Saying.room-of-a-shortage
-
-pub longest-sentence : LongestSentence
-longest-sentence = Saying.longest-sentence
-
-pub room-is-left : RoomIsLeft
-room-is-left = Saying.room-is-left
-
-pub sentences-worked : SentencesWorked
-sentences-worked = WorkedSentences.sentences-worked
-
-pub sentence-in-bytes : SentenceInBytes
-sentence-in-bytes = WorkedSentences.sentence-in-bytes
-
-pub calls-worked : CallsWorked
-calls-worked = WorkedSentences.calls-worked
+use Rattle.semantics.specs.Promises.{Promised, OnTables, OnHalls, OnOpenings, OnTurns, OnMoves, Demand2, Demand3, OnRuns, OnSteps, OnSuggestions, OnSentences, OnPrintedRuns, EveryClaim}
+use Rattle.theorems.proofs.Accounts as Accounts
+use Rattle.theorems.proofs.AnyOrder as AnyOrder
+use Rattle.theorems.proofs.Atomicity as Atomicity
+use Rattle.theorems.proofs.CallConditions as CallConditions
+use Rattle.theorems.proofs.CallLists as CallLists
+use Rattle.theorems.proofs.ChoiceConditions as ChoiceConditions
+use Rattle.theorems.proofs.Completeness as Completeness
+use Rattle.theorems.proofs.ConverseSteps as ConverseSteps
+use Rattle.theorems.proofs.GoodTable as GoodTable
+use Rattle.theorems.proofs.HallConditions as HallConditions
+use Rattle.theorems.proofs.Handover as Handover
+use Rattle.theorems.proofs.InnerMoves as InnerMoves
+use Rattle.theorems.proofs.Limits as Limits
+use Rattle.theorems.proofs.LongExamples as LongExamples
+use Rattle.theorems.proofs.Notes as Notes
+use Rattle.theorems.proofs.PrintedRun as PrintedRun
+use Rattle.theorems.proofs.RecordShapes as RecordShapes
+use Rattle.theorems.proofs.RoundTrip as RoundTrip
+use Rattle.theorems.proofs.RunConditions as RunConditions
+use Rattle.theorems.proofs.Sentences as Sentences
+use Rattle.theorems.proofs.Simulation as Simulation
+use Rattle.theorems.proofs.Soundness as Soundness
+use Rattle.theorems.proofs.StatedMoves as StatedMoves
+use Rattle.theorems.proofs.Steps as Steps
+use Rattle.theorems.proofs.Suggestions as Suggestions
+use Rattle.theorems.proofs.TableConditions as TableConditions
+use Rattle.theorems.proofs.ToldShort as ToldShort
+use Rattle.theorems.proofs.Turns as Turns
+use Rattle.theorems.proofs.WellFormedKept as WellFormedKept
+use Rattle.theorems.proofs.ZeroNumbers as ZeroNumbers
+use Rattle.semantics.proofs.Answers as RowsAnswers
+use Rattle.semantics.proofs.ConverseExamples as RowsConverseExamples
+use Rattle.semantics.proofs.DenotationExamples as RowsDenotationExamples
+use Rattle.semantics.proofs.EdgeExamples as RowsEdgeExamples
+use Rattle.semantics.proofs.Examples as RowsExamples
+use Rattle.semantics.proofs.GainExamples as RowsGainExamples
+use Rattle.semantics.proofs.MovesWorked as RowsMovesWorked
+use Rattle.semantics.proofs.Sentences as RowsSentences
+use Rattle.semantics.proofs.ShortageExamples as RowsShortageExamples
+use Rattle.semantics.proofs.StepExamples as RowsStepExamples
+use Rattle.semantics.proofs.SuggestionExamples as RowsSuggestionExamples
+use Rattle.semantics.proofs.TurnExamples as RowsTurnExamples
+
+-- as a contract cites a record
+pub promised : {claims : Type 0} → claims → Promised claims
+unfolding Promised
+promised proofs = proofs
+
+pub on-tables : OnTables
+on-tables = record {
+  read-as-stated = RecordShapes.read-as-stated;
+  table-numbers = TableConditions.table-numbers;
+  missing-at-length = TableConditions.missing-at-length;
+  accepted-is-good = GoodTable.accepted-is-good;
+  start-is-term = GoodTable.start-is-term;
+  tokens-are-counts = GoodTable.tokens-are-counts;
+  answers-reported = RowsAnswers.answers-reported;
+  zero-is-accepted = ZeroNumbers.zero-is-accepted;
+}
+
+pub on-halls : OnHalls
+on-halls = record {
+  hall-numbers = HallConditions.hall-numbers;
+  check-numbers = HallConditions.check-numbers;
+  refusal-numbers = HallConditions.refusal-numbers;
+  read-back = RoundTrip.read-back;
+  bytes-differ = RoundTrip.bytes-differ;
+  read-is-well-formed = RoundTrip.read-is-well-formed;
+  well-formed-agrees = RoundTrip.well-formed-agrees;
+  stored-fits = RoundTrip.stored-fits;
+}
+
+pub on-openings : OnOpenings
+on-openings = record {
+  open-numbers = HallConditions.open-numbers;
+  opens-as-stated = StatedMoves.opens-as-stated;
+  width-bounds-opening = RoundTrip.width-bounds-opening;
+  opening-is-well-formed = RoundTrip.opening-is-well-formed;
+}
+
+pub on-turns : OnTurns
+on-turns = record {
+  laid-then-waiting = Turns.laid-then-waiting;
+  one-a-turn = Turns.one-a-turn;
+  turns-fall = Turns.turns-fall;
+  turns-end = Turns.turns-end;
+  waiting-fits = Turns.waiting-fits;
+  stack-suffices = Turns.stack-suffices;
+  leaning-needs-its-width = Turns.leaning-needs-its-width;
+  calls-show-turns = Turns.calls-show-turns;
+  calls-show-the-opening = Turns.calls-show-the-opening;
+  turns-refused-as-checked = Turns.turns-refused-as-checked;
+  turn-examples = RowsTurnExamples.turn-examples;
+}
+
+pub on-moves : OnMoves
+on-moves = record {
+  moves-as-stated = StatedMoves.moves-as-stated;
+  moves-worked = RowsMovesWorked.moves-worked;
+  choice-numbers = ChoiceConditions.choice-numbers;
+  moves-lower-weight = InnerMoves.moves-lower-weight;
+  moves-go-on = InnerMoves.moves-go-on;
+  settled-has-no-rule = InnerMoves.settled-has-no-rule;
+  one-outcome = InnerMoves.one-outcome;
+  moves-settle-first-path = InnerMoves.moves-settle-first-path;
+}
+
+pub demand2 : Demand2
+demand2 = record {
+  opening-denotes = Soundness.opening-denotes;
+  every-hall-denotes = Limits.every-hall-denotes;
+  soundness = Soundness.soundness;
+  located = Soundness.located;
+  log-order-as-stated = AnyOrder.log-order-as-stated;
+  accepted-is-within-limits = Limits.accepted-is-within-limits;
+  handover-is-com = Handover.handover-is-com;
+  run-soundness = Soundness.run-soundness;
+  keeps-well-formed = WellFormedKept.keeps-well-formed;
+  completeness = Completeness.completeness;
+  completeness-any-order = AnyOrder.completeness-any-order;
+  still-is-still = AnyOrder.still-is-still;
+  denotation-examples = RowsDenotationExamples.denotation-examples;
+}
+
+pub demand3 : Demand3
+demand3 = record {
+  atomicity-of-calls = Atomicity.atomicity-of-calls;
+  notes-at-blocks = Notes.notes-at-blocks;
+  numbered-is-atomic = Simulation.numbered-is-atomic;
+  start-is-opening = ConverseSteps.start-is-opening;
+  converse-steps-are-moves = ConverseSteps.converse-steps-are-moves;
+  readable-blocks-commit = ConverseSteps.readable-blocks-commit;
+  converse-steps-go-on = ConverseSteps.converse-steps-go-on;
+  call-bytes = CallLists.call-bytes;
+  calls-in-turn = CallLists.calls-in-turn;
+  calls-cut = CallLists.calls-cut;
+  gain-rows = RowsGainExamples.gain-rows;
+  run-rows = RowsGainExamples.run-rows;
+  converse-examples = RowsConverseExamples.converse-examples;
+}
+
+pub on-runs : OnRuns
+on-runs = record {
+  moves = on-moves;
+  demand2 = demand2;
+  demand3 = demand3;
+  run-numbers = RunConditions.run-numbers;
+  one-reason = RunConditions.one-reason;
+  run-call-numbers = CallConditions.run-call-numbers;
+  run-call-zero = CallConditions.run-call-zero;
+  run-accounts = Accounts.run-accounts;
+  calls-accounts = Accounts.calls-accounts;
+  worked-examples = RowsExamples.worked-examples;
+  edge-examples = RowsEdgeExamples.edge-examples;
+  long-examples = LongExamples.long-examples;
+}
+
+pub on-steps : OnSteps
+on-steps = record {
+  step-calls-as-stated = Steps.step-calls-as-stated;
+  step-call-numbers = Steps.step-call-numbers;
+  step-replies = Steps.step-replies;
+  node-of-kind-1 = Steps.node-of-kind-1;
+  step-is-call = Steps.step-is-call;
+  step-examples = RowsStepExamples.step-examples;
+  shortage-is-lowest = ToldShort.shortage-is-lowest;
+  shortage-is-exact = ToldShort.shortage-is-exact;
+  enough-is-included = ToldShort.enough-is-included;
+  read-lacks-one = Atomicity.read-lacks-one;
+  failures-tell-their-test = ToldShort.failures-tell-their-test;
+  failures-alone-name = ToldShort.failures-alone-name;
+  shortages-are-small = ToldShort.shortages-are-small;
+  shortage-examples = RowsShortageExamples.shortage-examples;
+}
+
+pub on-suggestions : OnSuggestions
+on-suggestions = record {
+  suggested-is-first = Suggestions.suggested-is-first;
+  kinds-apart = Suggestions.kinds-apart;
+  kinds-in-either-order = Suggestions.kinds-in-either-order;
+  suggestion-as-stated = Suggestions.suggestion-as-stated;
+  still-is-quiescent = Suggestions.still-is-quiescent;
+  still-runs-none = Suggestions.still-runs-none;
+  refused-as-checked = Suggestions.refused-as-checked;
+  answers-differ = RowsAnswers.answers-differ;
+  suggestion-examples = RowsSuggestionExamples.suggestion-examples;
+}
+
+pub on-sentences : OnSentences
+on-sentences = record {
+  sentences-are-short = Sentences.sentences-are-short;
+  sentences-are-printable = Sentences.sentences-are-printable;
+  sentences-tell-apart = Sentences.sentences-tell-apart;
+  words-end = Sentences.words-end;
+  short-buffers-refused = Sentences.short-buffers-refused;
+  sentence-stands = Sentences.sentence-stands;
+  room-of-a-shortage = Sentences.room-of-a-shortage;
+  longest-sentence = Sentences.longest-sentence;
+  room-is-left = Sentences.room-is-left;
+  sentences-worked = RowsSentences.sentences-worked;
+  sentence-in-bytes = RowsSentences.sentence-in-bytes;
+  calls-worked = RowsSentences.calls-worked;
+}
+
+pub on-printed-runs : OnPrintedRuns
+on-printed-runs = record {
+  table-found = PrintedRun.table-found;
+  accepted-is-found = PrintedRun.accepted-is-found;
+  printed-long = PrintedRun.printed-long;
+  printed-refused = PrintedRun.printed-refused;
+  printed-as-calls = PrintedRun.printed-as-calls;
+}
+
+pub every-claim : EveryClaim
+every-claim = record {
+  on-tables = on-tables;
+  on-halls = on-halls;
+  on-openings = on-openings;
+  on-turns = on-turns;
+  on-runs = on-runs;
+  on-steps = on-steps;
+  on-suggestions = on-suggestions;
+  on-sentences = on-sentences;
+  on-printed-runs = on-printed-runs;
+}

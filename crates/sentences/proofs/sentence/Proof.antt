@@ -1,12 +1,13 @@
 -- The call that writes a sentence meets its contract.
 -- Assumes nothing.
+use Rattle.theorems.proofs.Theorems.{promised, on-sentences}
 use borrow.Author.Needs.{needs}
 use Rattle.sentences.proofs.Told.{short-refused, sentence-fits, sentence-told}
 use Rattle.sentences.proofs.sentence.Statement.{statement}
 use Rattle.sentences.proofs.sentence.Tie as tie
 
 returns : tie.Need-returns
-returns c = short-refused _ _ _ _ _ (search needs)
+returns c = (short-refused _ _ _ _ _ (search needs), promised on-sentences)
 
 write-sentence-requires : tie.Need-write-sentence-requires
 write-sentence-requires c κs = search (sentence-fits, needs)
@@ -15,7 +16,7 @@ same-length : tie.Need-same-length
 same-length c = search needs
 
 returns-2 : tie.Need-returns-2
-returns-2 c = search (sentence-told, needs)
+returns-2 c = (search (sentence-told, needs), promised on-sentences)
 
 pub sentence-spec : {M : Type 1} → statement M
 sentence-spec = tie.close (tie.spec returns write-sentence-requires same-length returns-2)

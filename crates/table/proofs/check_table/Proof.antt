@@ -1,6 +1,7 @@
 -- `table::check_table` meets its contract: at each need the law of its case.
 -- Assumes nothing.
 use Rattle.table.proofs.TableRead.{ok-verdict, refused-verdict}
+use Rattle.theorems.proofs.Theorems.{promised, on-tables}
 use borrow.Author.Needs.{needs}
 use Rattle.table.proofs.check_table.Statement.{statement}
 use Rattle.table.proofs.check_table.Tie as tie
@@ -15,10 +16,10 @@ enum-known-number : tie.Need-enum-known-number
 enum-known-number c = search needs
 
 returns : tie.Need-returns
-returns c = search ok-verdict
+returns c = (search ok-verdict, promised on-tables)
 
 returns-2 : tie.Need-returns-2
-returns-2 c = search refused-verdict
+returns-2 c = (search refused-verdict, promised on-tables)
 
 pub check-table-spec : {M : Type 1} → statement M
 check-table-spec =

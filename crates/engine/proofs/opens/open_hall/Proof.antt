@@ -1,5 +1,6 @@
 -- `open_hall` meets its contract, return by return. Assumes nothing.
 use Rattle.engine.proofs.Opening.{by-the-table, by-the-length, start-process, opened}
+use Rattle.theorems.proofs.Theorems.{promised, on-openings}
 use borrow.Author.Needs.{needs}
 use Rattle.engine.proofs.opens.open_hall.Statement.{statement}
 use Rattle.engine.proofs.opens.open_hall.Tie as tie
@@ -11,7 +12,7 @@ enum-known-start : tie.Need-enum-known-start
 enum-known-start c = search needs
 
 returns : tie.Need-returns
-returns c = search by-the-length
+returns c = (search by-the-length, promised on-openings)
 
 wide-requires : tie.Need-wide-requires
 wide-requires c κs = search needs
@@ -29,10 +30,10 @@ same-length : tie.Need-same-length
 same-length c = search needs
 
 returns-2 : tie.Need-returns-2
-returns-2 c = search opened
+returns-2 c = (search opened, promised on-openings)
 
 returns-3 : tie.Need-returns-3
-returns-3 c = search by-the-table
+returns-3 c = (search by-the-table, promised on-openings)
 
 pub open-hall-spec : {M : Type 1} → statement M
 open-hall-spec =

@@ -1,5 +1,6 @@
 -- `suggest` meets its contract, return by return. Assumes nothing.
 use Rattle.engine.proofs.Calls.{suggestion-turned-down, held-running, choice-suggested, still-suggested}
+use Rattle.theorems.proofs.Theorems.{promised, on-suggestions}
 use borrow.Author.Needs.{needs}
 use Rattle.engine.proofs.suggests.suggest.Statement.{statement}
 use Rattle.engine.proofs.suggests.suggest.Tie as tie
@@ -23,13 +24,13 @@ enum-known-number : tie.Need-enum-known-number
 enum-known-number c = search needs
 
 returns : tie.Need-returns
-returns c = search choice-suggested
+returns c = (search choice-suggested, promised on-suggestions)
 
 returns-2 : tie.Need-returns-2
-returns-2 c = search still-suggested
+returns-2 c = (search still-suggested, promised on-suggestions)
 
 returns-3 : tie.Need-returns-3
-returns-3 c = search suggestion-turned-down
+returns-3 c = (search suggestion-turned-down, promised on-suggestions)
 
 pub suggest-spec : {M : Type 1} → statement M
 suggest-spec =

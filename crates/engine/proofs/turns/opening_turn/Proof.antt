@@ -1,6 +1,7 @@
 -- `opening_turn` meets its contract, return by return. Assumes nothing.
 use Rattle.engine.proofs.Opening.{start-process}
 use Rattle.engine.proofs.Turning.{turn-refused, component-answered, nothing-answered, past-answered}
+use Rattle.theorems.proofs.Theorems.{promised, on-turns}
 use borrow.Author.Needs.{needs}
 use Rattle.engine.proofs.turns.opening_turn.Statement.{statement}
 use Rattle.engine.proofs.turns.opening_turn.Tie as tie
@@ -30,16 +31,16 @@ enum-known-number : tie.Need-enum-known-number
 enum-known-number c = search needs
 
 returns : tie.Need-returns
-returns c = search component-answered
+returns c = (search component-answered, promised on-turns)
 
 returns-2 : tie.Need-returns-2
-returns-2 c = search nothing-answered
+returns-2 c = (search nothing-answered, promised on-turns)
 
 returns-3 : tie.Need-returns-3
-returns-3 c = search past-answered
+returns-3 c = (search past-answered, promised on-turns)
 
 returns-4 : tie.Need-returns-4
-returns-4 c = search turn-refused
+returns-4 c = (search turn-refused, promised on-turns)
 
 pub opening-turn-spec : {M : Type 1} → statement M
 opening-turn-spec =

@@ -48,7 +48,7 @@ returns c =
     let told = counted .before .before .before in
     let opened = told .before .before .before .before in
     let start = opened .before .before .before .before .before .before in
-    opened-printed _ _ _ _ _ (opened .open-hall .ensures) _ _ _ _ (told .counters .given .1) _
+    opened-printed _ _ _ _ _ (opened .open-hall .ensures .0) _ _ _ _ (told .counters .given .1) _
     (counted .counts-of .ensures) _ _ (ran .run .ensures .0) (omega (arith, start .pre .0)) _
     (numbers .numbers-of .ensures) (printed .print-hall .ensures)
 
