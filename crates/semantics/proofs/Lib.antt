@@ -9,5 +9,6 @@ pub mod ShortageExamples
 pub mod TurnExamples
 pub mod Sentences
 pub mod ConverseExamples
+pub mod Denotation
 pub mod DenotationExamples
 pub mod Answers
