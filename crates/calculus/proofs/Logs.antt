@@ -1,12 +1,11 @@
 -- The laws of RD and WT: of a log and its continuation, and which reads a longer log asks for.
 -- Assumes nothing.
-use Rattle.calculus.specs.Syntax.{Name, Action, rd, wt, Log, State}
-use Rattle.calculus.specs.State.{count, occurrences, Included}
+use Rattle.calculus.specs.Syntax.{Name, rd, wt, Log, State}
+use Rattle.calculus.specs.State.{occurrences, Included}
 use Rattle.calculus.specs.Log.{RD, WT}
 use Rattle.calculus.proofs.States.{occurrences-append}
 use mathlib.Core.Path.{_≡_, refl, ap}
-use mathlib.Core.List.{List, [], _∷_, _++_}
-use Prim.Native.Nat.{ℕ, _+_, _≤_}
+use mathlib.Core.List.{[], _∷_, _++_}
 use native.Mathlib.Omega.{arith}
 
 pub RD-append : (δ ε : Log) → RD (δ ++ ε) ≡ RD δ ++ RD ε

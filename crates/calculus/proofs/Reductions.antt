@@ -1,9 +1,12 @@
 -- The laws of reductions: the order of ATOK's outputs, and what an output does.
 -- Assumes nothing.
+use native.Mathlib.Omega.{arith}
 use Rattle.calculus.specs.Syntax.{Name, State, Ongoing, Process}
-use Rattle.calculus.specs.State.{occurrences, Plus, SameNames}
+use Rattle.calculus.specs.State.{occurrences, Plus, without, SameNames}
+use Rattle.calculus.specs.Log.{RD}
 use Rattle.calculus.specs.Reduction.{OUT, Label, by, Evolves, aol, aor, LogOrder, AnyOrder, Reduces, OUTr, INr, REPr, COMl, COMr, PARL, PARR, ATSTr, ATPASS, ATREr, ATFAILr, ATOKr}
-use mathlib.Core.Path.{ap}
+use Rattle.calculus.proofs.States.{same-name, count-plus, count-without, grown, not-itself}
+use mathlib.Core.Path.{_≡_, ap}
 use mathlib.Core.List.{List}
 
 -- log order is one of the orders that Table 2 allows
@@ -35,3 +38,21 @@ out-adds (OUTr p) = p
 out-adds (PARL d) = out-adds d
 out-adds (PARR d) = out-adds d
 out-adds (ATPASS d) = absurd (no-output-inside d)
+
+-- and what adds a name to the state is an output of it
+pub adding-is-out : {Order : List Name → List Name → Type 0} {l : Label} {P P′ : Process} {σ σ′ : State} (a : Name) → Plus σ a σ′ →
+    Reduces Order l P σ P′ σ′ → l ≡ by (OUT a)
+adding-is-out a p (OUTr {a = b} {σ = σ} {σ′ = σ′} q) =
+    let e : a ≡ b = same-name a b (let y = grown σ a σ′ p in let z = count-plus σ b a σ′ q in omega arith) in rw e
+adding-is-out a p (INr {a = b} {σ = σ} {σ′ = σ′} q) = absurd (let y = grown σ a σ′ p in let z = count-plus σ′ b a σ q in omega arith)
+adding-is-out a p (REPr {a = b} {σ = σ} {σ′ = σ′} q) = absurd (let y = grown σ a σ′ p in let z = count-plus σ′ b a σ q in omega arith)
+adding-is-out a p (COMl {σ = σ} q d e) = absurd (not-itself σ a p)
+adding-is-out a p (COMr {σ = σ} q d e) = absurd (not-itself σ a p)
+adding-is-out a p (PARL d) = adding-is-out a p d
+adding-is-out a p (PARR d) = adding-is-out a p d
+adding-is-out a p (ATSTr {σ = σ}) = absurd (not-itself σ a p)
+adding-is-out a p (ATPASS {σ = σ} d) = absurd (not-itself σ a p)
+adding-is-out a p (ATREr {σ = σ}) = absurd (not-itself σ a p)
+adding-is-out a p (ATFAILr {σ = σ} d) = absurd (not-itself σ a p)
+adding-is-out a p (ATOKr {σ = σ} {δ = δ} d o) =
+    absurd (let y = grown σ a (without σ (RD δ)) p in let z = count-without (RD δ) σ a in omega arith)

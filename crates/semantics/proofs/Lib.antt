@@ -9,6 +9,7 @@ pub mod ShortageExamples
 pub mod TurnExamples
 pub mod Sentences
 pub mod ConverseExamples
+pub mod Denotation
 pub mod DenotationExamples
 pub mod Answers
 pub mod Promises

@@ -14,13 +14,12 @@ use Rattle.calculus.specs.State.{occurrences, SameNames}
 use Rattle.calculus.specs.Log.{WT}
 use Rattle.calculus.specs.Reduction.{Label, by, COM, Reduces, OUTr, INr, REPr, COMl, COMr, PARL, PARR, ATSTr, ATPASS, ATREr, ATFAILr, ATOKr, LogOrder, AnyOrder, outputs}
 use Rattle.calculus.proofs.Reductions.{as-stated}
-use Rattle.calculus.proofs.States.{same-self, same-other, occurrences-append}
+use Rattle.calculus.proofs.States.{same-self, same-other, occurrences-append, none-occurs}
 use Rattle.semantics.specs.Definitions.Configuration.{Configuration}
 use Rattle.semantics.specs.Definitions.Moves.{isMoved, isAccepted}
 use Rattle.semantics.specs.Definitions.Run.{Quiescent}
 use Rattle.semantics.specs.Claims.Correspondence.{LogOrderAsStated, HasChoices, Completeness, Reordered, unchanged, shuffled, within, CompletenessAnyOrder, StillIsStill}
 use Rattle.semantics.specs.Claims.Denotation.{parallel, WithinLimits}
-use Rattle.theorems.proofs.Communication.{none-occurs}
 use Rattle.theorems.proofs.Completeness.{completeness}
 
 -- ---- lists of names that are the same multiset

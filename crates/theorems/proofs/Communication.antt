@@ -1,50 +1,22 @@
 -- A communication is two moves: an output that puts a token on the name, then a move that takes exactly that token
 -- away. The labels are found by what a reduction does to the counts.
 -- Assumes nothing.
-use Prim.Native.Nat.{ℕ, suc, _+_, _≤_}
+use Prim.Native.Nat.{ℕ, _+_, _≤_}
 use native.Mathlib.Omega.{arith}
-use native.Mathlib.Decide.{ℕ-discrete}
 use mathlib.Core.Path.{_≡_, refl, sym, ap, _∙_}
 use mathlib.Core.List.{List, [], _∷_}
 use Rattle.calculus.specs.Syntax.{Name, State, Ongoing, Process, par}
 use Rattle.calculus.specs.State.{count, same, occurrences, Included, Plus, without}
 use Rattle.calculus.specs.Log.{RD}
 use Rattle.calculus.specs.Reduction.{Rule, OUT, IN, REP, ATOK, Label, by, COM, Evolves, ardok, ardf, awr, aoi, aof, aoe, aol, aor, Reduces, OUTr, INr, REPr, COMl, COMr, PARL, PARR, ATSTr, ATPASS, ATREr, ATFAILr, ATOKr}
-use Rattle.calculus.proofs.States.{same-self, same-other, count-plus, count-without}
+use Rattle.calculus.proofs.States.{same-self, same-name, one-occurs, count-plus, count-without, grown, not-itself}
+use Rattle.calculus.proofs.Reductions.{adding-is-out}
 use Rattle.semantics.specs.Definitions.Logs.{takeToken}
 use Rattle.semantics.specs.Definitions.Moves.{effectOf}
 use Rattle.semantics.specs.Claims.Correspondence.{TakesOne}
 use Rattle.theorems.proofs.Soundness.{spent-plus}
 
--- ---- names by their occurrences
-
--- two names that count as the same are the same
-same-name : (a b : Name) → 1 ≤ same a b → a ≡ b
-same-name a b h = elim (ℕ-discrete a b) [ yes e ↦ e | no e ↦ absurd (let z = same-other a b e in omega arith) ]
-
--- a list in which no name occurs is empty
-pub none-occurs : (bs : List Name) → ((b : Name) → occurrences b bs ≡ 0) → bs ≡ []
-unfolding occurrences
-none-occurs [] h = refl
-none-occurs (b ∷ bs) h = absurd (let z = h b in let w = same-self b in omega arith)
-
--- a list in which one name occurs once and no other occurs is that name alone
-one-occurs : (a : Name) (bs : List Name) → ((b : Name) → occurrences b bs ≡ same b a) → bs ≡ a ∷ []
-unfolding occurrences
-one-occurs a [] h = absurd (let z = h a in let w = same-self a in omega arith)
-one-occurs a (b ∷ bs) h =
-    let e : b ≡ a = same-name b a (let z = h b in let w = same-self b in omega arith) in
-    let rest : bs ≡ [] = none-occurs bs (λ c. let z = h c in let w : same c b ≡ same c a = rw e in omega arith) in cc
-
 -- ---- what the labels do to the counts
-
--- one token more of a raises its count by one
-pub grown : (σ : State) (a : Name) (σ′ : State) → Plus σ a σ′ → count σ′ a ≡ suc (count σ a)
-grown σ a σ′ p = let z = count-plus σ a a σ′ p in let w = same-self a in omega arith
-
--- so no state is itself with one token more
-not-itself : (σ : State) (a : Name) → Plus σ a σ → ⊥
-not-itself σ a p = let z = grown σ a σ p in omega arith
 
 -- one name is not none
 none-is-one : (a : Name) → [] ≡ a ∷ [] → ⊥
@@ -63,23 +35,6 @@ nothing-taken-inside (aol d) = nothing-taken-inside d
 nothing-taken-inside (aor d) = nothing-taken-inside d
 
 module _ (Order : List Name → List Name → Type 0) where
-  -- a reduction that adds a token of a to the counts is OUT of a
-  pub adding-is-out : {l : Label} {P P′ : Process} {σ σ′ : State} (a : Name) → Plus σ a σ′ → Reduces Order l P σ P′ σ′ → l ≡ by (OUT a)
-  adding-is-out a p (OUTr {a = b} {σ = σ} {σ′ = σ′} q) =
-      let e : a ≡ b = same-name a b (let y = grown σ a σ′ p in let z = count-plus σ b a σ′ q in omega arith) in rw e
-  adding-is-out a p (INr {a = b} {σ = σ} {σ′ = σ′} q) = absurd (let y = grown σ a σ′ p in let z = count-plus σ′ b a σ q in omega arith)
-  adding-is-out a p (REPr {a = b} {σ = σ} {σ′ = σ′} q) = absurd (let y = grown σ a σ′ p in let z = count-plus σ′ b a σ q in omega arith)
-  adding-is-out a p (COMl {σ = σ} q d e) = absurd (not-itself σ a p)
-  adding-is-out a p (COMr {σ = σ} q d e) = absurd (not-itself σ a p)
-  adding-is-out a p (PARL d) = adding-is-out a p d
-  adding-is-out a p (PARR d) = adding-is-out a p d
-  adding-is-out a p (ATSTr {σ = σ}) = absurd (not-itself σ a p)
-  adding-is-out a p (ATPASS {σ = σ} d) = absurd (not-itself σ a p)
-  adding-is-out a p (ATREr {σ = σ}) = absurd (not-itself σ a p)
-  adding-is-out a p (ATFAILr {σ = σ} d) = absurd (not-itself σ a p)
-  adding-is-out a p (ATOKr {σ = σ} {δ = δ} d o) =
-      absurd (let y = grown σ a (without σ (RD δ)) p in let z = count-without (RD δ) σ a in omega arith)
-
   -- a reduction that takes one token of a from the counts and changes no other count is IN or REP of a, or an ATOK that
   -- reads a alone
   pub taking-is-one : {k : Label} {P P′ : Process} {σ σ′ : State} (a : Name) → Plus σ′ a σ → Reduces Order k P σ P′ σ′ →

@@ -2,14 +2,13 @@
 -- choices. First one rule: where in the process the rule acts there is a component, and its move is the rule's. Then
 -- COM, as two moves.
 -- Assumes nothing.
-use Prim.Native.Nat.{ℕ, suc, _+_, _-_, _≤_, _<_}
+use Prim.Native.Nat.{ℕ, suc, _+_, _≤_, _<_}
 use native.Mathlib.Omega.{arith}
 use mathlib.Core.Path.{_≡_, refl, sym, ap, _∙_, subst}
 use mathlib.Core.Bool.{false}
 use mathlib.Core.Option.{some}
 use mathlib.Core.List.{List, [], _∷_, _++_, map, append-nil, map-append}
 use lib.ListN.{length, getElem?, length-append}
-use lib.Seq.{set-set, set-getD}
 use lib.Dec.{leb}
 use borrow.Author.Tests.{lt-leb, ne-eqb}
 use Rattle.calculus.specs.Syntax.{Name, rd, wt, Log, State, Expr, end, retry, prefix, orElse, Ongoing, running, orElse′, Process, nil, out, inp, rep, par, atom, ongoing}
@@ -17,6 +16,7 @@ use Rattle.calculus.specs.State.{count, Plus}
 use Rattle.calculus.specs.Log.{WT}
 use Rattle.calculus.specs.Reduction.{Rule, OUT, IN, REP, by, COM, Evolves, ardok, ardf, awr, aoi, aof, aoe, aol, aor, outputs, LogOrder, Reduces, OUTr, INr, REPr, PARL, PARR, ATSTr, ATPASS, ATREr, ATFAILr, ATOKr}
 use Rattle.calculus.proofs.Reductions.{no-output-inside}
+use Rattle.calculus.proofs.States.{grown, without-added}
 use Rattle.semantics.specs.Definitions.Run.{InBytes}
 use Rattle.semantics.specs.Definitions.Basics.{replaceAt, All}
 use Rattle.semantics.specs.Definitions.Terms.{Expression, endT, retryT, rdT, wtT, orElseT, Program, Term}
@@ -25,7 +25,7 @@ use Rattle.semantics.specs.Definitions.Shortage.{Shortage, enough}
 use Rattle.semantics.specs.Definitions.Logs.{emptyLog, shortage, addToken, takeToken}
 use Rattle.semantics.specs.Definitions.Configuration.{Idle, taking, repeating, block, output, Tree, leaf, fork, Component, idle, transaction, Configuration, branchesOf, nodes, opens}
 use Rattle.semantics.specs.Definitions.Stored.{ComponentOk, WellFormed}
-use Rattle.semantics.specs.Definitions.Moves.{Entry, act, inside, moves, takes, puts, acts, evolves, outOfRange, inner}
+use Rattle.semantics.specs.Definitions.Moves.{Entry, act, inside, moves, takes, puts, acts, evolves, inner}
 use Rattle.semantics.specs.Claims.Correspondence.{AcceptsTable, HasChoices, Completeness}
 use Rattle.semantics.specs.Claims.Denotation.{expr, proc, ongoingOf, componentProcess, Denotes, nothing, alone, beside, parallel, Bounded, WithinLimits}
 use Rattle.theorems.proofs.Lists.{found-below, found-left, found-right, replaceAt-left, replaceAt-right, all-at, all-getD}
@@ -35,7 +35,7 @@ use Rattle.theorems.proofs.Measures.{branches-positive}
 use Rattle.theorems.proofs.GoodTable.{accepted-is-good}
 use Rattle.theorems.proofs.WellFormedKept.{well-formed-step}
 use Rattle.theorems.proofs.Soundness.{opens-stand, outputs-stand}
-use Rattle.theorems.proofs.Communication.{grown, TwoMoves, communication}
+use Rattle.theorems.proofs.Communication.{TwoMoves, communication}
 
 -- ---- from the calculus back to the terms
 
@@ -258,9 +258,7 @@ on-the-right {σ} {cs} {ds} p m =
 -- without one token more, a state is what it was
 pub spent-back : (σ : State) (a : Name) (σ′ : State) → Plus σ′ a σ → takeToken σ a ≡ σ′
 unfolding takeToken
-spent-back σ a σ′ p =
-    let g : count σ a - 1 ≡ count σ′ a = let z = grown σ′ a σ p in omega arith in
-    rw g (rw (p .added) (set-set σ′ a (suc (count σ′ a)) (count σ′ a) ∙ set-getD σ′ a 0))
+spent-back σ a σ′ p = without-added σ a σ′ p
 
 -- IN and REP take a token that is there
 takes-made : (σ : State) (a : Name) (σ′ : State) (r : Rule) (cs : List Idle) → Plus σ′ a σ → takes σ a r cs ≡ moves r enough σ′ (map idle cs)

@@ -4,6 +4,7 @@
 -- Assumes nothing.
 use Prim.Native.Nat.{ℕ, _≤_}
 use mathlib.Core.Path.{_≡_}
+use mathlib.Core.Logic.{_↔_}
 use mathlib.Core.Option.{some}
 use mathlib.Core.List.{List, [], _∷_, map}
 use lib.ListN.{length, take, getElem?}
@@ -17,7 +18,7 @@ use Rattle.semantics.specs.Definitions.Configuration.{Tree, Component, t
 use Rattle.semantics.specs.Definitions.Stored.{WellFormed, bytesOf, hallBytes}
 use Rattle.semantics.specs.Definitions.Moves.{Entry, act, inside, moved, answerTo, effectOf, ruleNumber}
 use Rattle.semantics.specs.Definitions.Run.{Counters, Step, run, steps, schedule, entries, InBytes, Quiescent}
-use Rattle.semantics.specs.Claims.Denotation.{proc, ongoingOf, componentProcess, Denotes, WithinLimits}
+use Rattle.semantics.specs.Claims.Denotation.{proc, ongoingOf, componentProcess, Denotes, inOrder, WithinLimits}
 
 -- the bytes are those of an accepted table
 abbrev pub AcceptsTable : List ℕ → Table → Type 0
@@ -41,6 +42,12 @@ OpeningDenotes = (t : Table) → Denotes (proc (t .start)) ((opening t) .compone
 -- every list of components stands for some process: "whatever process a hall stands for", below, there is one
 unfoldable pub EveryHallDenotes : Type 0
 EveryHallDenotes = (cs : List Component) → (P : Process) × Denotes P cs
+
+-- and in one order: the lists of components that a process stands for are those that are, as processes, its own from
+-- left to right
+unfoldable pub OneOrder : Type 0
+unfolding componentProcess inOrder
+OneOrder = (P : Process) (cs : List Component) → Denotes P cs ↔ (map componentProcess cs ≡ inOrder P)
 
 -- ---- soundness
 

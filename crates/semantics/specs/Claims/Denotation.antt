@@ -56,6 +56,16 @@ pub data Denotes : Process → List Component → Type 0 where
   alone : {P : Process} (c : Component) → P ≡ componentProcess c → Denotes P (c ∷ [])
   beside : {P Q : Process} {cs ds : List Component} → Denotes P cs → Denotes Q ds → Denotes (par P Q) (cs ++ ds)
 
+-- the components of a process from left to right, in the calculus's terms alone
+unfoldable pub inOrder : Process → List Process
+inOrder nil = []
+inOrder (out a) = out a ∷ []
+inOrder (inp a P) = inp a P ∷ []
+inOrder (rep a P) = rep a P ∷ []
+inOrder (par P Q) = inOrder P ++ inOrder Q
+inOrder (atom M) = atom M ∷ []
+inOrder (ongoing A M) = ongoing A M ∷ []
+
 -- ---- within the limits, in the calculus's terms alone
 
 -- how many components that are not nil stand in parallel
