@@ -11,3 +11,4 @@ pub mod Sentences
 pub mod ConverseExamples
 pub mod DenotationExamples
 pub mod Answers
+pub mod MeasureExamples

@@ -46,3 +46,5 @@ pub mod Sentences
 pub mod Theorems
 pub mod PrintedRun
 pub mod LongExamples
+pub mod Branches
+pub mod Fuels
