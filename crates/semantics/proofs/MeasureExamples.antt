@@ -12,7 +12,8 @@ pub measure-examples : MeasureExamples
 unfolding measured measures firstReadable firsts width processWidths decimal digitRows tableSeen shortRecords
     TableThenChoices printedRun readTable storedTable formIn deepTrees
 measure-examples = record {
-  measures = (refl, (refl, (refl, (refl, (refl, (refl, (refl, (refl, (refl, (refl, (refl, (refl, (refl, (refl, (refl, (refl, (refl, tt)))))))))))))))));
+  measures =
+      (refl, (refl, (refl, (refl, (refl, (refl, (refl, (refl, (refl, (refl, (refl, (refl, (refl, (refl, (refl, (refl, (refl, (refl, tt))))))))))))))))));
   firsts = (refl, (refl, (refl, (refl, (refl, (refl, tt))))));
   process-widths = (refl, (refl, (refl, (refl, (refl, (refl, (refl, (refl, (refl, (refl, tt))))))))));
   digit-rows = (refl, (refl, (refl, (refl, (refl, (refl, (refl, (refl, tt))))))));

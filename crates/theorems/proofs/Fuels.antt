@@ -364,8 +364,8 @@ line-fits ts g (transaction n M s t) ok =
 pub printed-numbers-fit : PrintedNumbersFit
 unfolding PrintedNumbersFit TableNumbers RunNumbers freshCounters
 printed-numbers-fit = (
-  λ table n p e. refused-fits table n p (table-numbers table .0 n p .0 e),
-  λ table choices t accepts.
+  λ table n p l e. let h = refused-fits table n p (table-numbers table .0 n p .0 e) in omega arith,
+  λ table choices t accepts l.
       let good = accepted-is-good table t (accepts .1) in
       let w = opening-is-well-formed table t (accepts .0) (accepts .1) in
       let a = run (opening t) freshCounters choices in
@@ -375,8 +375,8 @@ printed-numbers-fit = (
       runs-keep (WellFormed (t .terms)) (λ h e r g v q. well-formed-step e good v q) (tells .0) w in
       record {
         number = stop-fits (a .configuration) (a .number) _ (stops .reason);
-        place = stops .inside-bytes;
-        done = le-trans (stops .as-many) (few-entries choices);
+        place = le-trans (stops .inside-bytes) l;
+        done = le-trans (le-trans (stops .as-many) (few-entries choices)) l;
         counters = rw (tells .1) (counters-fit _ freshCounters (omega arith));
         first-counts = w .channelCounts;
         last-counts = last .channelCounts;

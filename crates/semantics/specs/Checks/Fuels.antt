@@ -129,20 +129,21 @@ lineNumbers (transaction n M s t) = n ∷ nodes t ∷ []
 abbrev pub CountersFit : Counters → Type 0
 CountersFit c = (c .commits ≤ 4294967295) × (c .failed ≤ 4294967295) × (c .retries ≤ 4294967295)
 
--- the numbers in the lines of a run over so many bytes of choices
-pub record LinesFit (size : ℕ) (first : Configuration) (a : RunAnswer) : Type 0 where
+-- the numbers in the lines of a run; trays are numbered below 16, and a net lies between two counts
+pub record LinesFit (first : Configuration) (a : RunAnswer) : Type 0 where
   pub number : a .number ≤ 20
-  pub place : a .place ≤ size
-  pub done : a .done ≤ size
+  pub place : a .place ≤ 16384
+  pub done : a .done ≤ 16384
   pub counters : CountersFit (a .counters)
   pub first-counts : (length (first .counts) ≡ 16) × Bytes (first .counts)
   pub last-counts : (length (a .configuration .counts) ≡ 16) × Bytes (a .configuration .counts)
   pub each : All (λ c. Bytes (lineNumbers c)) (a .configuration .components)
 
--- what a table given in bytes has printed, refused or accepted. A sentence prints bytes alone (Claims/Sentences).
+-- what an input of at most 16,384 bytes has printed, its table refused or accepted. Every number of a sentence is handed
+-- in as a byte (Claims/Sentences, AllBytes).
 unfoldable pub PrintedNumbersFit : Type 0
 unfolding readTable opening run freshCounters
 PrintedNumbersFit =
-    ((table : List ℕ) (n p : ℕ) → readTable table ≡ refusedAt n p → (n ≤ 9) × (p ≤ length table)) ×
-    ((table choices : List ℕ) (t : Table) → AcceptsTable table t →
-    LinesFit (length choices) (opening t) (run (opening t) freshCounters choices))
+    ((table : List ℕ) (n p : ℕ) → length table ≤ 16384 → readTable table ≡ refusedAt n p → (n ≤ 9) × (p ≤ 16384)) ×
+    ((table choices : List ℕ) (t : Table) → AcceptsTable table t → length choices ≤ 16384 →
+    LinesFit (opening t) (run (opening t) freshCounters choices))

@@ -58,6 +58,7 @@ measures =
     row (read 2 (or (read 0 e) (write 1 (read 1 e)))) 2 3 ((rd 2 ∷ rd 0 ∷ []) ∷ (rd 2 ∷ wt 1 ∷ rd 1 ∷ []) ∷ []) ∷
     row (write 2 (or e (read 0 e))) 2 2 ((wt 2 ∷ []) ∷ (wt 2 ∷ rd 0 ∷ []) ∷ []) ∷
     row (read 1 (write 2 (or e e))) 2 2 ((rd 1 ∷ wt 2 ∷ []) ∷ (rd 1 ∷ wt 2 ∷ []) ∷ []) ∷
+    row (read 0 (or e (read 0 again))) 2 2 ((rd 0 ∷ []) ∷ []) ∷
     -- two branches with the same actions are two
     row (or e e) 2 0 ([] ∷ [] ∷ []) ∷
     row (or (read 6 e) (or (read 6 e) (read 6 e))) 3 1 ((rd 6 ∷ []) ∷ (rd 6 ∷ []) ∷ (rd 6 ∷ []) ∷ []) ∷
