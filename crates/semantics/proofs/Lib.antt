@@ -12,4 +12,5 @@ pub mod ConverseExamples
 pub mod Denotation
 pub mod DenotationExamples
 pub mod Answers
+pub mod MeasureExamples
 pub mod Promises

@@ -22,3 +22,6 @@ pub mod TurnExamples
 pub mod ConverseExamples
 pub mod DenotationExamples
 pub mod Sentences
+pub mod Branches
+pub mod Fuels
+pub mod MeasureExamples

@@ -46,4 +46,6 @@ pub mod Sentences
 pub mod Atomicity
 pub mod PrintedRun
 pub mod LongExamples
+pub mod Branches
+pub mod Fuels
 pub mod Theorems

@@ -438,7 +438,7 @@ After r (tokensRecord a n) s = s ≡ record { terms = r .terms; tokens = set (r 
 After r (startRecord P) s = ⊥
 
 -- the record at a place of the table met a condition, closes the table, or is passed
-abbrev TurnReason : Reading → ℕ → List ℕ → RecordAnswer → Type 0
+abbrev pub TurnReason : Reading → ℕ → List ℕ → RecordAnswer → Type 0
 TurnReason r p bs (stop (refusedAt n q)) =
     (o : ℕ) × TableCondition r n o bs × ((m i : ℕ) → m < n → TableCondition r m i bs → ⊥) × (q ≡ p + o)
 TurnReason r p bs (stop (accepted t)) =
@@ -499,7 +499,7 @@ module _ (r : Reading) (p k : ℕ) (rest : List ℕ) where
   kind-reason (some K) e = tested-reason K e (firstOf (λ t. t .holds) (tests r K rest)) (found r k rest K e)
 
 -- every turn has its reason
-turn-reason : (r : Reading) (p : ℕ) (bs : List ℕ) → TurnReason r p bs (readRecord r p bs)
+pub turn-reason : (r : Reading) (p : ℕ) (bs : List ℕ) → TurnReason r p bs (readRecord r p bs)
 unfolding readRecord
 turn-reason r p [] = (0, start-missing, (λ m i l c. ends m i l c), omega arith)
   where
@@ -567,7 +567,7 @@ unfolding readFrom thenRead
 read-stop f r p bs a e = rw e
 
 -- a record as printed has a byte at least, and lies within its bytes
-printed-within : (r : Reading) (bs : List ℕ) (w : ℕ) (c : Content) → NoCondition r bs → RecordAsStated (r .terms) bs w c → (1 ≤ w) ×
+pub printed-within : (r : Reading) (bs : List ℕ) (w : ℕ) (c : Content) → NoCondition r bs → RecordAsStated (r .terms) bs w c → (1 ≤ w) ×
     (w ≤ length bs)
 unfolding ReadAsStated
 printed-within r [] w c passes prints = absurd (elim prints [ ])
@@ -671,7 +671,7 @@ module _ (bs : List ℕ) where
 
   -- a record reached begins within the table, so that one with no byte left is at its end: the place of 9 is the
   -- table's length
-  reached-within : (p : ℕ) (r : Reading) → Reached bs p r → p ≤ length bs
+  pub reached-within : (p : ℕ) (r : Reading) → Reached bs p r → p ≤ length bs
   reached-within p r at-first = omega arith
   reached-within q s (after-term {p} {w} {r} {t} reached passes prints) =
       further p w r (termRecord t) passes prints (reached-within p r reached)
