@@ -334,7 +334,7 @@ redex (ATOKr {M} {σ} {σ′} {δ} {bs} d o) (alone c e) h =
 -- ---- one choice
 
 -- each leaf has a branch, so a tree with at most 8 branches has at most 15 nodes
-few-nodes : (t : Tree) → suc (nodes t) ≤ branchesOf t + branchesOf t
+pub few-nodes : (t : Tree) → suc (nodes t) ≤ branchesOf t + branchesOf t
 unfolding nodes branchesOf
 few-nodes (leaf M δ) = let h = branches-positive M in omega arith
 few-nodes (fork l r) = let h = few-nodes l in let g = few-nodes r in omega arith

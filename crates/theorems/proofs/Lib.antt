@@ -46,4 +46,5 @@ pub mod Decimals
 pub mod Sentences
 pub mod Theorems
 pub mod PrintedRun
+pub mod PrintedLines
 pub mod LongExamples

@@ -7,16 +7,20 @@ use mathlib.Core.Bool.{Bool, true, false, cond}
 use mathlib.Core.Option.{Option, none, some}
 use mathlib.Core.List.{List, [], _∷_, _++_, map, append-assoc, flatten}
 use lib.ListN.{length, replicate, getElem?, length-map}
+use mathlib.Core.Logic.{_↔_}
 use lib.Dec.{eqb}
-use borrow.Author.Tests.{eqb-true, ne-eqb}
+use borrow.Author.Tests.{eqb-true, eq-eqb, ne-eqb}
 use Rattle.calculus.specs.Syntax.{Log, rd, wt}
 use Rattle.semantics.specs.Definitions.Basics.{padded, All}
 use Rattle.semantics.specs.Definitions.Terms.{Expression, retryT, Term, process, expression, number}
 use Rattle.semantics.specs.Definitions.Configuration.{taking, repeating, block, output, Tree, leaf, fork, Component, idle, transaction, Configuration, branchesOf}
 use Rattle.semantics.specs.Definitions.Stored.{actionByte, treeBytes, componentBytes, bytesOf, leafExpression, channelOf, TreeOk, ComponentOk, WellFormed, configurationOf}
+use Rattle.semantics.specs.Definitions.Table.{Table, readTable, accepted}
+use Rattle.semantics.specs.Definitions.Calls.{admitted, notAdmitted, tableTested, sizeTested, formTested, admission}
 use Rattle.semantics.specs.Checks.AcceptedTables.{termNumber, GoodTable}
 use Rattle.semantics.specs.Checks.StoredBytes.{baseForm, StoredAction, reads, writes, StoredLog, empty, logged, StoredTerm, recorded, no-record, StoredNodes, a-fork, a-leaf}
-use Rattle.semantics.specs.Checks.StoredBytes.{StoredStation, waits-take, waits-repeat, waits-block, puts, attempts, StoredStations, no-station, station, StoredHall, ReadAsStored, WrittenAsStored}
+use Rattle.semantics.specs.Checks.StoredBytes.{StoredStation, waits-take, waits-repeat, waits-block, puts, attempts, StoredStations, no-station, station, StoredHall, ReadAsStored, WrittenAsStored, AdmittedAsStored}
+use Rattle.theorems.proofs.GoodTable.{accepted-is-good}
 use Rattle.theorems.proofs.Trees.{padded-of}
 use Rattle.theorems.proofs.RoundTrip.{stored-fits, read-back, read-is-well-formed}
 use Rattle.theorems.proofs.Lists.{found-below}
@@ -162,3 +166,34 @@ read-as-stored ts bs h g b l = (
   λ e. let x = read-is-well-formed ts bs h g b l e in subst (StoredHall baseForm ts h) (x .1) (hall-told ts h g (x .0)),
   λ x. let y = hall-is ts h bs g x in ap (configurationOf ts) (sym (y .1)) ∙ read-back ts h g (y .0),
 )
+
+pub admitted-as-stored : AdmittedAsStored
+unfolding AdmittedAsStored ReadAsStored admission tableTested sizeTested
+admitted-as-stored table hall t accepts b l =
+    let read = read-as-stored (t .terms) hall in
+    let good = accepted-is-good table t accepts in
+    let tested : admission table hall ≡ formTested t (configurationOf (t .terms) hall) =
+    rw (accepts, eq-eqb (length hall) 11344 l) refl in
+    rw tested (by-form (configurationOf (t .terms) hall) refl (λ h. read h good b l))
+  where
+    by-form : (o : Option Configuration) → configurationOf (t .terms) hall ≡ o →
+        ((h : Configuration) → (configurationOf (t .terms) hall ≡ some h) ↔ StoredHall baseForm (t .terms) h hall) →
+        ((h : Configuration) → (formTested t o ≡ admitted t h) ↔ StoredHall baseForm (t .terms) h hall) ×
+        ((formTested t o ≡ notAdmitted 11 0) ↔ ((h : Configuration) → StoredHall baseForm (t .terms) h hall → ⊥))
+    by-form none e read = (
+      λ h. (
+        λ q. absurd (let z : _≡_ {A = ℕ} 0 1 = cc in omega arith),
+        λ x. absurd (let q = read h .1 x in let z : _≡_ {A = ℕ} 0 1 = cc in omega arith),
+      ),
+      (λ q h x. let y = read h .1 x in let z : _≡_ {A = ℕ} 0 1 = cc in omega arith, λ x. refl),
+    )
+    by-form (some g) e read = (
+      λ h. (
+        λ q. let same : g ≡ h = cc in read h .0 (e ∙ ap some same),
+        λ x. let q = read h .1 x in let same : g ≡ h = cc in ap (admitted t) same,
+      ),
+      (
+        λ q. absurd (let z : _≡_ {A = ℕ} 0 1 = cc in omega arith),
+        λ x. absurd (x g (read g .0 e)),
+      ),
+    )

@@ -1,20 +1,20 @@
 -- The text of a printed run (document 01, "The printed run"), line by line, as a relation between a text and a run's
--- answer; and the claim that the text printed is the one that it allows. Proved in theorems/proofs/PrintedLines.
+-- answer; and the claims that the text printed is the one that it allows. Proved in theorems/proofs/PrintedLines.
 -- Letters are written as their ASCII numbers: R 82, C 67, T 84, P 80, W 87, A 65; space 32, newline 10.
 -- Assumes nothing.
-use Prim.Native.Nat.{ℕ, suc, _+_, _<_, _^_}
+use Prim.Native.Nat.{ℕ, suc, _+_, _≤_}
 use mathlib.Core.Path.{_≡_}
 use mathlib.Core.Logic.{_⊎_, _↔_, _≢_}
 use mathlib.Core.List.{List, [], _∷_, _++_}
-use lib.ListN.{length}
+use lib.ListN.{length, drop}
 use lib.IntN.{ℤ, pos, negsuc}
 use Rattle.calculus.specs.Syntax.{Name, State}
-use Rattle.semantics.specs.Definitions.Basics.{All, Bytes}
 use Rattle.semantics.specs.Definitions.Terms.{Expression, Program}
-use Rattle.semantics.specs.Definitions.Table.{Table, accepted, refusedAt, readTable}
+use Rattle.semantics.specs.Definitions.Table.{Table, refusedAt, readTable}
 use Rattle.semantics.specs.Definitions.Configuration.{taking, repeating, block, output, Tree, Component, idle, transaction, Configuration, opening, preorder}
-use Rattle.semantics.specs.Definitions.Run.{RunAnswer, run}
-use Rattle.semantics.specs.Definitions.Report.{lines, printedRun}
+use Rattle.semantics.specs.Definitions.Run.{Counters, RunAnswer, run}
+use Rattle.semantics.specs.Definitions.Report.{printedRun}
+use Rattle.semantics.specs.Claims.Correspondence.{AcceptsTable}
 use Rattle.semantics.specs.Checks.Decimals.{SignedOf}
 use Rattle.semantics.specs.Checks.PrintedRun.{TablePart}
 
@@ -82,28 +82,20 @@ pub record RunPrinted (first : Configuration) (a : RunAnswer) (text : List ℕ) 
 
 -- ---- the claims
 
--- the numbers of a station's line
-abbrev pub ShortStation : Component → Type 0
-ShortStation (idle (taking n a P)) = n < 10 ^ 20
-ShortStation (idle (repeating n a P)) = n < 10 ^ 20
-ShortStation (idle (block n M)) = n < 10 ^ 20
-ShortStation (idle (output a)) = a < 10 ^ 20
-ShortStation (transaction n M s t) = (n < 10 ^ 20) × (length (preorder t) < 10 ^ 20)
+-- an input whose table is refused has its R line with done 0, in one text alone
+unfoldable pub RefusedAsStated : Type 0
+unfolding printedRun
+RefusedAsStated =
+    (bs : List ℕ) → length bs ≤ 16384 → (table : List ℕ) → TablePart bs table →
+    (n p : ℕ) → readTable table ≡ refusedAt n p → (text : List ℕ) →
+    (printedRun bs ≡ text) ↔ Line 82 (pos n ∷ pos p ∷ pos 0 ∷ []) text
 
--- every number that is printed is below 10 ^ 20, and as many trays are counted first as last
-pub record ShortNumbers (first : Configuration) (a : RunAnswer) : Type 0 where
-  pub number : a .number < 10 ^ 20
-  pub place : a .place < 10 ^ 20
-  pub done : a .done < 10 ^ 20
-  pub commits : a .counters .commits < 10 ^ 20
-  pub failed : a .counters .failed < 10 ^ 20
-  pub retries : a .counters .retries < 10 ^ 20
-  pub first-counts : (length (first .counts) ≡ 16) × All (λ c. c < 10 ^ 20) (first .counts)
-  pub last-counts : (length (a .configuration .counts) ≡ 16) × All (λ c. c < 10 ^ 20) (a .configuration .counts)
-  pub each : All ShortStation (a .configuration .components)
-
--- the text of an answer is the one that the lines allow
-unfoldable pub LinesAsStated : Type 0
-LinesAsStated =
-    (first : Configuration) (a : RunAnswer) → ShortNumbers first a →
-    (text : List ℕ) → (lines first a ≡ text) ↔ RunPrinted first a text
+-- one whose table is accepted has the lines of the run over the choices behind it, from the hall just opened and a tally
+-- of zeros, in one text alone
+unfoldable pub RunAsStated : Type 0
+unfolding printedRun opening run
+RunAsStated =
+    (bs : List ℕ) → length bs ≤ 16384 → (table : List ℕ) → TablePart bs table → (t : Table) → AcceptsTable table t →
+    (text : List ℕ) →
+    let tally : Counters = record { commits = 0; failed = 0; retries = 0 } in
+    (printedRun bs ≡ text) ↔ RunPrinted (opening t) (run (opening t) tally (drop (length table) bs)) text

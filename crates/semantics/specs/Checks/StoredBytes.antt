@@ -1,8 +1,9 @@
 -- The stored hall (document 01, "The stored hall") as a relation on bytes, station by station and node by node, apart
--- from the functions that read and write it; and the claim that both agree with it. Proved in
+-- from the functions that read and write it; and the claims that both agree with it. Proved in
 -- theorems/proofs/StoredBytes. Each condition of "well formed" stands at the bytes that it is about.
 --
--- It is told over the numbers of a form, written out here: another form has other numbers (document 02, Q-5 and Q-6).
+-- It is told over the numbers of a form, written out here, since document 02 brings a second form: other numbers, and
+-- behind a station's term a map, which is then a further part of its stations.
 -- Assumes nothing.
 use Prim.Native.Nat.{ℕ, _+_, _≤_, _<_}
 use mathlib.Core.Path.{_≡_}
@@ -13,8 +14,10 @@ use lib.ListN.{length, replicate, getElem?}
 use Rattle.calculus.specs.Syntax.{Name, Action, rd, wt, Log, State}
 use Rattle.semantics.specs.Definitions.Basics.{All, Bytes}
 use Rattle.semantics.specs.Definitions.Terms.{Expression, retryT, Program, takeT, repeatT, atomT, Term, process, expression, branches, pathLength}
+use Rattle.semantics.specs.Definitions.Table.{Table, accepted, readTable}
 use Rattle.semantics.specs.Definitions.Configuration.{taking, repeating, block, output, Tree, leaf, fork, Component, idle, transaction, Configuration}
 use Rattle.semantics.specs.Definitions.Stored.{WellFormed, bytesOf, configurationOf}
+use Rattle.semantics.specs.Definitions.Calls.{admitted, notAdmitted, admission}
 use Rattle.semantics.specs.Checks.AcceptedTables.{GoodTable}
 
 -- ---- the numbers of a form
@@ -25,7 +28,7 @@ pub record Form : Type 0 where
   -- the trays that a hall counts, and a snapshot too; a count's largest value
   pub trays : ℕ
   pub top : ℕ
-  -- the kinds of stations
+  -- the kinds of stations, none of them 0, which stands behind the last one
   pub waiting : ℕ
   pub putting : ℕ
   pub attempt : ℕ
@@ -144,3 +147,11 @@ unfoldable pub WrittenAsStored : Type 0
 WrittenAsStored =
     (ts : List Term) (h : Configuration) (bs : List ℕ) → GoodTable ts →
     StoredHall baseForm ts h bs ↔ (WellFormed ts h × (bytesOf h ≡ bs))
+
+-- behind an accepted table a call is let on to 11,344 bytes with the configuration that they store, and turned down with
+-- 11 exactly where they store none
+unfoldable pub AdmittedAsStored : Type 0
+AdmittedAsStored =
+    (table hall : List ℕ) (t : Table) → readTable table ≡ accepted t → Bytes hall → length hall ≡ 11344 →
+    ((h : Configuration) → (admission table hall ≡ admitted t h) ↔ StoredHall baseForm (t .terms) h hall) ×
+    ((admission table hall ≡ notAdmitted 11 0) ↔ ((h : Configuration) → StoredHall baseForm (t .terms) h hall → ⊥))
