@@ -10,4 +10,6 @@ pub mod TurnExamples
 pub mod Sentences
 pub mod ConverseExamples
 pub mod DenotationExamples
+pub mod StoredExamples
+pub mod LineExamples
 pub mod Answers

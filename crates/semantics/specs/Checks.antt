@@ -24,4 +24,6 @@ pub mod ShortageExamples
 pub mod TurnExamples
 pub mod ConverseExamples
 pub mod DenotationExamples
+pub mod StoredExamples
+pub mod LineExamples
 pub mod Sentences
