@@ -1,5 +1,5 @@
--- Worked rows for Checks/Decimals and Checks/PrintedLines: decimals printed and told, and the lines of a run with a tray
--- passed over and every kind of station. Proved in proofs/LineExamples.
+-- Worked rows for Checks/Decimals and Checks/PrintedLines: decimals printed and told, and the lines of a run with a
+-- tray passed over and every kind of station. Proved in proofs/LineExamples.
 -- Assumes nothing.
 use Prim.Native.String.{String}
 use mathlib.Core.Path.{_≡_}

@@ -90,8 +90,8 @@ RefusedAsStated =
     (n p : ℕ) → readTable table ≡ refusedAt n p → (text : List ℕ) →
     (printedRun bs ≡ text) ↔ Line 82 (pos n ∷ pos p ∷ pos 0 ∷ []) text
 
--- one whose table is accepted has the lines of the run over the choices behind it, from the hall just opened and a tally
--- of zeros, in one text alone
+-- one whose table is accepted has the lines of the run over the choices behind it, from the hall just opened and a
+-- tally of zeros, in one text alone
 unfoldable pub RunAsStated : Type 0
 unfolding printedRun opening run
 RunAsStated =

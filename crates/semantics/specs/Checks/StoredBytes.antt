@@ -142,14 +142,14 @@ ReadAsStored =
     (ts : List Term) (bs : List ℕ) (h : Configuration) → GoodTable ts → Bytes bs → length bs ≡ 11344 →
     (configurationOf ts bs ≡ some h) ↔ StoredHall baseForm ts h bs
 
--- a configuration is stored exactly where it is well formed, and then as the bytes that are written of it, and no others
+-- a configuration is stored exactly where it is well formed, and then as the bytes that are written of it and no others
 unfoldable pub WrittenAsStored : Type 0
 WrittenAsStored =
     (ts : List Term) (h : Configuration) (bs : List ℕ) → GoodTable ts →
     StoredHall baseForm ts h bs ↔ (WellFormed ts h × (bytesOf h ≡ bs))
 
--- behind an accepted table a call is let on to 11,344 bytes with the configuration that they store, and turned down with
--- 11 exactly where they store none
+-- behind an accepted table a call is let on to 11,344 bytes with the configuration that they store, and turned down
+-- with 11 exactly where they store none
 unfoldable pub AdmittedAsStored : Type 0
 AdmittedAsStored =
     (table hall : List ℕ) (t : Table) → readTable table ≡ accepted t → Bytes hall → length hall ≡ 11344 →
