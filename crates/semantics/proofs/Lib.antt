@@ -11,6 +11,8 @@ pub mod Sentences
 pub mod ConverseExamples
 pub mod Denotation
 pub mod DenotationExamples
+pub mod StoredExamples
+pub mod LineExamples
 pub mod Answers
 pub mod MeasureExamples
 pub mod Promises

@@ -3,12 +3,15 @@
 pub mod StatedMoves
 pub mod AcceptedTables
 pub mod StoredForm
+pub mod StoredBytes
 pub mod Conditions
 pub mod Answers
 pub mod CallLists
 pub mod Steps
 pub mod Notes
 pub mod PrintedRun
+pub mod Decimals
+pub mod PrintedLines
 pub mod Examples
 pub mod GainExamples
 pub mod ConverseSteps
@@ -21,6 +24,8 @@ pub mod ShortageExamples
 pub mod TurnExamples
 pub mod ConverseExamples
 pub mod DenotationExamples
+pub mod StoredExamples
+pub mod LineExamples
 pub mod Sentences
 pub mod Branches
 pub mod Fuels

@@ -7,6 +7,7 @@ pub mod Measures
 pub mod GoodTable
 pub mod Trees
 pub mod RoundTrip
+pub mod StoredBytes
 pub mod Moves
 pub mod WellFormedKept
 pub mod Soundness
@@ -45,6 +46,7 @@ pub mod Decimals
 pub mod Sentences
 pub mod Atomicity
 pub mod PrintedRun
+pub mod PrintedLines
 pub mod LongExamples
 pub mod Branches
 pub mod Fuels

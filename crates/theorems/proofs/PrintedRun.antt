@@ -197,7 +197,7 @@ drop-length-take (suc n) [] = refl
 drop-length-take (suc n) (b ∷ bs) = drop-length-take n bs
 
 -- the text goes by the table that is found and the choices behind it
-split-text : (bs table : List ℕ) → TablePart bs table → length bs ≤ 16384 →
+pub split-text : (bs table : List ℕ) → TablePart bs table → length bs ≤ 16384 →
     printedRun bs ≡ report (drop (length table) bs) (readTable table)
 unfolding printedRun sizedReport splitReport part-of
 split-text bs table x h =
