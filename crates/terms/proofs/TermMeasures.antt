@@ -130,12 +130,13 @@ module _ (d : List ℕ) (kept i : ℕ) (m : Measurable d kept i) (p : ℕ) (u : 
   side : Measurable d kept b
   side = record { terms = m .terms; tree = u; there = into d kept i (m .terms) (m .tree) (m .there) b u (rw (q, o) (z .at)) }
 
+-- what is stored is looked up
+pub looked-up : (d : List ℕ) (kept i b l : ℕ) → i < kept → b ≡ breadthAt d i → l ≡ lengthAt d i → MeasuresOf d kept i b l
+looked-up d kept i b l h p q = record { found = λ ts t x. let m = x .measures i t (x .listed h) h in (p ∙ m .0, q ∙ m .1) }
+
 module _ (d : List ℕ) (kept i : ℕ) (m : Measurable d kept i) where
   pub inside : i < maxTerms
   inside = m .there .inside
-
-  pub looked-up : i < kept → (b : ℕ) → b ≡ breadthAt d i → (l : ℕ) → l ≡ lengthAt d i → MeasuresOf d kept i b l
-  looked-up h b p l q = record { found = λ ts t x. let m = x .measures i t (x .listed h) h in (p ∙ m .0, q ∙ m .1) }
 
   module _ (k : ℕ) (p : k ≡ kindAt d i) where
     module _ (ts : List Term) (t : Term) (x : TermAt d kept i ts t) where
@@ -172,12 +173,18 @@ module _ (d : List ℕ) (kept i : ℕ) (m : Measurable d kept i) where
       pub left-side : Measurable d kept a
       left-side = side d kept i m _ _ (both h .first) f o a q
 
+      pub left-inside : a < maxTerms
+      left-inside = left-side .there .inside
+
     module _ (h : Two k) (g : ℕ) (u : g ≡ secondAt d i) (b : ℕ) (v : b ≡ g) where
       pub right-falls : (n : ℕ) → i ≡ n → b < n
       right-falls n e = side-falls d kept i m _ _ (both h .second) g u b v n e
 
       pub right-side : Measurable d kept b
       right-side = side d kept i m _ _ (both h .second) g u b v
+
+      pub right-inside : b < maxTerms
+      right-inside = right-side .there .inside
 
       module _ (f : ℕ) (o : f ≡ firstAt d i) (a : ℕ) (q : a ≡ f)
           (bl ll : ℕ) (w : MeasuresOf d kept a bl ll) (br lr : ℕ) (y : MeasuresOf d kept b br lr) where
@@ -214,6 +221,9 @@ module _ (d : List ℕ) (kept i : ℕ) (m : Measurable d kept i) where
       pub rest-side : Measurable d kept b
       rest-side = side d kept i m _ _ (rest-at (m .terms) (m .tree) (m .there) h j .second) g u b v
 
+      pub rest-inside : b < maxTerms
+      rest-inside = rest-side .there .inside
+
       module _ (br lr : ℕ) (y : MeasuresOf d kept b br lr) where
         found-rest : (ts : List Term) (t : Term) → TermAt d kept i ts t → (s : Rest ts i (secondAt d i) t) →
             (br ≡ breadth (s .rest)) × (lr ≡ termLength (s .rest))
@@ -232,50 +242,3 @@ module _ (d : List ℕ) (kept i : ℕ) (m : Measurable d kept i) where
             go : (ts : List Term) (t : Term) → TermAt d kept i ts t → Rest ts i (secondAt d i) t →
                 (o ≡ breadth t) × (n ≡ termLength t)
             go ts t x s = let z = found-rest ts t x s in (f ∙ z .0 ∙ sym (s .same), e ∙ rw (z .1) (sym (s .longer)))
-
--- ---- a term behind all that are kept: its parts are looked up
-
-module _ (d : List ℕ) (i : ℕ) (m : Measurable d i i) (k : ℕ) (p : k ≡ kindAt d i) where
-  module _ (h : Two k) (f : ℕ) (o : f ≡ firstAt d i) (a : ℕ) (q : a ≡ f) where
-    pub left-inside : a < maxTerms
-    left-inside = left-side d i i m k p h f o a q .there .inside
-
-    left-found : (bl : ℕ) → bl ≡ breadthAt d a → (ll : ℕ) → ll ≡ lengthAt d a → MeasuresOf d i a bl ll
-    left-found bl x ll y = looked-up d i a (left-side d i i m k p h f o a q) (left-falls d i i m k p h f o a q i refl) bl x ll y
-
-    module _ (g : ℕ) (u : g ≡ secondAt d i) (b : ℕ) (v : b ≡ g) where
-      pub right-inside : b < maxTerms
-      right-inside = right-side d i i m k p h g u b v .there .inside
-
-      right-found : (br : ℕ) → br ≡ breadthAt d b → (lr : ℕ) → lr ≡ lengthAt d b → MeasuresOf d i b br lr
-      right-found br x lr y = looked-up d i b (right-side d i i m k p h g u b v) (right-falls d i i m k p h g u b v i refl) br x lr y
-
-      module _ (bl : ℕ) (x : bl ≡ breadthAt d a) (ll : ℕ) (y : ll ≡ lengthAt d a)
-          (br : ℕ) (z : br ≡ breadthAt d b) (lr : ℕ) (w : lr ≡ lengthAt d b) where
-        pub kept-sum-fits : bl + br < 256
-        kept-sum-fits = sum-fits d i i m k p h g u b v f o a q bl ll (left-found bl x ll y) br lr (right-found br z lr w)
-
-        pub kept-sides-measured : (j n : ℕ) → j ≡ bl + br → n ≡ max ll lr → MeasuresOf d i i j n
-        kept-sides-measured = sides-measured d i i m k p h g u b v f o a q bl ll (left-found bl x ll y) br lr (right-found br z lr w)
-
-  module _ (h : kindByte rdK ≤ k) (j : k < kindByte orElseK) (g : ℕ) (u : g ≡ secondAt d i) (b : ℕ) (v : b ≡ g) where
-    pub rest-inside : b < maxTerms
-    rest-inside = rest-side d i i m k p h j g u b v .there .inside
-
-    module _ (br : ℕ) (z : br ≡ breadthAt d b) (lr : ℕ) (w : lr ≡ lengthAt d b) where
-      rest-found : MeasuresOf d i b br lr
-      rest-found = looked-up d i b (rest-side d i i m k p h j g u b v) (rest-falls d i i m k p h j g u b v i refl) br z lr w
-
-      pub kept-longer-fits : 1 + lr < 256
-      kept-longer-fits = longer-fits d i i m k p h j g u b v br lr rest-found
-
-      pub kept-rest-measured : (o n : ℕ) → o ≡ br → n ≡ 1 + lr → MeasuresOf d i i o n
-      kept-rest-measured = rest-measured d i i m k p h j g u b v br lr rest-found
-
--- ---- all terms before this one are kept
-
-pub kept-up-to : (d : List ℕ) (kept i : ℕ) → Measurable d kept i → kept ≡ i → Measurable d i i
-kept-up-to d kept i m e = subst (λ k. Measurable d k i) e m
-
-pub measured-up-to : (d : List ℕ) (kept i b l : ℕ) → MeasuresOf d i i b l → kept ≡ i → MeasuresOf d kept i b l
-measured-up-to d kept i b l m e = subst (λ k. MeasuresOf d k i b l) (sym e) m

@@ -1,6 +1,6 @@
 -- What the walk over a term asks and answers, and what the test of its measures does.
 -- Assumes nothing.
-use Prim.Native.Nat.{ℕ, _<_}
+use Prim.Native.Nat.{ℕ, _/_, _%_, _<_}
 use mathlib.Core.Path.{_≡_}
 use mathlib.Core.Bool.{Bool}
 use mathlib.Core.Option.{some}
@@ -10,6 +10,13 @@ use Rattle.semantics.specs.Definitions.Terms.{Term}
 use Rattle.semantics.specs.Checks.AcceptedTables.{SubtermsIn, GoodTable}
 use Rattle.semantics.specs.Definitions.Table.{termRecord, overLimit}
 use Rattle.terms.specs.Decoded.{maxTerms, RecordOf, RecordAt, MeasuresAt, breadth, termLength}
+
+-- both measures in one number: the breadth in the low byte, the length in the high one
+abbrev pub breadthIn : ℕ → ℕ
+breadthIn p = p % 256
+
+abbrev pub lengthIn : ℕ → ℕ
+lengthIn p = p / 256
 
 -- number i of d is the record of term t, over terms ts whose records d holds, the first `measured` of them with their
 -- measures. t is one of ts, or one that is to follow them

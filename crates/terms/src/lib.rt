@@ -16,7 +16,7 @@ ghost use mathlib.Core.Path.{_≡_};
 ghost use Prim.Native.Nat.{_+_, _<_, max};
 ghost use lib.ListN.{length, getD, set};
 ghost use Rattle.terms.specs.Decoded.{channels, maxTerms, decodedBytes, kindAt, firstAt, secondAt, breadthAt, lengthAt, withRecord, withMeasures};
-ghost use Rattle.terms.specs.TermMeasures.{Measurable, MeasuresOf, LimitTested};
+ghost use Rattle.terms.specs.TermMeasures.{breadthIn, lengthIn, Measurable, MeasuresOf, LimitTested};
 
 // A table has at most so many terms.
 pub const TERMS: usize = 200;
@@ -129,83 +129,95 @@ pub fn larger(a: u8, b: u8) -> u8
     if a < b { b } else { a }
 }
 
-// The measures of two terms as one, side by side or as the alternatives of orElse.
-fn of_both(left: Measures, right: Measures) -> Measures
-    requires { ⌜ left .breadth + right .breadth < 256 ⌝ }
-    ensures { λ m. ⌜ m .breadth ≡ left .breadth + right .breadth ⌝ }
-    ensures { λ m. ⌜ m .length ≡ max (left .length) (right .length) ⌝ }
+// Both measures of a term in one number: the breadth, and 256 for each step of the length. The walk answers in this
+// form, because the compiler hands a number back in a register and a struct through memory.
+fn packed(breadth: u8, length: u8) -> u16
+    ensures { λ p. ⌜ breadthIn p ≡ breadth ⌝ }
+    ensures { λ p. ⌜ lengthIn p ≡ length ⌝ }
 {
-    let breadth = left.breadth + right.breadth;
-    let length = larger(left.length, right.length);
-    Measures { breadth, length }
+    breadth as u16 + 256 * (length as u16)
+}
+
+fn breadth_in(p: u16) -> u8
+    ensures { λ r. ⌜ r ≡ breadthIn p ⌝ }
+{
+    (p % 256) as u8
+}
+
+fn length_in(p: u16) -> u8
+    ensures { λ r. ⌜ r ≡ lengthIn p ⌝ }
+{
+    (p / 256) as u8
+}
+
+// The measures of a term without parts, in this form: breadth 1, length 0.
+const ALONE: u16 = 1;
+
+// The measures of two terms as one, side by side or as the alternatives of orElse.
+fn of_both(left: u16, right: u16) -> u16
+    requires { ⌜ breadthIn left + breadthIn right < 256 ⌝ }
+    ensures { λ p. ⌜ breadthIn p ≡ breadthIn left + breadthIn right ⌝ }
+    ensures { λ p. ⌜ lengthIn p ≡ max (lengthIn left) (lengthIn right) ⌝ }
+{
+    let breadth = breadth_in(left) + breadth_in(right);
+    let length = larger(length_in(left), length_in(right));
+    packed(breadth, length)
 }
 
 // The measures of a term behind rd or wt, with that.
-fn of_longer(rest: Measures) -> Measures
-    requires { ⌜ 1 + rest .length < 256 ⌝ }
-    ensures { λ m. ⌜ m .breadth ≡ rest .breadth ⌝ }
-    ensures { λ m. ⌜ m .length ≡ 1 + rest .length ⌝ }
+fn of_longer(rest: u16) -> u16
+    requires { ⌜ 1 + lengthIn rest < 256 ⌝ }
+    ensures { λ p. ⌜ breadthIn p ≡ breadthIn rest ⌝ }
+    ensures { λ p. ⌜ lengthIn p ≡ 1 + lengthIn rest ⌝ }
 {
-    let length = 1 + rest.length;
-    Measures {
-        breadth: rest.breadth,
-        length,
-    }
+    let length = 1 + length_in(rest);
+    packed(breadth_in(rest), length)
 }
 
 // The measures that are stored of the term at a number.
-fn stored_measures(decoded: &[u8; DECODED], i: usize) -> Measures
+fn stored_measures(decoded: &[u8; DECODED], i: usize) -> u16
     requires { ⌜ i < maxTerms ⌝ }
-    ensures { λ m. ⌜ m .breadth ≡ breadthAt (now (decoded .entry)) i ⌝ }
-    ensures { λ m. ⌜ m .length ≡ lengthAt (now (decoded .entry)) i ⌝ }
+    ensures { λ p. ⌜ breadthIn p ≡ breadthAt (now (decoded .entry)) i ⌝ }
+    ensures { λ p. ⌜ lengthIn p ≡ lengthAt (now (decoded .entry)) i ⌝ }
 {
-    Measures {
-        breadth: breadth_of(decoded, i),
-        length: length_of(decoded, i),
-    }
+    packed(breadth_of(decoded, i), length_of(decoded, i))
 }
 
 // The walk: the measures of the term at a number, over the unfolded term. References go to smaller numbers. The
-// measures of the first `measured` terms stand in the decoded table and are looked up; with none stored, the whole term
-// is walked.
-fn recursive_measures(decoded: &[u8; DECODED], measured: usize, at: usize) -> Measures
+// measures of the first `measured` terms stand in the decoded table: at a part among them the walk ends and looks them
+// up; any other part is walked. Reading a table walks from each new term with those of all earlier terms stored; with
+// none stored, the whole term is walked. The test stands before the call and not behind it: the compiler does not take
+// a recursive function into its caller, and a call for each stored part costs more than the look.
+fn walk(decoded: &[u8; DECODED], measured: usize, at: usize) -> u16
     requires { ⌜ Measurable (now decoded) measured at ⌝ }
-    ensures { λ m. ⌜ MeasuresOf (now (decoded .entry)) measured at (m .breadth) (m .length) ⌝ }
-{
-    if at < measured {
-        return stored_measures(decoded, at);
-    }
-    match kind_of(decoded, at) {
-        PAR | OR_ELSE => {
-            let left = recursive_measures(decoded, measured, wide(first_of(decoded, at)));
-            let right = recursive_measures(decoded, measured, wide(second_of(decoded, at)));
-            of_both(left, right)
-        }
-        RD | WT => of_longer(recursive_measures(decoded, measured, wide(second_of(decoded, at)))),
-        _ => Measures {
-            breadth: 1,
-            length: 0,
-        },
-    }
-}
-
-// The walk's one turn where the measures of all parts are stored, written out: the compiler makes calls of the walk's
-// own.
-fn new_measures(decoded: &[u8; DECODED], at: usize) -> Measures
-    requires { ⌜ Measurable (now decoded) at at ⌝ }
-    ensures { λ m. ⌜ MeasuresOf (now (decoded .entry)) at at (m .breadth) (m .length) ⌝ }
+    ensures { λ p. ⌜ MeasuresOf (now (decoded .entry)) measured at (breadthIn p) (lengthIn p) ⌝ }
 {
     match kind_of(decoded, at) {
         PAR | OR_ELSE => {
-            let left = stored_measures(decoded, wide(first_of(decoded, at)));
-            let right = stored_measures(decoded, wide(second_of(decoded, at)));
+            let first = wide(first_of(decoded, at));
+            let second = wide(second_of(decoded, at));
+            let left = if first < measured {
+                stored_measures(decoded, first)
+            } else {
+                walk(decoded, measured, first)
+            };
+            let right = if second < measured {
+                stored_measures(decoded, second)
+            } else {
+                walk(decoded, measured, second)
+            };
             of_both(left, right)
         }
-        RD | WT => of_longer(stored_measures(decoded, wide(second_of(decoded, at)))),
-        _ => Measures {
-            breadth: 1,
-            length: 0,
-        },
+        RD | WT => {
+            let second = wide(second_of(decoded, at));
+            let rest = if second < measured {
+                stored_measures(decoded, second)
+            } else {
+                walk(decoded, measured, second)
+            };
+            of_longer(rest)
+        }
+        _ => ALONE,
     }
 }
 
@@ -214,10 +226,11 @@ pub fn measures_of(decoded: &[u8; DECODED], measured: usize, at: usize) -> Measu
     requires { ⌜ Measurable (now decoded) measured at ⌝ }
     ensures { λ m. ⌜ MeasuresOf (now (decoded .entry)) measured at (m .breadth) (m .length) ⌝ }
 {
-    if measured == at {
-        return new_measures(decoded, at);
+    let p = walk(decoded, measured, at);
+    Measures {
+        breadth: breadth_in(p),
+        length: length_in(p),
     }
-    recursive_measures(decoded, measured, at)
 }
 
 // 7: a process's width, or an expression's branches or length, is over its limit.

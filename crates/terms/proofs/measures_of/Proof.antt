@@ -1,20 +1,20 @@
--- `terms::measures_of` meets its contract. Assumes nothing.
-use Rattle.terms.proofs.TermMeasures.{kept-up-to, measured-up-to}
+-- `terms::measures_of` meets its contract: the walk's answer, taken apart. Assumes nothing.
+use mathlib.Core.Path.{sym}
 use borrow.Author.Needs.{needs}
 use Rattle.terms.proofs.measures_of.Statement.{statement}
 use Rattle.terms.proofs.measures_of.Tie as tie
 
-new-measures-requires : tie.Need-new-measures-requires
-new-measures-requires c κs = search kept-up-to
+walk-requires : tie.Need-walk-requires
+walk-requires c κs = search needs
+
+breadth-in-requires : tie.Need-breadth-in-requires
+breadth-in-requires c κs = search needs
+
+length-in-requires : tie.Need-length-in-requires
+length-in-requires c κs = search needs
 
 returns : tie.Need-returns
-returns c = search measured-up-to
-
-recursive-measures-requires : tie.Need-recursive-measures-requires
-recursive-measures-requires c κs = search needs
-
-returns-2 : tie.Need-returns-2
-returns-2 c = search needs
+returns c = rw (c .before .breadth-in .ensures, c .length-in .ensures) (c .before .before .walk .ensures)
 
 pub measures-of-spec : {M : Type 1} → statement M
-measures-of-spec = tie.close (tie.spec new-measures-requires returns recursive-measures-requires returns-2)
+measures-of-spec = tie.close (tie.spec walk-requires breadth-in-requires length-in-requires returns)

@@ -1,9 +1,9 @@
--- The program meets its contract.
+-- `replay` meets its contract.
 -- Assumes nothing.
 use borrow.Author.Needs.{needs}
-use Rattle.replay.proofs.Inside.{written-inside, written-long}
-use Rattle.replay.proofs.main.Statement.{statement}
-use Rattle.replay.proofs.main.Tie as tie
+use Rattle.replaying.proofs.Inside.{written-inside, written-long}
+use Rattle.replaying.proofs.replay.Statement.{statement}
+use Rattle.replaying.proofs.replay.Tie as tie
 
 slice-aggregate-read-full : tie.Need-slice-aggregate-read-full
 slice-aggregate-read-full c = search needs
@@ -32,8 +32,8 @@ write-all-requires c κs = search needs
 returns : tie.Need-returns
 returns c = search needs
 
-pub main-spec : {M : Type 1} → statement M
-main-spec =
+pub replay-spec : {M : Type 1} → statement M
+replay-spec =
     tie.close
     (tie.spec
     slice-aggregate-read-full
