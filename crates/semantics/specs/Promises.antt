@@ -10,6 +10,9 @@ use mathlib.Core.List.{List}
 use lib.ListN.{length}
 use Rattle.calculus.specs.Syntax.{State, Process}
 use Rattle.calculus.specs.Reduction.{Label, Reduces, LogOrder}
+use Rattle.calculus.specs.Checks.Notation.{NotationRows}
+use Rattle.calculus.specs.Checks.Table2.{Table2Rows}
+use Rattle.calculus.specs.Checks.Table3.{Table3Rows}
 use Rattle.semantics.specs.Definitions.Basics.{Bytes}
 use Rattle.semantics.specs.Definitions.Table.{Table}
 use Rattle.semantics.specs.Definitions.Configuration.{Configuration}
@@ -21,7 +24,7 @@ use Rattle.semantics.specs.Claims.Atomicity as CallsAtomic
 use Rattle.semantics.specs.Checks.Conditions.{TableAccepted, TableRefused, HallAccepted, HallCondition}
 use Rattle.semantics.specs.Claims.Accounts.{RunAccounts, CallsAccounts}
 use Rattle.semantics.specs.Claims.Atomicity.{AtomicityOfCalls}
-use Rattle.semantics.specs.Claims.Correspondence.{Soundness, RunSoundness, EveryHallDenotes, AcceptedIsWithinLimits, Completeness, CompletenessAnyOrder, StillIsStill, KeepsWellFormed, OpeningDenotes, Located, LogOrderAsStated, HandoverIsCOM}
+use Rattle.semantics.specs.Claims.Correspondence.{Soundness, RunSoundness, EveryHallDenotes, AcceptedIsWithinLimits, Completeness, CompletenessAnyOrder, StillIsStill, KeepsWellFormed, OpeningDenotes, OneOrder, Located, LogOrderAsStated, HandoverIsCOM}
 use Rattle.semantics.specs.Claims.InnerMoves.{MovesLowerWeight, MovesGoOn, SettledHasNoRule, MovesSettleFirstPath, OneOutcome}
 use Rattle.semantics.specs.Claims.NumberedRun.{NumberedIsAtomic}
 use Rattle.semantics.specs.Claims.Sentences.{SentencesAreShort, SentencesArePrintable, SentencesTellApart}
@@ -29,16 +32,22 @@ use Rattle.semantics.specs.Claims.Shortages.{ShortageIsLowest, ShortageI
 use Rattle.semantics.specs.Claims.Suggestions.{SuggestedIsFirst, KindsApart, KindsInEitherOrder, StillIsQuiescent, StillRunsNone, RefusedAsChecked}
 use Rattle.semantics.specs.Claims.Turns.{LaidThenWaiting, OneATurn, TurnsFall, TurnsEnd, WaitingFits, StackSuffices, LeaningNeedsItsWidth, CallsShowTurns, CallsShowTheOpening, TurnsRefusedAsChecked}
 use Rattle.semantics.specs.Checks.Answers.{AnswersReported, AnswersDiffer, ZeroIsAccepted}
+use Rattle.semantics.specs.Checks.Branches.{BranchesStandInOrder, BranchesAndPaths, LongestBranch, FirstReadableIsLeftmost}
 use Rattle.semantics.specs.Checks.CallLists.{CallBytes, CallsInTurn, CallsCut}
 use Rattle.semantics.specs.Checks.Conditions.{ReadAsStated, TableNumbers, MissingAtLength, HallNumbers, CheckNumbers, OpenNumbers, RefusalNumbers, ChoiceNumbers, RunNumbers, OneReason, RunCallNumbers, RunCallZero}
 use Rattle.semantics.specs.Checks.ConverseExamples.{ConverseExamples}
 use Rattle.semantics.specs.Checks.ConverseSteps.{StartIsOpening, ConverseStepsAreMoves, ReadableBlocksCommit, ConverseStepsGoOn}
+use Rattle.semantics.specs.Checks.Decimals.{DecimalAsStated, SignedAsStated}
 use Rattle.semantics.specs.Checks.DenotationExamples.{DenotationExamples}
 use Rattle.semantics.specs.Checks.EdgeExamples.{EdgeExamples}
 use Rattle.semantics.specs.Checks.Examples.{Examples}
+use Rattle.semantics.specs.Checks.Fuels.{TableReadToItsEnd, TreesReadToTheirEnd, HallsReadToTheirEnd, InputsSplitAtTheTablesEnd, DigitsPrintedToTheLast, PrintedNumbersFit}
 use Rattle.semantics.specs.Checks.GainExamples.{GainRows, RunRows}
+use Rattle.semantics.specs.Checks.LineExamples.{LineExamples}
 use Rattle.semantics.specs.Checks.LongExamples.{LongExamples}
+use Rattle.semantics.specs.Checks.MeasureExamples.{MeasureExamples}
 use Rattle.semantics.specs.Checks.Notes.{NotesAtBlocks}
+use Rattle.semantics.specs.Checks.PrintedLines.{RefusedAsStated, RunAsStated}
 use Rattle.semantics.specs.Checks.PrintedRun.{TableFound, AcceptedIsFound, PrintedLong, PrintedRefused, PrintedAsCalls}
 use Rattle.semantics.specs.Checks.Sentences.{WordsEnd, ShortBuffersRefused, SentenceStands, RoomOfAShortage, LongestSentence, RoomIsLeft, SentencesWorked, SentenceInBytes, CallsWorked}
 use Rattle.semantics.specs.Checks.ShortageExamples.{ShortageExamples}
@@ -46,6 +55,8 @@ use Rattle.semantics.specs.Checks.StatedMoves.{OpensAsStated, MovesAsSta
 use Rattle.semantics.specs.Checks.StatedSuggestions.{SuggestionAsStated}
 use Rattle.semantics.specs.Checks.StepExamples.{StepExamples}
 use Rattle.semantics.specs.Checks.Steps.{StepCallsAsStated, StepCallNumbers, StepReplies, NodeOfKind1, StepIsCall}
+use Rattle.semantics.specs.Checks.StoredBytes.{WrittenAsStored, ReadAsStored, AdmittedAsStored}
+use Rattle.semantics.specs.Checks.StoredExamples.{StoredExamples}
 use Rattle.semantics.specs.Checks.StoredForm.{AcceptedIsGood, WidthBoundsOpening, StartIsTerm, TokensAreCounts, ReadBack, BytesDiffer, ReadIsWellFormed, WellFormedAgrees, StoredFits, OpeningIsWellFormed}
 use Rattle.semantics.specs.Checks.SuggestionExamples.{SuggestionExamples}
 use Rattle.semantics.specs.Checks.TurnExamples.{TurnExamples}
@@ -63,6 +74,11 @@ pub record OnTables : Type 0 where
   pub accepted-is-good : AcceptedIsGood
   pub start-is-term : StartIsTerm
   pub tokens-are-counts : TokensAreCounts
+  pub table-read-to-its-end : TableReadToItsEnd
+  pub branches-stand-in-order : BranchesStandInOrder
+  pub branches-and-paths : BranchesAndPaths
+  pub longest-branch : LongestBranch
+  pub measure-examples : MeasureExamples
   pub answers-reported : AnswersReported
   pub zero-is-accepted : ZeroIsAccepted
 
@@ -77,6 +93,12 @@ pub record OnHalls : Type 0 where
   pub read-is-well-formed : ReadIsWellFormed
   pub well-formed-agrees : WellFormedAgrees
   pub stored-fits : StoredFits
+  pub written-as-stored : WrittenAsStored
+  pub read-as-stored : ReadAsStored
+  pub admitted-as-stored : AdmittedAsStored
+  pub trees-read-to-their-end : TreesReadToTheirEnd
+  pub halls-read-to-their-end : HallsReadToTheirEnd
+  pub stored-examples : StoredExamples
 
 -- ---- an opening (engine::open_hall, engine::opening_turn)
 
@@ -110,10 +132,12 @@ pub record OnMoves : Type 0 where
   pub settled-has-no-rule : SettledHasNoRule
   pub one-outcome : OneOutcome
   pub moves-settle-first-path : MovesSettleFirstPath
+  pub first-readable-is-leftmost : FirstReadableIsLeftmost
 
 pub record Demand2 : Type 0 where
   pub opening-denotes : OpeningDenotes
   pub every-hall-denotes : EveryHallDenotes
+  pub one-order : OneOrder
   pub soundness : Soundness
   pub located : Located
   pub log-order-as-stated : LogOrderAsStated
@@ -125,6 +149,9 @@ pub record Demand2 : Type 0 where
   pub completeness-any-order : CompletenessAnyOrder
   pub still-is-still : StillIsStill
   pub denotation-examples : DenotationExamples
+  pub notation-rows : NotationRows
+  pub table2-rows : Table2Rows
+  pub table3-rows : Table3Rows
 
 pub record Demand3 : Type 0 where
   pub atomicity-of-calls : AtomicityOfCalls
@@ -210,6 +237,14 @@ pub record OnPrintedRuns : Type 0 where
   pub printed-long : PrintedLong
   pub printed-refused : PrintedRefused
   pub printed-as-calls : PrintedAsCalls
+  pub refused-as-stated : RefusedAsStated
+  pub run-as-stated : RunAsStated
+  pub decimal-as-stated : DecimalAsStated
+  pub signed-as-stated : SignedAsStated
+  pub inputs-split-at-the-tables-end : InputsSplitAtTheTablesEnd
+  pub digits-printed-to-the-last : DigitsPrintedToTheLast
+  pub printed-numbers-fit : PrintedNumbersFit
+  pub line-examples : LineExamples
 
 -- ---- all of them
 

@@ -5,11 +5,14 @@ use Rattle.semantics.specs.Promises.{Promised, OnTables, OnHalls, OnOpenings, O
 use Rattle.theorems.proofs.Accounts as Accounts
 use Rattle.theorems.proofs.AnyOrder as AnyOrder
 use Rattle.theorems.proofs.Atomicity as Atomicity
+use Rattle.theorems.proofs.Branches as Branches
 use Rattle.theorems.proofs.CallConditions as CallConditions
 use Rattle.theorems.proofs.CallLists as CallLists
 use Rattle.theorems.proofs.ChoiceConditions as ChoiceConditions
 use Rattle.theorems.proofs.Completeness as Completeness
 use Rattle.theorems.proofs.ConverseSteps as ConverseSteps
+use Rattle.theorems.proofs.Decimals as Decimals
+use Rattle.theorems.proofs.Fuels as Fuels
 use Rattle.theorems.proofs.GoodTable as GoodTable
 use Rattle.theorems.proofs.HallConditions as HallConditions
 use Rattle.theorems.proofs.Handover as Handover
@@ -17,15 +20,20 @@ use Rattle.theorems.proofs.InnerMoves as InnerMoves
 use Rattle.theorems.proofs.Limits as Limits
 use Rattle.theorems.proofs.LongExamples as LongExamples
 use Rattle.theorems.proofs.Notes as Notes
+use Rattle.theorems.proofs.PrintedLines as PrintedLines
 use Rattle.theorems.proofs.PrintedRun as PrintedRun
 use Rattle.theorems.proofs.RecordShapes as RecordShapes
 use Rattle.theorems.proofs.RoundTrip as RoundTrip
+use Rattle.calculus.proofs.Notation as RowsNotation
+use Rattle.calculus.proofs.Table2 as RowsTable2
+use Rattle.calculus.proofs.Table3 as RowsTable3
 use Rattle.theorems.proofs.RunConditions as RunConditions
 use Rattle.theorems.proofs.Sentences as Sentences
 use Rattle.theorems.proofs.Simulation as Simulation
 use Rattle.theorems.proofs.Soundness as Soundness
 use Rattle.theorems.proofs.StatedMoves as StatedMoves
 use Rattle.theorems.proofs.Steps as Steps
+use Rattle.theorems.proofs.StoredBytes as StoredBytes
 use Rattle.theorems.proofs.Suggestions as Suggestions
 use Rattle.theorems.proofs.TableConditions as TableConditions
 use Rattle.theorems.proofs.ToldShort as ToldShort
@@ -34,14 +42,18 @@ use Rattle.theorems.proofs.WellFormedKept as WellFormedKept
 use Rattle.theorems.proofs.ZeroNumbers as ZeroNumbers
 use Rattle.semantics.proofs.Answers as RowsAnswers
 use Rattle.semantics.proofs.ConverseExamples as RowsConverseExamples
+use Rattle.semantics.proofs.Denotation as RowsDenotation
 use Rattle.semantics.proofs.DenotationExamples as RowsDenotationExamples
 use Rattle.semantics.proofs.EdgeExamples as RowsEdgeExamples
 use Rattle.semantics.proofs.Examples as RowsExamples
 use Rattle.semantics.proofs.GainExamples as RowsGainExamples
+use Rattle.semantics.proofs.LineExamples as RowsLineExamples
+use Rattle.semantics.proofs.MeasureExamples as RowsMeasureExamples
 use Rattle.semantics.proofs.MovesWorked as RowsMovesWorked
 use Rattle.semantics.proofs.Sentences as RowsSentences
 use Rattle.semantics.proofs.ShortageExamples as RowsShortageExamples
 use Rattle.semantics.proofs.StepExamples as RowsStepExamples
+use Rattle.semantics.proofs.StoredExamples as RowsStoredExamples
 use Rattle.semantics.proofs.SuggestionExamples as RowsSuggestionExamples
 use Rattle.semantics.proofs.TurnExamples as RowsTurnExamples
 
@@ -58,6 +70,11 @@ on-tables = record {
   accepted-is-good = GoodTable.accepted-is-good;
   start-is-term = GoodTable.start-is-term;
   tokens-are-counts = GoodTable.tokens-are-counts;
+  table-read-to-its-end = Fuels.table-read-to-its-end;
+  branches-stand-in-order = Branches.branches-stand-in-order;
+  branches-and-paths = Branches.branches-and-paths;
+  longest-branch = Branches.longest-branch;
+  measure-examples = RowsMeasureExamples.measure-examples;
   answers-reported = RowsAnswers.answers-reported;
   zero-is-accepted = ZeroNumbers.zero-is-accepted;
 }
@@ -72,6 +89,12 @@ on-halls = record {
   read-is-well-formed = RoundTrip.read-is-well-formed;
   well-formed-agrees = RoundTrip.well-formed-agrees;
   stored-fits = RoundTrip.stored-fits;
+  written-as-stored = StoredBytes.written-as-stored;
+  read-as-stored = StoredBytes.read-as-stored;
+  admitted-as-stored = StoredBytes.admitted-as-stored;
+  trees-read-to-their-end = Fuels.trees-read-to-their-end;
+  halls-read-to-their-end = Fuels.halls-read-to-their-end;
+  stored-examples = RowsStoredExamples.stored-examples;
 }
 
 pub on-openings : OnOpenings
@@ -107,12 +130,14 @@ on-moves = record {
   settled-has-no-rule = InnerMoves.settled-has-no-rule;
   one-outcome = InnerMoves.one-outcome;
   moves-settle-first-path = InnerMoves.moves-settle-first-path;
+  first-readable-is-leftmost = Branches.first-readable-is-leftmost;
 }
 
 pub demand2 : Demand2
 demand2 = record {
   opening-denotes = Soundness.opening-denotes;
   every-hall-denotes = Limits.every-hall-denotes;
+  one-order = RowsDenotation.one-order;
   soundness = Soundness.soundness;
   located = Soundness.located;
   log-order-as-stated = AnyOrder.log-order-as-stated;
@@ -124,6 +149,9 @@ demand2 = record {
   completeness-any-order = AnyOrder.completeness-any-order;
   still-is-still = AnyOrder.still-is-still;
   denotation-examples = RowsDenotationExamples.denotation-examples;
+  notation-rows = RowsNotation.notation-rows;
+  table2-rows = RowsTable2.table2-rows;
+  table3-rows = RowsTable3.table3-rows;
 }
 
 pub demand3 : Demand3
@@ -213,6 +241,14 @@ on-printed-runs = record {
   printed-long = PrintedRun.printed-long;
   printed-refused = PrintedRun.printed-refused;
   printed-as-calls = PrintedRun.printed-as-calls;
+  refused-as-stated = PrintedLines.refused-as-stated;
+  run-as-stated = PrintedLines.run-as-stated;
+  decimal-as-stated = Decimals.decimal-as-stated;
+  signed-as-stated = Decimals.signed-as-stated;
+  inputs-split-at-the-tables-end = Fuels.inputs-split-at-the-tables-end;
+  digits-printed-to-the-last = Fuels.digits-printed-to-the-last;
+  printed-numbers-fit = Fuels.printed-numbers-fit;
+  line-examples = RowsLineExamples.line-examples;
 }
 
 pub every-claim : EveryClaim
