@@ -3,8 +3,9 @@
 use Prim.Native.Nat.{ℕ, _+_, _≤_}
 use native.Mathlib.Omega.{arith}
 use mathlib.Core.Path.{_≡_, sym, ap}
+use mathlib.Core.List.{[]}
 use borrow.Author.Tests.{eq-eqb, ne-eqb}
-use Rattle.calculus.specs.Reduction.{Rule}
+use Rattle.calculus.specs.Reduction.{Rule, ATRE, ATFAIL, ATOK}
 use Rattle.semantics.specs.Definitions.Moves.{ruleNumber}
 use Rattle.semantics.specs.Definitions.Run.{saturatingSuc, countedAt, counted}
 use Rattle.counters.specs.declared.Counters as code
@@ -34,6 +35,17 @@ pub counted-by : (t : code.Counters) (rule : ℕ) (done : Rule) → ruleNumber d
     countersOf (countedBy t rule) ≡ counted done (countersOf t)
 unfolding counted countedAt countedBy
 counted-by t rule done e = ap (λ number. countersOf (countedBy t number)) (sym e)
+
+-- and a number that no rule has leaves it as it is
+pub counted-by-none : (t : code.Counters) (rule : ℕ) → ((done : Rule) → ruleNumber done ≡ rule → ⊥) →
+    countedBy t rule ≡ t
+unfolding countedAt countedBy ruleNumber
+counted-by-none t rule none =
+    rw (
+      ne-eqb rule 7 (λ e. none (ATOK []) (sym e)),
+      ne-eqb rule 6 (λ e. none ATFAIL (sym e)),
+      ne-eqb rule 5 (λ e. none ATRE (sym e)),
+    )
 
 -- no two values of the code are one tally
 pub counters-injective : (t u : code.Counters) → countersOf t ≡ countersOf u → t ≡ u

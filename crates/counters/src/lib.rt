@@ -3,9 +3,7 @@ use rules::ATFAIL;
 use rules::ATOK;
 use rules::ATRE;
 ghost use mathlib.Core.Path.{_≡_};
-ghost use Rattle.calculus.specs.Reduction.{Rule};
-ghost use Rattle.semantics.specs.Definitions.Moves.{ruleNumber};
-ghost use Rattle.semantics.specs.Definitions.Run.{freshCounters, countedAt, counted};
+ghost use Rattle.semantics.specs.Definitions.Run.{freshCounters, countedAt};
 ghost use Rattle.counters.specs.Counted.{countersOf, countedBy};
 
 // A counter that has come here stays.
@@ -61,10 +59,10 @@ impl Counters {
         }
     }
 
-    // The tally after a move by the rule of this number. It lends a local, so that its callers hold no reference to a
+    // The tally after a move by the rule of this number, whatever the number. It lends a local, so that its callers hold no reference to a
     // struct and need no walk.
     pub fn count(self, rule: u8) -> Self
-        ensures { λ r. ⌜ ((done : Rule) → ruleNumber done ≡ rule → countersOf r ≡ counted done (countersOf self)) ⌝ }
+        ensures { λ r. ⌜ r ≡ countedBy self rule ⌝ }
     {
         let mut tally = self;
         count_rule(&mut tally, rule);

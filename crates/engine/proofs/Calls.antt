@@ -1,32 +1,22 @@
 -- What a run, a step and a suggestion give, by the answer of the admission before them and by what was made of the
 -- configuration that it holds.
 -- Assumes nothing.
-use Prim.Native.Nat.{ℕ, _+_, _<_}
+use Prim.Native.Nat.{ℕ, _<_}
 use native.Mathlib.Omega.{arith}
 use mathlib.Core.Path.{_≡_, refl, sym, ap, _∙_}
 use mathlib.Core.List.{List, [], _∷_}
-use lib.ListN.{length}
-use Rattle.calculus.specs.Reduction.{Rule}
-use Rattle.semantics.specs.Definitions.Configuration.{Configuration}
-use Rattle.semantics.specs.Definitions.Stored.{bytesOf}
-use Rattle.semantics.specs.Definitions.Shortage.{Shortage, enough}
-use Rattle.semantics.specs.Definitions.Moves.{Entry, Response, does, refuses, respondTo, Answer, moved, refused, answerOf, answerTo, ruleNumber, replyOf}
-use Rattle.semantics.specs.Definitions.Run.{Counters, counted, schedule, continueRun, runFrom, run}
-use Rattle.semantics.specs.Definitions.Calls.{admission, Buffers, runResult, runAdmitted, runCall, stepCall}
+use Rattle.semantics.specs.Definitions.Moves.{Entry}
+use Rattle.semantics.specs.Definitions.Run.{Counters, schedule, run}
+use Rattle.semantics.specs.Definitions.Calls.{admission, runAdmitted, runCall, stepCall}
 use Rattle.semantics.specs.Definitions.Suggestion.{suggestFound, suggestCall}
 use Rattle.semantics.specs.Checks.Conditions.{RefusalNumbers}
 use Rattle.semantics.specs.Checks.Steps.{Names, names-act, names-inside}
 use Rattle.theorems.proofs.HallConditions.{refusal-numbers}
 use Rattle.theorems.proofs.Suggestions.{admitted-suggests, refused-suggests}
 use Rattle.theorems.proofs.Steps.{answered, step-turned-down, step-unknown, step-answered}
-use Rattle.rules.specs.declared.Shortage as shortage
-use Rattle.rules.specs.declared.Reply.{Reply}
-use Rattle.rules.specs.declared.Reply.the-variants as reply
-use Rattle.rules.specs.Replies.{shortageIs, replyIs, ruleOf, shortageTold}
 use Rattle.counters.specs.declared.Counters as code
 use Rattle.counters.specs.Counted.{countersOf}
 use Rattle.index.specs.Holds.{Running}
-use Rattle.index.specs.Choices.{Looked}
 use Rattle.admission.specs.declared.Admission.{Admission}
 use Rattle.admission.specs.declared.Admission.the-variants as admit
 use Rattle.admission.specs.Answers.{AdmissionIs}
@@ -39,102 +29,13 @@ use Rattle.schedule.specs.Entries.{entryOf}
 use Rattle.runs.specs.declared.RunAnswer.{RunAnswer}
 use Rattle.runs.specs.declared.RunAnswer.the-variants as ran
 use Rattle.runs.specs.Answers.{runCallOf, Ran}
-use Rattle.runs.proofs.Entries.{refused-positive}
 use Rattle.engine.specs.declared.steps.StepAnswer.{StepAnswer}
 use Rattle.engine.specs.declared.steps.StepAnswer.the-variants as step
 use Rattle.engine.specs.declared.suggests.SuggestAnswer.the-variants.{Suggested, Still, Refused}
 use Rattle.engine.specs.Answers.{buffersOf, stepCallOf, OneEntry, Stepped, suggestAnswerOf}
 use Rattle.engine.proofs.Admitted.{admitted-hall, refused-hall}
 
--- ---- an entry on a configuration that is held
-
-moved-said : (h g : Configuration) (l : Buffers) (size rule : ℕ) (w lacks : Shortage) (e : Entry) (by : Rule) (s′ : List ℕ) (u : Counters) →
-    respondTo h e ≡ does by lacks g → ruleNumber by ≡ rule → lacks ≡ w → u ≡ counted by (l .counters) → s′ ≡ bytesOf g →
-    record { number = 0; place = size; rule = rule; shortage = w; buffers = record { hall = s′; counters = u } }
-    ≡ answered h l size (respondTo h e)
-unfolding answered
-moved-said h g l size rule w lacks e by s′ u answer number told counts bytes = rw (answer, ← number, told, counts, bytes)
-
-refused-said : (h : Configuration) (l : Buffers) (size m : ℕ) (e : Entry) (s′ : List ℕ) → respondTo h e ≡ refuses m →
-    s′ ≡ bytesOf h →
-    record { number = m; place = 0; rule = 0; shortage = enough; buffers = record { hall = s′; counters = l .counters } }
-    ≡ answered h l size (respondTo h e)
-unfolding answered
-refused-said h l size m e s′ answer bytes = rw (answer, bytes)
-
--- what a run of one entry comes to, by its answer
-run-of-one : (h : Configuration) (t : Counters) (bytes : List ℕ) (e : Entry) (a : Answer) → OneEntry bytes e → answerTo h e ≡ a →
-    run h t bytes
-    ≡ continueRun a (λ n. record { number = n; place = 0; done = 0; configuration = h; counters = t })
-    (λ by g. record {
-      number = 0;
-      place = 0 + length bytes;
-      done = 1;
-      configuration = g;
-      counters = counted by t;
-    })
-unfolding run runFrom continueRun
-run-of-one h t bytes e (moved by g) one q = rw (one .says, q)
-run-of-one h t bytes e (refused n) one q = rw (one .says, q)
-
--- the rule that a look told, and what was short
-rule-told : (r : Reply) (by : Rule) (lacks : Shortage) (h g : Configuration) (e : Entry) → replyIs r ≡ replyOf (respondTo h e) →
-    respondTo h e ≡ does by lacks g →
-    (ruleNumber by ≡ ruleOf r) × (lacks ≡ shortageIs (shortageTold r))
-unfolding replyIs replyOf
-rule-told (reply.Moved rule w) by lacks h g e l q = let z = rw q at l in (cc, cc)
-rule-told (reply.Refused n) by lacks h g e l q =
-    let z = rw q at l in absurd (let o : _≡_ {A = ℕ} 0 1 = cc in omega arith)
-
-module _ {d s starts : List ℕ} {n : ℕ} {e : Entry} {bytes : List ℕ} {t : code.Counters} {s′ : List ℕ}
-    (one : OneEntry bytes e) where
-  pub step-moved : {r : Reply} {a : RunAnswer} {place done rule : ℕ} {w : shortage.Shortage} {u : code.Counters} →
-      Looked d s starts n e r → Ran d s starts n bytes (countersOf t) a s′ → a ≡ ran.Completed place done u → rule ≡ ruleOf r →
-      w ≡ shortageTold r → Stepped d s starts n e (length bytes) (countersOf t) (step.Moved rule w (length bytes) u) s′
-  unfolding runResult continueRun answerTo answerOf
-  step-moved {r} {place = place} {done} {rule} {w} {u} l f is told short = record {
-    found = λ ts h y x. go h (respondTo h e) refl (l .found ts h y x) ((rw is at f) .found ts h y x);
-    decided = tt;
-  }
-    where
-      go : (h : Configuration) (a : Response) → respondTo h e ≡ a → replyIs r ≡ replyOf (respondTo h e) →
-          runCallOf (ran.Completed place done u) s′ ≡ runResult (run h (countersOf t) bytes) →
-          stepCallOf (step.Moved rule w (length bytes) u) (record { hall = s′; counters = countersOf t })
-          ≡ answered h (record { hall = s; counters = countersOf t }) (length bytes) (respondTo h e)
-      go h (does by lacks g) q looked same =
-          let all = same ∙ ap runResult (run-of-one h (countersOf t) bytes e (moved by g) one (ap answerOf q)) in
-          let (number, what) = rule-told r by lacks h g e looked q in
-          moved-said h g (record { hall = s; counters = countersOf t }) (length bytes) rule (shortageIs w) lacks e by s′ (countersOf u) q
-          (number ∙ sym told) (what ∙ ap shortageIs (sym short)) (ap (λ c. c .buffers .counters) all) (ap (λ c. c .buffers .hall) all)
-      go h (refuses m) q looked same =
-          let all = same ∙ ap runResult (run-of-one h (countersOf t) bytes e (refused m) one (ap answerOf q)) in
-          let none : 0 ≡ m = ap (λ c. c .number) all in
-          let some = refused-positive h e m (ap answerOf q) in absurd (omega arith)
-
-  pub step-refused : {a : RunAnswer} {m place done : ℕ} {u : code.Counters} →
-      Ran d s starts n bytes (countersOf t) a s′ → a ≡ ran.Refused m place done u →
-      Stepped d s starts n e (length bytes) (countersOf t) (step.Refused m place) s′
-  unfolding runResult continueRun answerTo answerOf
-  step-refused {m = m} {place} {done} {u} f is = record {
-    found = λ ts h y x. go h (respondTo h e) refl ((rw is at f) .found ts h y x);
-    decided = (rw is at f) .decided;
-  }
-    where
-      go : (h : Configuration) (a : Response) → respondTo h e ≡ a →
-          runCallOf (ran.Refused m place done u) s′ ≡ runResult (run h (countersOf t) bytes) →
-          stepCallOf (step.Refused m place) (record { hall = s′; counters = countersOf t })
-          ≡ answered h (record { hall = s; counters = countersOf t }) (length bytes) (respondTo h e)
-      go h (does by lacks g) q same =
-          let all = same ∙ ap runResult (run-of-one h (countersOf t) bytes e (moved by g) one (ap answerOf q)) in
-          let none : m ≡ 0 = ap (λ c. c .number) all in
-          let some : 0 < m = (rw is at f) .decided in absurd (omega arith)
-      go h (refuses k) q same =
-          let all = same ∙ ap runResult (run-of-one h (countersOf t) bytes e (refused k) one (ap answerOf q)) in
-          let number : m ≡ k = ap (λ c. c .number) all in
-          let begin : place ≡ 0 = ap (λ c. c .place) all in
-          rw begin
-          (refused-said h (record { hall = s; counters = countersOf t }) (length bytes) m e s′ (q ∙ ap refuses (sym number))
-          (ap (λ c. c .buffers .hall) all))
+-- ---- a step
 
 -- the bytes of each kind
 pub act-written : (p : ℕ) → OneEntry (1 ∷ p ∷ []) (entryOf (entry.Act p))

@@ -1,4 +1,5 @@
 pub mod Admitted
+pub mod Stepping
 pub mod Calls
 pub mod Opening
 pub mod Verdicts

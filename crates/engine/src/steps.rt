@@ -1,11 +1,9 @@
 // Making one choice on a stored hall.
 use admission::Admission;
 use counters::Counters;
+use rules::Reply;
 use rules::Shortage;
 use rules::UNKNOWN_KIND;
-use rules::rule_of;
-use rules::shortage_of;
-use runs::RunAnswer;
 use schedule::Entry;
 use schedule::KIND_ACT;
 use schedule::KIND_INSIDE;
@@ -34,8 +32,8 @@ pub enum StepAnswer {
     },
 }
 
-// The choice that these bytes are, made on a configuration that is held: looked at, which tells its rule
-// and what is short, and then run.
+// The choice that these bytes are, made on a configuration that is held: looked at, which tells its rule and what is
+// short, and then run, where it moves; a refusal stands at the choice's first byte.
 fn step_held(
     decoded: &[u8; DECODED],
     hall: &mut [u8],
@@ -50,24 +48,17 @@ fn step_held(
     ensures { λ r. ⌜ Stepped (now (decoded .entry)) (now (hall .entry)) (now (starts .entry)) components (entryOf entry)
         (length (now (bytes .entry))) (countersOf counters) r (now (hall .exit)) ⌝ }
 {
-    let reply = choices::look(decoded, hall, starts, components, entry);
-    match runs::run_held(decoded, hall, starts, components, bytes, counters) {
-        RunAnswer::Completed {
-            place: _,
-            done: _,
-            counters: tally,
-        } => StepAnswer::Moved {
-            rule: rule_of(reply),
-            shortage: shortage_of(reply),
-            place: bytes.len(),
-            counters: tally,
-        },
-        RunAnswer::Refused {
-            number,
-            place,
-            done: _,
-            counters: _,
-        } => StepAnswer::Refused { number, place },
+    match choices::look(decoded, hall, starts, components, entry) {
+        Reply::Moved(rule, shortage) => {
+            let answer = runs::run_held(decoded, hall, starts, components, bytes, counters);
+            StepAnswer::Moved {
+                rule,
+                shortage,
+                place: bytes.len(),
+                counters: runs::counters_after(answer),
+            }
+        }
+        Reply::Refused(number) => StepAnswer::Refused { number, place: 0 },
     }
 }
 

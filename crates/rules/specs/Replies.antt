@@ -1,6 +1,5 @@
--- What the code answers to an entry: as the reply of the definitions, and what is in it.
+-- What the code answers to an entry, as the reply of the definitions.
 -- Assumes nothing.
-use Prim.Native.Nat.{ℕ}
 use mathlib.Core.Path.{_≡_}
 use Rattle.semantics.specs.Definitions.Shortage as test
 use Rattle.semantics.specs.Definitions.Moves as moves
@@ -22,18 +21,3 @@ replyIs (Refused n) = moves.refusedBy n
 -- no two answers of the code are one reply
 abbrev pub RepliesDiffer : Type 0
 RepliesDiffer = (a b : Reply) → replyIs a ≡ replyIs b → a ≡ b
-
--- the rule of a move; 0 for a refusal
-abbrev pub ruleOf : Reply → ℕ
-ruleOf (Moved r w) = r
-ruleOf (Refused n) = 0
-
--- the shortage that a move tells; enough for a refusal
-abbrev pub shortageTold : Reply → Shortage
-shortageTold (Moved r w) = w
-shortageTold (Refused n) = Enough
-
--- the number of a refusal; 0 for a move
-abbrev pub refusalOf : Reply → ℕ
-refusalOf (Moved r w) = 0
-refusalOf (Refused n) = n

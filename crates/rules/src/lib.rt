@@ -3,8 +3,6 @@
 //
 // The rules are those of the calculus, numbered as document 01 numbers them: 1 to 3 pass tokens, 4 to 7 begin and end a
 // transaction (attempt), 8 to 13 move inside one.
-ghost use mathlib.Core.Path.{_≡_};
-ghost use Rattle.rules.specs.Replies.{ruleOf, shortageTold, refusalOf};
 
 pub const OUT: u8 = 1;
 
@@ -65,34 +63,4 @@ pub enum Shortage {
 pub enum Reply {
     Moved(u8, Shortage),
     Refused(u8),
-}
-
-// The rule of a move; 0 for a refusal.
-pub fn rule_of(reply: Reply) -> u8
-    ensures { λ r. ⌜ r ≡ ruleOf reply ⌝ }
-{
-    match reply {
-        Reply::Moved(rule, _) => rule,
-        Reply::Refused(_) => 0,
-    }
-}
-
-// The shortage that a move tells; enough for a refusal.
-pub fn shortage_of(reply: Reply) -> Shortage
-    ensures { λ r. ⌜ r ≡ shortageTold reply ⌝ }
-{
-    match reply {
-        Reply::Moved(_, shortage) => shortage,
-        Reply::Refused(_) => Shortage::Enough,
-    }
-}
-
-// The number of a refusal; 0 for a move.
-pub fn refusal_of(reply: Reply) -> u8
-    ensures { λ r. ⌜ r ≡ refusalOf reply ⌝ }
-{
-    match reply {
-        Reply::Moved(_, _) => 0,
-        Reply::Refused(number) => number,
-    }
 }

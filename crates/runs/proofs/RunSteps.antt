@@ -12,26 +12,27 @@ use mir.Val.{Fits}
 use Rattle.calculus.specs.Reduction.{Rule}
 use Rattle.semantics.specs.Definitions.Terms.{Term}
 use Rattle.semantics.specs.Definitions.Configuration.{Configuration}
-use Rattle.semantics.specs.Definitions.Moves.{Entry, moved, answerTo, ruleNumber}
+use Rattle.semantics.specs.Definitions.Moves.{Entry, moved, answerTo}
 use Rattle.semantics.specs.Definitions.Run.{Counters, counted, ScheduleItem, entry, schedule, continueRun, runFrom, run}
 use Rattle.semantics.specs.Definitions.Calls.{runResult}
 use Rattle.terms.specs.Decoded.{Decoded}
 use Rattle.rules.specs.declared.Shortage.{Shortage}
 use Rattle.rules.specs.declared.Reply.{Reply}
 use Rattle.rules.specs.declared.Reply.the-variants as reply
-use Rattle.rules.specs.Replies.{refusalOf}
 use Rattle.counters.specs.declared.Counters as code
-use Rattle.counters.specs.Counted.{countersOf}
+use Rattle.counters.specs.Counted.{countersOf, countedBy}
+use Rattle.counters.proofs.Rising.{counted-by}
 use Rattle.index.specs.Holds.{Holds, Running}
 use Rattle.index.specs.Choices.{Chosen}
 use Rattle.index.proofs.Holding.{hall-length}
 use Rattle.schedule.specs.declared.Parsed.{Parsed}
 use Rattle.schedule.specs.declared.Parsed.the-variants as parsed
+use Rattle.runs.specs.declared.RunAnswer.{RunAnswer}
 use Rattle.runs.specs.declared.RunAnswer.the-variants.{Completed, Refused}
 use Rattle.schedule.specs.declared.Entry as code-entry
 use Rattle.schedule.specs.Entries.{entryOf, EntryAt, Found}
 use Rattle.index.proofs.Choosing.{chosen-running}
-use Rattle.runs.specs.Answers.{Ran}
+use Rattle.runs.specs.Answers.{Ran, endsWith}
 use Rattle.runs.proofs.Entries.{malformed-positive, refused-positive, made-moved, made-refused}
 
 -- a configuration is held from which the rest of the schedule gives what the run from h gives
@@ -121,8 +122,8 @@ module _ {d s₀ starts₀ : List ℕ} {n₀ : ℕ} {choices : List ℕ} {t₀ :
           sym (hall-length (g .first .holds))
 
       -- it is refused
-      pub run-refused : {m : ℕ} → r ≡ reply.Refused m → (k : ℕ) → k ≡ refusalOf r →
-          Ran d s₀ starts₀ n₀ choices t₀ (Refused k at done t) s′
+      pub run-refused : {m : ℕ} → r ≡ reply.Refused m → (k : RunAnswer) → k ≡ endsWith r at done t →
+          Ran d s₀ starts₀ n₀ choices t₀ k s′
       unfolding runFrom runResult continueRun
       run-refused {m} z k o = rw (o, z) (record {
         found = λ ts h y x.
@@ -137,7 +138,7 @@ module _ {d s₀ starts₀ : List ℕ} {n₀ : ℕ} {choices : List ℕ} {t₀ :
 
       -- it is done, and the run goes on behind it
       pub run-goes-on : {rule : ℕ} {lacks : Shortage} → r ≡ reply.Moved rule lacks → (u : code.Counters) →
-          ((by : Rule) → ruleNumber by ≡ rule → countersOf u ≡ counted by (countersOf t)) →
+          u ≡ countedBy t rule →
           Going d s₀ starts₀ n₀ choices t₀ s′ starts′ n′ behind (done + 1) (countersOf u)
       run-goes-on {rule} {lacks} z u counts = record {
         running = chosen-running (g .running) c;
@@ -155,5 +156,5 @@ module _ {d s₀ starts₀ : List ℕ} {n₀ : ℕ} {choices : List ℕ} {t₀ :
               let here = ap (λ l. runFrom (w .configuration) (countersOf t) at done l) (there .here) in
               let next = turn (w .configuration) (b .result) (entryOf e) (there .size) behind at done
               (schedule (drop behind choices)) (countersOf t) (countersOf u) (b .done) (b .answer)
-              (counts (b .done) (b .number)) (there .behind) in
+              (ap countersOf counts ∙ counted-by t rule (b .done) (b .number)) (there .behind) in
               record { configuration = b .result; holds = b .holds; same = w .same ∙ here ∙ next }

@@ -11,6 +11,9 @@ use Rattle.semantics.specs.Definitions.Configuration.{Configuration}
 use Rattle.semantics.specs.Definitions.Run.{Counters, run}
 use Rattle.semantics.specs.Definitions.Calls.{RunCall, runResult}
 use Rattle.terms.specs.Decoded.{Decoded}
+use Rattle.rules.specs.declared.Reply.{Reply}
+use Rattle.rules.specs.declared.Reply.the-variants as reply
+use Rattle.counters.specs.declared.Counters as code
 use Rattle.counters.specs.Counted.{countersOf}
 use Rattle.index.specs.Holds.{Holds}
 use Rattle.runs.specs.declared.RunAnswer.{RunAnswer}
@@ -34,3 +37,13 @@ pub record Ran (d s starts : List ℕ) (n : ℕ) (choices : List ℕ) (t : Count
   pub found : (ts : List Term) (h : Configuration) → Decoded ts d → Holds ts h s starts n →
       runCallOf r s′ ≡ runResult (run h t choices)
   pub decided : RunCaseDecided r
+
+-- the counters that a run leaves, completed or refused
+abbrev pub countersLeft : RunAnswer → code.Counters
+countersLeft (Completed p d c) = c
+countersLeft (Refused n p d c) = c
+
+-- the answer of a run that ends with this reply to its last entry: completed by one that moved, refused by a refusal
+abbrev pub endsWith : Reply → (place done : ℕ) → code.Counters → RunAnswer
+endsWith (reply.Moved r w) p d c = Completed p d c
+endsWith (reply.Refused n) p d c = Refused n p d c

@@ -2,13 +2,13 @@
 // the end or to the first that is refused.
 use counters::Counters;
 use rules::Reply;
-use rules::refusal_of;
 use schedule::Parsed;
 use stored::INDEX_SIZE;
 use terms::DECODED;
+ghost use mathlib.Core.Path.{_≡_};
 ghost use Rattle.counters.specs.Counted.{countersOf};
 ghost use Rattle.index.specs.Holds.{Running};
-ghost use Rattle.runs.specs.Answers.{Ran};
+ghost use Rattle.runs.specs.Answers.{Ran, countersLeft, endsWith};
 ghost use Rattle.runs.specs.Numbers.{NumbersAre};
 
 // The answer of a run: where it stopped, how many entries were done, and the counters after them. A run that is refused
@@ -63,6 +63,45 @@ pub fn numbers_of(answer: RunAnswer) -> RunNumbers
     }
 }
 
+// The counters that a run leaves, completed or refused.
+pub fn counters_after(answer: RunAnswer) -> Counters
+    ensures { λ r. ⌜ r ≡ countersLeft answer ⌝ }
+{
+    match answer {
+        RunAnswer::Completed {
+            place: _,
+            done: _,
+            counters,
+        } => counters,
+        RunAnswer::Refused {
+            number: _,
+            place: _,
+            done: _,
+            counters,
+        } => counters,
+    }
+}
+
+// The answer of a run that ends with this reply to its last entry: completed by one that moved, refused by a refusal. The
+// run's loop leaves by it, since what follows `else` in a `let .. else` can bind no number.
+fn ends_with(reply: Reply, place: usize, done: usize, counters: Counters) -> RunAnswer
+    ensures { λ r. ⌜ r ≡ endsWith reply place done counters ⌝ }
+{
+    match reply {
+        Reply::Moved(_, _) => RunAnswer::Completed {
+            place,
+            done,
+            counters,
+        },
+        Reply::Refused(number) => RunAnswer::Refused {
+            number,
+            place,
+            done,
+            counters,
+        },
+    }
+}
+
 // Runs a schedule. A refused entry ends the run and is not counted.
 pub fn run_held(
     decoded: &[u8; DECODED],
@@ -101,12 +140,7 @@ pub fn run_held(
                 let made = choices::make(decoded, hall, starts, held, entry);
                 let reply = made.reply;
                 let Reply::Moved(rule, _) = reply else {
-                    return RunAnswer::Refused {
-                        number: refusal_of(reply),
-                        place: at,
-                        done,
-                        counters: tally,
-                    };
+                    return ends_with(reply, at, done, tally);
                 };
                 held = made.components;
                 tally = tally.count(rule);

@@ -33,10 +33,10 @@ fn first_inside(
 {
     let mut node: u8 = 0;
     while node < MAX_NODES {
-        if let Reply::Moved(_, _) = look_inside(decoded, hall, starts, components, position, node) {
-            return Suggestion::Accepted(Entry::Inside { position, node });
+        match look_inside(decoded, hall, starts, components, position, node) {
+            Reply::Moved(_, _) => return Suggestion::Accepted(Entry::Inside { position, node }),
+            Reply::Refused(_) => node += 1,
         }
-        node += 1;
     }
     Suggestion::Still
 }
@@ -53,14 +53,16 @@ fn first_at(
     ensures { λ r. ⌜ SuggestsAt (now (decoded .entry)) (now (hall .entry)) (now (starts .entry)) components position
         r ⌝ }
 {
-    if let Reply::Moved(_, _) = look_act(decoded, hall, starts, components, position) {
-        return Suggestion::Accepted(Entry::Act { position });
+    match look_act(decoded, hall, starts, components, position) {
+        Reply::Moved(_, _) => Suggestion::Accepted(Entry::Act { position }),
+        Reply::Refused(_) => {
+            let begin = starts[wide(position)];
+            if hall[begin] != KIND_TRANSACTION {
+                return Suggestion::Still;
+            }
+            first_inside(decoded, hall, starts, components, position)
+        }
     }
-    let begin = starts[wide(position)];
-    if hall[begin] != KIND_TRANSACTION {
-        return Suggestion::Still;
-    }
-    first_inside(decoded, hall, starts, components, position)
 }
 
 // The first entry that is accepted; still where there is none.
@@ -75,10 +77,10 @@ pub fn first_accepted(
 {
     let mut position: u8 = 0;
     while wide(position) < components {
-        if let Suggestion::Accepted(entry) = first_at(decoded, hall, starts, components, position) {
-            return Suggestion::Accepted(entry);
+        match first_at(decoded, hall, starts, components, position) {
+            Suggestion::Accepted(entry) => return Suggestion::Accepted(entry),
+            Suggestion::Still => position += 1,
         }
-        position += 1;
     }
     Suggestion::Still
 }

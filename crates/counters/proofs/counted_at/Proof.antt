@@ -6,10 +6,10 @@ use Rattle.counters.proofs.counted_at.Statement.{statement}
 use Rattle.counters.proofs.counted_at.Tie as tie
 
 returns : tie.Need-returns
-returns c = raised-not _ _ _ (c .if1 .taken)
+returns c = search raised-not
 
 returns-2 : tie.Need-returns-2
-returns-2 c = raised-stays _ _ _ (c .before .if1 .left) (c .if2 .taken)
+returns-2 c = search raised-stays
 
 add-result : tie.Need-add-result
 add-result c = search needs

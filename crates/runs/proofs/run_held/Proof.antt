@@ -55,8 +55,8 @@ enum-known-reply c = search needs
 enum-told-2 : tie.Need-enum-told-2 Inv-loop μ-loop
 enum-told-2 c = search needs
 
-refusal-of-requires : tie.Need-refusal-of-requires Inv-loop μ-loop
-refusal-of-requires c κs = search needs
+ends-with-requires : tie.Need-ends-with-requires Inv-loop μ-loop
+ends-with-requires c κs = search needs
 
 same-length-3 : tie.Need-same-length-3 Inv-loop μ-loop
 same-length-3 c = search made-keeps-length
@@ -94,7 +94,7 @@ run-held-spec =
     make-requires
     enum-known-reply
     enum-told-2
-    refusal-of-requires
+    ends-with-requires
     same-length-3
     returns-3
     count-requires

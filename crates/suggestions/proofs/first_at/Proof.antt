@@ -10,9 +10,6 @@ look-act-requires c κs = search needs
 enum-told : tie.Need-enum-told
 enum-told c = search needs
 
-returns : tie.Need-returns
-returns c = search act-suggested
-
 enum-told-2 : tie.Need-enum-told-2
 enum-told-2 c = search needs
 
@@ -28,11 +25,14 @@ element-copy-out-begin c = search needs
 shared-slice-read-if1 : tie.Need-shared-slice-read-if1
 shared-slice-read-if1 c = search kind-inside-at
 
-returns-2 : tie.Need-returns-2
-returns-2 c = search idle-quiet
+returns : tie.Need-returns
+returns c = search idle-quiet
 
 first-inside-requires : tie.Need-first-inside-requires
 first-inside-requires c κs = search needs
+
+returns-2 : tie.Need-returns-2
+returns-2 c = search act-suggested
 
 returns-3 : tie.Need-returns-3
 returns-3 c = search inside-at
@@ -43,12 +43,12 @@ first-at-spec =
     (tie.spec
     look-act-requires
     enum-told
-    returns
     enum-told-2
     wide-requires
     mul-begin
     element-copy-out-begin
     shared-slice-read-if1
-    returns-2
+    returns
     first-inside-requires
+    returns-2
     returns-3)

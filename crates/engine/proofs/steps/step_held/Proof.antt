@@ -1,5 +1,5 @@
--- `step_held` meets its contract: the run did the choice, or it is refused. Assumes nothing.
-use Rattle.engine.proofs.Calls.{step-moved, step-refused}
+-- `step_held` meets its contract: the look moved and the run did the choice, or it is refused. Assumes nothing.
+use Rattle.engine.proofs.Stepping.{step-moved, step-refused}
 use borrow.Author.Needs.{needs}
 use Rattle.engine.proofs.steps.step_held.Statement.{statement}
 use Rattle.engine.proofs.steps.step_held.Tie as tie
@@ -7,17 +7,14 @@ use Rattle.engine.proofs.steps.step_held.Tie as tie
 look-requires : tie.Need-look-requires
 look-requires c κs = search needs
 
+enum-known-rule : tie.Need-enum-known-rule
+enum-known-rule c = search needs
+
 run-held-requires : tie.Need-run-held-requires
 run-held-requires c κs = search needs
 
-enum-known-tally : tie.Need-enum-known-tally
-enum-known-tally c = search needs
-
-rule-of-requires : tie.Need-rule-of-requires
-rule-of-requires c κs = search needs
-
-shortage-of-requires : tie.Need-shortage-of-requires
-shortage-of-requires c κs = search needs
+counters-after-requires : tie.Need-counters-after-requires
+counters-after-requires c κs = search needs
 
 enum-known-number : tie.Need-enum-known-number
 enum-known-number c = search needs
@@ -39,10 +36,9 @@ step-held-spec =
     tie.close
     (tie.spec
     look-requires
+    enum-known-rule
     run-held-requires
-    enum-known-tally
-    rule-of-requires
-    shortage-of-requires
+    counters-after-requires
     enum-known-number
     same-length
     returns
