@@ -12,6 +12,7 @@ use terms::DECODED;
 ghost use mathlib.Core.Path.{_≡_};
 ghost use lib.ListN.{length};
 ghost use Rattle.semantics.specs.Definitions.Calls.{stepCall};
+ghost use Rattle.semantics.specs.Promises.{Promised, OnSteps};
 ghost use Rattle.counters.specs.Counted.{countersOf};
 ghost use Rattle.index.specs.Holds.{Running};
 ghost use Rattle.schedule.specs.Entries.{entryOf};
@@ -75,6 +76,7 @@ pub fn step(
     ensures equation { λ r. ⌜ stepCallOf r (buffersOf (now (hall .exit)) counters)
         ≡ stepCall (now (table .entry)) (buffersOf (now (hall .entry)) counters) kind position node ⌝ }
     ensures decided { λ r. ⌜ StepCaseDecided r ⌝ }
+    ensures promised { λ _. ⌜ Promised OnSteps ⌝ }
 {
     let mut decoded = [0u8; DECODED];
     let mut starts = [0usize; INDEX_SIZE];

@@ -1,6 +1,7 @@
 -- `step` meets its contract: by its kind where the hall is admitted, and turned down otherwise. Assumes nothing.
 use native.Mathlib.Omega.{arith}
 use Rattle.engine.proofs.Calls.{number-told, stepped-turned-down, held-running, stepped-unknown, act-written, inside-written, stepped-act, stepped-inside}
+use Rattle.theorems.proofs.Theorems.{promised, on-steps}
 use borrow.Author.Needs.{needs}
 use Rattle.engine.proofs.steps.step.Statement.{statement}
 use Rattle.engine.proofs.steps.step.Tie as tie
@@ -30,25 +31,25 @@ same-length : tie.Need-same-length
 same-length c = search needs
 
 returns : tie.Need-returns
-returns c = (search stepped-act, search needs)
+returns c = (search stepped-act, (search needs, promised on-steps))
 
 same-length-2 : tie.Need-same-length-2
 same-length-2 c = search needs
 
 returns-2 : tie.Need-returns-2
-returns-2 c = (search stepped-inside, search needs)
+returns-2 c = (search stepped-inside, (search needs, promised on-steps))
 
 same-length-3 : tie.Need-same-length-3
 same-length-3 c = search needs
 
 returns-3 : tie.Need-returns-3
-returns-3 c = (search stepped-unknown, omega arith)
+returns-3 c = (search stepped-unknown, (omega arith, promised on-steps))
 
 same-length-4 : tie.Need-same-length-4
 same-length-4 c = search needs
 
 returns-4 : tie.Need-returns-4
-returns-4 c = (search stepped-turned-down, search number-told)
+returns-4 c = (search stepped-turned-down, (search number-told, promised on-steps))
 
 pub step-spec : {M : Type 1} → statement M
 step-spec =
