@@ -23,7 +23,7 @@ use Rattle.semantics.specs.Definitions.Report.{signed, line, runLine, countersL
 use Rattle.semantics.specs.Checks.AcceptedTables.{GoodTable}
 use Rattle.semantics.specs.Claims.Correspondence.{AcceptsTable}
 use Rattle.semantics.specs.Checks.Conditions.{TableRefused, TableNumbers, RunNumbers, Stops, at-end, kind-neither, act-short, inside-short, node-short, act-refused, inside-refused}
-use Rattle.semantics.specs.Checks.Decimals.{Printable, SignedOf, SignedAsStated}
+use Rattle.semantics.specs.Checks.Decimals.{TwentyDigits, SignedOf, SignedAsStated}
 use Rattle.semantics.specs.Checks.PrintedRun.{TablePart, up-to-start, all-of-it}
 use Rattle.semantics.specs.Checks.PrintedLines.{Numbers, newline, space, Line, begins, NetOf, gained, lost, TrayLines, no-more, passed-over, told}
 use Rattle.semantics.specs.Checks.PrintedLines.{StationLine, puts, takes, repeats, waits, attempts, StationLines, no-station, station, RunPrinted, RefusedAsStated, RunAsStated}
@@ -44,23 +44,23 @@ use Rattle.theorems.proofs.Decimals.{signed-as-stated}
 
 -- ---- a line
 
-numbers-told : (zs : List ℤ) → All Printable zs → Numbers zs (flatten (map (_∷_ 32) (map signed zs)) ++ (10 ∷ []))
+numbers-told : (zs : List ℤ) → All TwentyDigits zs → Numbers zs (flatten (map (_∷_ 32) (map signed zs)) ++ (10 ∷ []))
 unfolding flatten SignedAsStated
 numbers-told [] h = newline
 numbers-told (z ∷ zs) h = rw append-assoc (space (signed-as-stated z (signed z) (h .0) .0 refl) (numbers-told zs (h .1)))
 
-numbers-are : {zs : List ℤ} {bs : List ℕ} → All Printable zs → Numbers zs bs →
+numbers-are : {zs : List ℤ} {bs : List ℕ} → All TwentyDigits zs → Numbers zs bs →
     flatten (map (_∷_ 32) (map signed zs)) ++ (10 ∷ []) ≡ bs
 unfolding flatten SignedAsStated
 numbers-are h newline = refl
 numbers-are h (space {z = z} {word = word} x y) =
     rw append-assoc (ap₂ (λ u v. 32 ∷ (u ++ v)) (signed-as-stated z word (h .0) .1 x) (numbers-are (h .1) y))
 
-line-told : (letter : ℕ) (zs : List ℤ) → All Printable zs → Line letter zs (line letter (map signed zs))
+line-told : (letter : ℕ) (zs : List ℤ) → All TwentyDigits zs → Line letter zs (line letter (map signed zs))
 unfolding line
 line-told letter zs h = begins (numbers-told zs h)
 
-line-is : {letter : ℕ} {zs : List ℤ} {bs : List ℕ} → All Printable zs → Line letter zs bs → line letter (map signed zs) ≡ bs
+line-is : {letter : ℕ} {zs : List ℤ} {bs : List ℕ} → All TwentyDigits zs → Line letter zs bs → line letter (map signed zs) ≡ bs
 unfolding line
 line-is {letter} h (begins x) = ap (_∷_ letter) (numbers-are h x)
 
@@ -87,7 +87,7 @@ net-told f l = go (ltb l f) refl
         let h = ltb-false l f e in
         let x : NetOf f l (pos (l - f)) = gained (l - f) (omega arith) in rw (net-is x) x
 
-net-short : {f l : ℕ} {z : ℤ} → f < 10 ^ 20 → l < 10 ^ 20 → NetOf f l z → Printable z
+net-short : {f l : ℕ} {z : ℤ} → f < 10 ^ 20 → l < 10 ^ 20 → NetOf f l z → TwentyDigits z
 net-short g h (gained k e) = omega arith
 net-short g h (lost k e) = omega arith
 
@@ -322,7 +322,7 @@ refused-as-stated bs h table part n p e text =
     let place = refused-within table n p refused in
     let within = part-within bs table part in
     let prints = split-text bs table part h ∙ ap (report (drop (length table) bs)) e in
-    let short : All Printable (pos n ∷ pos p ∷ pos 0 ∷ []) = (omega arith, (omega arith, (omega arith, tt))) in (
+    let short : All TwentyDigits (pos n ∷ pos p ∷ pos 0 ∷ []) = (omega arith, (omega arith, (omega arith, tt))) in (
       λ x. subst (Line 82 (pos n ∷ pos p ∷ pos 0 ∷ [])) (sym prints ∙ x) (line-told 82 (pos n ∷ pos p ∷ pos 0 ∷ []) short),
       λ x. prints ∙ line-is short x,
     )

@@ -36,10 +36,10 @@ pub data SignedOf : ℤ → List ℕ → Type 0 where
 unfoldable pub DecimalAsStated : Type 0
 DecimalAsStated = (n : ℕ) (bs : List ℕ) → n < 10 ^ 20 → (decimal n ≡ bs) ↔ DecimalOf n bs
 
--- one whose size is below 10 ^ 20
-abbrev pub Printable : ℤ → Type 0
-Printable (pos n) = n < 10 ^ 20
-Printable (negsuc n) = suc n < 10 ^ 20
+-- the same of one that may be negative, whose size is below 10 ^ 20
+abbrev pub TwentyDigits : ℤ → Type 0
+TwentyDigits (pos n) = n < 10 ^ 20
+TwentyDigits (negsuc n) = suc n < 10 ^ 20
 
 unfoldable pub SignedAsStated : Type 0
-SignedAsStated = (z : ℤ) (bs : List ℕ) → Printable z → (signed z ≡ bs) ↔ SignedOf z bs
+SignedAsStated = (z : ℤ) (bs : List ℕ) → TwentyDigits z → (signed z ≡ bs) ↔ SignedOf z bs
