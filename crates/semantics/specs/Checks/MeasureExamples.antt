@@ -1,20 +1,24 @@
 -- Worked rows for Checks/Branches and Checks/Fuels: expressions with their branches, their length and their paths written
--- out, processes with their widths, the first readable path at given counts; and inputs whose answers would be others
--- if reading them or printing their numbers ended too early. Proved in proofs/MeasureExamples, by computation.
+-- out, processes with their widths, the first readable path at given counts; lists that are an expression's branches and
+-- lists that are not; inputs whose answers would be others if reading them or printing their numbers ended too early,
+-- and what is answered with too few turns. Proved in proofs/MeasureExamples.
 -- Assumes nothing.
-use Prim.Native.Nat.{ℕ}
+use Prim.Native.Nat.{ℕ, _^_}
 use Prim.Native.String.{String}
 use mathlib.Core.Path.{_≡_}
 use mathlib.Core.Option.{Option, none, some}
-use mathlib.Core.List.{List, [], _∷_, _++_, map}
+use mathlib.Core.List.{List, [], _∷_, _++_}
 use Rattle.calculus.specs.Syntax.{rd, wt, Log, State}
 use Rattle.semantics.specs.Definitions.Basics.{All}
 use Rattle.semantics.specs.Definitions.Terms.{Expression, endT, retryT, rdT, wtT, orElseT, Program, nilT, putT, takeT, repeatT, parT, atomT, width, branches, pathLength}
 use Rattle.semantics.specs.Definitions.Logs.{paths, firstReadable}
-use Rattle.semantics.specs.Definitions.Table.{readTable}
+use Rattle.semantics.specs.Definitions.Table.{refusedAt, emptyReading, readTable}
+use Rattle.semantics.specs.Definitions.Configuration.{output, leaf, fork, idle}
 use Rattle.semantics.specs.Definitions.Report.{decimal, printedRun}
 use Rattle.semantics.specs.Definitions.Sentence.{ascii}
-use Rattle.semantics.specs.Checks.Examples.{numbers, times, leafOf, verdict}
+use Rattle.semantics.specs.Checks.Branches.{inEnd, inRetry, onLeft, onRight, Branch, Told, AllBranches}
+use Rattle.semantics.specs.Checks.Fuels.{readOr, treeOr, componentsOr, tableSizeOr, digitsOr}
+use Rattle.semantics.specs.Checks.Examples.{numbers, times, leafOf}
 use Rattle.semantics.specs.Checks.EdgeExamples.{TableRow, tableSeen, fits, storedTable, FormRow, formIn, sound, tree, forks}
 
 -- ---- expressions
@@ -184,6 +188,39 @@ deepTrees =
     sound (tree (times 7 (22 ∷ []) ++ times 8 (leafOf 0 0 ""))) "2 0 6" ∷
     []
 
+-- given too few turns, what stands at zero shows
+pub record RunningOut : Type 0 where
+  pub in-a-table : readOr (λ r at bs. refusedAt 77 at) 2 emptyReading 0 (1 ∷ 1 ∷ 1 ∷ []) ≡ refusedAt 77 2
+  pub in-a-tree :
+      treeOr (λ bs. some (leaf e [], bs)) 1 [] (22 ∷ 22 ∷ []) ≡ some (fork (leaf e []) (leaf e []), 22 ∷ [])
+  pub in-a-hall : componentsOr (λ bs. some []) 1 [] (24 ∷ 3 ∷ 99 ∷ []) ≡ some (idle (output 3) ∷ [])
+  pub in-an-input : tableSizeOr (λ bs. some 77) 2 (1 ∷ 1 ∷ 1 ∷ []) ≡ some 79
+  pub in-a-number : digitsOr (λ n. 7 ∷ []) 20 (10 ^ 20) ≡ 7 ∷ times 20 (48 ∷ [])
+
+-- ---- the branches of rd 0.end orElse retry
+
+abbrev pub twoBranches : Expression
+twoBranches = or (read 0 e) again
+
+abbrev pub leftBranch : Told
+leftBranch = record { way = onLeft ∷ []; actions = rd 0 ∷ []; finish = inEnd }
+
+abbrev pub rightBranch : Told
+rightBranch = record { way = onRight ∷ []; actions = []; finish = inRetry }
+
+-- they are these two, and no list that has them in another order, one of them twice, one of them alone, or one besides
+pub record BranchRows : Type 0 where
+  pub these : AllBranches twoBranches (leftBranch ∷ rightBranch ∷ [])
+  pub in-order : ¬ AllBranches twoBranches (rightBranch ∷ leftBranch ∷ [])
+  pub once : ¬ AllBranches twoBranches (leftBranch ∷ leftBranch ∷ rightBranch ∷ [])
+  pub not-left-out : ¬ AllBranches twoBranches (leftBranch ∷ [])
+  pub none-besides :
+      (δ : Log) → ¬ AllBranches twoBranches
+      (leftBranch ∷ rightBranch ∷ record { way = onRight ∷ onRight ∷ []; actions = δ; finish = inEnd } ∷ [])
+  -- a read is not passed over, and retry is no end
+  pub with-its-actions : ¬ Branch twoBranches (onLeft ∷ []) [] inEnd
+  pub as-it-finishes : ¬ Branch twoBranches (onRight ∷ []) [] inEnd
+
 pub record MeasureExamples : Type 0 where
   pub measures : All (λ r. measured (r .term) ≡ r .expected) measures
   pub firsts : All (λ r. firstReadable (r .counts) (r .term) ≡ r .expected) firsts
@@ -191,4 +228,6 @@ pub record MeasureExamples : Type 0 where
   pub digit-rows : All (λ r. decimal (r .number) ≡ r .expected) digitRows
   pub short-records : All (λ r. tableSeen (r .table) ≡ r .expected) shortRecords
   pub table-then-choices : TableThenChoices
+  pub running-out : RunningOut
+  pub branch-rows : BranchRows
   pub deep-trees : All (λ r. formIn (readTable storedTable) (r .bytes) ≡ r .expected) deepTrees
