@@ -12,6 +12,7 @@ pub mod PrintedRun
 pub mod Examples
 pub mod GainExamples
 pub mod ConverseSteps
+pub mod Handovers
 pub mod StatedSuggestions
 pub mod EdgeExamples
 pub mod SuggestionExamples

@@ -35,7 +35,8 @@ use Rattle.theorems.proofs.Measures.{branches-positive}
 use Rattle.theorems.proofs.GoodTable.{accepted-is-good}
 use Rattle.theorems.proofs.WellFormedKept.{well-formed-step}
 use Rattle.theorems.proofs.Soundness.{opens-stand, outputs-stand}
-use Rattle.theorems.proofs.Communication.{grown, TwoMoves, communication}
+use Rattle.semantics.specs.Checks.Handovers.{TwoMoves}
+use Rattle.theorems.proofs.Communication.{grown, communication}
 
 -- ---- from the calculus back to the terms
 
@@ -380,18 +381,18 @@ two-moves : (bs : List ℕ) (t : Table) → AcceptsTable bs t → (h : Configura
     HasChoices (COM a) h P′ (h .counts)
 unfolding HasChoices Bounded addToken
 two-moves bs t acc h ok P s a P′ m b g =
-    next (one-rule (t .terms) h ok P s (OUT a) (m .between) (m .gaining) (m .puts) (rw (m .adds .added) g, few))
+    next (one-rule (t .terms) h ok P s (OUT a) (m .between) (addToken (h .counts) a) (m .puts) (g, few))
   where
     few : parallel (m .between) ≤ 64
     few = let y = out-leaves-fewer (m .puts) in let z = stands-length s in let w = ok .few in omega arith
 
-    next : HasChoices (by (OUT a)) h (m .between) (m .gaining) → HasChoices (COM a) h P′ (h .counts)
+    next : HasChoices (by (OUT a)) h (m .between) (addToken (h .counts) a) → HasChoices (COM a) h P′ (h .counts)
     next x =
         let (e, f, small, first, reached, between) = x in
         let kept = well-formed-step e (accepted-is-good bs t (acc .1)) ok first in
         let two = one-rule (t .terms) f kept (m .between) between (m .second) P′ (h .counts) (rw reached (m .takes)) b in
         let (d, g′, small′, then, left, result) = two in
-        (e, f, d, m .second, g′, small, small′, first, then, m .one, left, result)
+        (e, f, d, m .second, g′, small, small′, first, then, m .takes-one, left, result)
 
 -- each reduction within the limits has its choices, with ATOK's outputs in log order
 pub completeness : Completeness

@@ -14,13 +14,14 @@ use Rattle.calculus.proofs.Reductions.{out-adds}
 use Rattle.semantics.specs.Definitions.Basics.{replaceAt, All}
 use Rattle.semantics.specs.Definitions.Logs.{addToken}
 use Rattle.semantics.specs.Definitions.Configuration.{Component, Configuration}
-use Rattle.semantics.specs.Claims.Denotation.{componentProcess, Denotes, nothing, alone, beside, WithinLimits}
+use Rattle.semantics.specs.Claims.Denotation.{componentProcess, Denotes, nothing, alone, beside, Bounded, WithinLimits}
 use Rattle.semantics.specs.Claims.Correspondence.{TakesOne, HandoverIsCOM}
+use Rattle.semantics.specs.Checks.Handovers.{HandoversBounded}
 use Rattle.theorems.proofs.Lists.{none-found}
 use Rattle.theorems.proofs.GoodTable.{accepted-is-good}
 use Rattle.theorems.proofs.WellFormedKept.{well-formed-step}
 use Rattle.theorems.proofs.Soundness.{in-either, reduces-at, OneReduces, one-reduces}
-use Rattle.theorems.proofs.Communication.{one-is-taken}
+use Rattle.theorems.proofs.Communication.{one-is-taken, communication}
 use Rattle.theorems.proofs.Completeness.{stands-length, spent-back, out-leaves-fewer}
 
 -- ---- two components that reduce
@@ -96,3 +97,12 @@ handover-is-com bs t acc h ok a e f q d r g q′ one P s =
     let few = stands-length stands in
     let gaining : All (λ c. c ≤ 255) (addToken (h .counts) a) = rw (← (out-adds (x .reduces) .added)) (between .channelCounts .1) in
     (P′, reduces, same, stands, ((ok .channelCounts .1, let n = last .few in omega arith), gaining))
+
+-- ---- between the two moves
+
+pub handovers-bounded : HandoversBounded
+unfolding HandoversBounded WithinLimits Bounded addToken
+handovers-bounded a P P′ σ σ′ d few =
+    let (two, same) = communication AnyOrder d in
+    let fewer = out-leaves-fewer (two .puts) in
+    (same, two, fewer, (λ w. ((w .1, omega arith), w .0), λ b. (b .1, b .0 .0)))

@@ -2,6 +2,7 @@
 -- Assumes nothing.
 use Rattle.semantics.specs.Claims.Correspondence.{Soundness, RunSoundness, EveryHallDenotes, AcceptedIsWithinLimits, Completeness, CompletenessAnyOrder, StillIsStill, KeepsWellFormed, OpeningDenotes, Located, LogOrderAsStated, HandoverIsCOM}
 use Rattle.semantics.specs.Claims.Accounts.{RunAccounts, CallsAccounts}
+use Rattle.semantics.specs.Checks.Handovers.{HandoversBounded}
 use Rattle.semantics.specs.Checks.ConverseSteps.{StartIsOpening, ConverseStepsAreMoves, ReadableBlocksCommit, ConverseStepsGoOn}
 use Rattle.semantics.specs.Claims.InnerMoves.{MovesLowerWeight, MovesGoOn, SettledHasNoRule, MovesSettleFirstPath, OneOutcome}
 use Rattle.semantics.specs.Checks.StatedMoves.{OpensAsStated, MovesAsStated, MovesWorked}
@@ -93,6 +94,9 @@ accepted-is-within-limits = Bounds.accepted-is-within-limits
 
 pub handover-is-com : HandoverIsCOM
 handover-is-com = Together.handover-is-com
+
+pub handovers-bounded : HandoversBounded
+handovers-bounded = Together.handovers-bounded
 
 pub run-soundness : RunSoundness
 run-soundness = Sound.run-soundness

@@ -1,4 +1,13 @@
 -- One choice on a hall (document 01, "Choices and moves" and refusals 14 to 20). A choice is an entry of a schedule.
+--
+-- The answers on the way, from one component out to the caller, each with its word for yes and its word for no:
+--
+--   type         what is asked                yes: and with it                           no: and with it
+--   LocalAnswer  one component                moves: rule, shortage, counts, components  blocked: 15 to 18 or 20
+--   Inner        one node of a transaction    evolves: rule, shortage, tree              noRule (17), outOfRange (16)
+--   Response     an entry on a configuration  does: rule, shortage, configuration        refuses: 14 to 20
+--   Answer       the same, for a run          moved: rule, configuration                 refused: 14 to 20
+--   Reply        the same, in numbers         movedBy: the rule's number, shortage       refusedBy: 14 to 20
 -- Assumes nothing.
 use Prim.Native.Nat.{ℕ, zero, suc}
 use mathlib.Core.Bool.{Bool, true, false, cond}
