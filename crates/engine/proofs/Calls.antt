@@ -12,7 +12,7 @@ use Rattle.semantics.specs.Definitions.Stored.{bytesOf}
 use Rattle.semantics.specs.Definitions.Shortage.{Shortage, enough}
 use Rattle.semantics.specs.Definitions.Moves.{Entry, Response, does, refuses, respondTo, Answer, moved, refused, answerOf, answerTo, ruleNumber, replyOf}
 use Rattle.semantics.specs.Definitions.Run.{Counters, counted, schedule, continueRun, runFrom, run}
-use Rattle.semantics.specs.Definitions.Calls.{admission, Buffers, runResult, runAdmitted, runCall, stepCall}
+use Rattle.semantics.specs.Definitions.Calls.{admission, Buffers, runResult, runAdmitted, runCall, stepRefused, stepCall}
 use Rattle.semantics.specs.Definitions.Suggestion.{suggestFound, suggestCall}
 use Rattle.semantics.specs.Checks.Conditions.{RefusalNumbers}
 use Rattle.semantics.specs.Checks.Steps.{Names, names-act, names-inside}
@@ -161,6 +161,7 @@ module _ (d table hall starts : List ℕ) (a : Admission) (w : AdmissionIs a d h
 
     pub stepped-turned-down : (kind position node : ℕ) (c : code.Counters) →
         stepCallOf (step.Refused n p) (buffersOf hall c) ≡ stepCall table (buffersOf hall c) kind position node
+    unfolding stepRefused
     stepped-turned-down kind position node c =
         sym (step-turned-down table (buffersOf hall c) n p kind position node (refused-hall d table hall starts a w n p e))
 
@@ -182,16 +183,16 @@ module _ (d table hall starts : List ℕ) (a : Admission) (w : AdmissionIs a d h
     -- 12
     pub stepped-unknown : {kind : ℕ} → (kind ≡ 1 → ⊥) → (kind ≡ 2 → ⊥) → (position node : ℕ) (c : code.Counters) →
         stepCallOf (step.Refused 12 0) (buffersOf hall c) ≡ stepCall table (buffersOf hall c) kind position node
-    unfolding answered
+    unfolding stepRefused
     stepped-unknown {kind} one two position node c = admitted-hall d table hall starts a w n e
-        (λ t h q x. rw (step-unknown table (buffersOf hall c) t h q kind position node one two, ← x .holds .bytes))
+        (λ t h q x. sym (step-unknown table (buffersOf hall c) t h q kind position node one two))
 
     by-name : {kind position node size : ℕ} {o : Entry} → Names kind position node o size →
         {c : code.Counters} {r : StepAnswer} {s′ : List ℕ} →
         Stepped d hall starts n o size (countersOf c) r s′ →
         stepCallOf r (buffersOf s′ c) ≡ stepCall table (buffersOf hall c) kind position node
     by-name named {c} f = admitted-hall d table hall starts a w n e
-        (λ t h q x. f .found (t .terms) h (x .decoded) (x .holds) ∙ sym (step-answered table (buffersOf hall c) t h q named))
+        (λ t h q x. f .found (t .terms) h (x .decoded) (x .holds) ∙ sym (step-answered table (buffersOf hall c) t h q (x .holds .bytes) named))
 
     pub stepped-act : {position : ℕ} {c : code.Counters} {r : StepAnswer} {s′ : List ℕ} →
         Stepped d hall starts n (entryOf (entry.Act position)) 2 (countersOf c) r s′ → {kind : ℕ} → kind ≡ 1 →
