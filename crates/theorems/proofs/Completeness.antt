@@ -25,12 +25,13 @@ use Rattle.semantics.specs.Definitions.Shortage.{Shortage, enough}
 use Rattle.semantics.specs.Definitions.Logs.{emptyLog, shortage, addToken, takeToken}
 use Rattle.semantics.specs.Definitions.Configuration.{Idle, taking, repeating, block, output, Tree, leaf, fork, Component, idle, transaction, Configuration, branchesOf, nodes, opens}
 use Rattle.semantics.specs.Definitions.Stored.{ComponentOk, WellFormed}
-use Rattle.semantics.specs.Definitions.Moves.{Entry, act, inside, moves, takes, puts, acts, evolves, outOfRange, inner}
+use Rattle.semantics.specs.Definitions.Moves.{Entry, act, inside, moves, takes, puts, acts, evolves, inner}
 use Rattle.semantics.specs.Claims.Correspondence.{AcceptsTable, HasChoices, Completeness}
 use Rattle.semantics.specs.Claims.Denotation.{expr, proc, ongoingOf, componentProcess, Denotes, nothing, alone, beside, parallel, Bounded, WithinLimits}
+use Rattle.theorems.proofs.Walk.{left-evolves, right-evolves}
 use Rattle.theorems.proofs.Lists.{found-below, found-left, found-right, replaceAt-left, replaceAt-right, all-at, all-getD}
 use Rattle.theorems.proofs.Readable.{included-readable, not-included-unreadable}
-use Rattle.theorems.proofs.Moves.{positionOf, localMove, out-of-range, accepted-made}
+use Rattle.theorems.proofs.Moves.{positionOf, localMove, accepted-made}
 use Rattle.theorems.proofs.Measures.{branches-positive}
 use Rattle.theorems.proofs.GoodTable.{accepted-is-good}
 use Rattle.theorems.proofs.WellFormedKept.{well-formed-step}
@@ -148,14 +149,13 @@ inner-move (aol {A = A} {B = B} d) s t e =
     let m = inner-move d s l left in
     let k = m .counted in
     let z = m .made in
-    rw shape (record { node = suc (m .node); result = fork (m .result) r; counted = omega arith; lacks = m .lacks; made = rw z; image = cc (m .image) })
+    rw shape (record { node = suc (m .node); result = fork (m .result) r; counted = omega arith; lacks = m .lacks; made = left-evolves s l r (m .node) z; image = cc (m .image) })
 inner-move (aor {A = A} {B = B} d) s t e =
     let (l, r, shape, left, right) = of-ongoing s (orElse′ A B) t e in
     let m = inner-move d s r right in
     let k = m .counted in
     let z = m .made in
-    let on = out-of-range s l (m .node) in
-    rw shape (record { node = suc (nodes l + m .node); result = fork l (m .result); counted = omega arith; lacks = m .lacks; made = rw (on, z); image = cc (m .image) })
+    rw shape (record { node = suc (nodes l + m .node); result = fork l (m .result); counted = omega arith; lacks = m .lacks; made = right-evolves s l r (m .node) z; image = cc (m .image) })
 
 -- ---- what stands for a process
 

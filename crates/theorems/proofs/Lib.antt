@@ -7,6 +7,7 @@ pub mod Measures
 pub mod GoodTable
 pub mod Trees
 pub mod RoundTrip
+pub mod Walk
 pub mod Moves
 pub mod WellFormedKept
 pub mod Soundness

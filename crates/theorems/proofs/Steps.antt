@@ -22,7 +22,7 @@ use Rattle.semantics.specs.Checks.Conditions.{TableNumbers, HallNumbers, Choice
 use Rattle.semantics.specs.Checks.Steps.{Names, names-act, names-inside, StepCallAsStated, not-admitted, kind-unknown, is-refused, has-moved, StepCallsAsStated, StepCallNumbers, stepReply, StepReplies, NodeOfKind1, StepIsCall}
 use Rattle.theorems.proofs.GoodTable.{accepted-is-good}
 use Rattle.theorems.proofs.TableConditions.{table-numbers}
-use Rattle.theorems.proofs.HallConditions.{hall-numbers, refusal-numbers}
+use Rattle.theorems.proofs.HallConditions.{hall-numbers, admitted-stored, refusal-numbers}
 use Rattle.theorems.proofs.ChoiceConditions.{choice-numbers}
 use Rattle.theorems.proofs.ToldShort.{failures-alone-name, shortage-small}
 use Rattle.theorems.proofs.CallConditions.{choice-range}
@@ -242,16 +242,14 @@ module _ (l : Buffers) (h : Configuration) where
 
 module _ (table : List ℕ) (l : Buffers) (kind p k : ℕ) where
   -- the stored bytes of what was admitted are those that were lent
-  same-buffers : Bytes table → Bytes (l .hall) → (t : Table) (h : Configuration) → admission table (l .hall) ≡ admitted t h → Lent l h
-  unfolding HallNumbers
-  same-buffers table-bytes hall-bytes t h e =
-      let same = (hall-numbers table (l .hall) table-bytes hall-bytes .1 t h) .0 e .2 in
-      λ i. record { hall = same i; counters = l .counters }
+  same-buffers : Bytes (l .hall) → (t : Table) (h : Configuration) → admission table (l .hall) ≡ admitted t h → Lent l h
+  same-buffers bytes t h e =
+      let same = admitted-stored table (l .hall) bytes t h e in λ i. record { hall = same i; counters = l .counters }
 
   -- the claim, of a step's answer and a run's
   abbrev Called : StepCall → RunCall → Type 0
   Called a b =
-      (b .number ≡ a .number) × (b .place ≡ a .place) × (Bytes table → Bytes (l .hall) → b .buffers ≡ a .buffers) ×
+      (b .number ≡ a .number) × (b .place ≡ a .place) × (Bytes (l .hall) → b .buffers ≡ a .buffers) ×
       ((b .number ≡ 0) ↔ (b .done ≡ 1)) × ((b .number ≢ 0) ↔ (b .done ≡ 0)) ×
       ((t : Table) (h : Configuration) → admission table (l .hall) ≡ admitted t h →
       rulesDone h (entries (schedule (stepBytes kind p k))) ≡ cond (eqb (a .number) 0) (a .rule ∷ []) [])
@@ -262,7 +260,7 @@ module _ (table : List ℕ) (l : Buffers) (kind p k : ℕ) where
       let high = refusal-numbers table (l .hall) n q .3 e .0 in (
         refl,
         refl,
-        λ tb hb. refl,
+        λ bytes. refl,
         (λ x. absurd (omega arith), λ x. absurd (omega arith)),
         (λ x. refl, λ x y. omega arith),
         λ t h f. let both = sym e ∙ f in absurd (let z : _≡_ {A = ℕ} 0 1 = cc in omega arith),
@@ -271,7 +269,7 @@ module _ (table : List ℕ) (l : Buffers) (kind p k : ℕ) where
       let r = step-runs l h kind p k in (
         r .0,
         r .1,
-        λ tb hb. r .2 (same-buffers tb hb t h e),
+        λ bytes. r .2 (same-buffers bytes t h e),
         r .3,
         r .4,
         λ t′ h′ f. let both = sym e ∙ f in let there : h ≡ h′ = cc in

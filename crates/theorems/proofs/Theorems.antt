@@ -11,7 +11,7 @@ use Rattle.semantics.specs.Claims.Suggestions.{SuggestedIsFirst, KindsApart, Ki
 use Rattle.semantics.specs.Claims.Atomicity.{AtomicityOfCalls, initialBuffers, finalBuffers, allDone, doneWithoutAborted, atomic}
 use Rattle.semantics.specs.Checks.Conditions.{ReadAsStated, TableNumbers, MissingAtLength, HallNumbers, CheckNumbers, OpenNumbers, RefusalNumbers, ChoiceNumbers, RunNumbers, OneReason, RunCallNumbers, RunCallZero}
 use Rattle.semantics.specs.Checks.Answers.{AnswersReported, AnswersDiffer, ZeroIsAccepted}
-use Rattle.semantics.specs.Checks.CallLists.{CallBytes, CallsInTurn, CallsCut}
+use Rattle.semantics.specs.Checks.CallLists.{CallBytes, CallsInTurn, HallsAreBytes, CallsCut}
 use Rattle.semantics.specs.Checks.Steps.{StepCallsAsStated, StepCallNumbers, StepReplies, NodeOfKind1, StepIsCall}
 use Rattle.semantics.specs.Claims.Turns.{LaidThenWaiting, OneATurn, TurnsFall, TurnsEnd, WaitingFits, StackSuffices, LeaningNeedsItsWidth, CallsShowTurns, CallsShowTheOpening, TurnsRefusedAsChecked}
 use Rattle.semantics.specs.Checks.TurnExamples.{TurnExamples}
@@ -308,6 +308,9 @@ call-bytes = InTurn.call-bytes
 
 pub calls-in-turn : CallsInTurn
 calls-in-turn = InTurn.calls-in-turn
+
+pub halls-are-bytes : HallsAreBytes
+halls-are-bytes = InTurn.halls-are-bytes
 
 pub calls-cut : CallsCut
 calls-cut = InTurn.calls-cut

@@ -6,8 +6,7 @@ use mathlib.Core.Path.{_≡_}
 use mathlib.Core.Logic.{_↔_}
 use mathlib.Core.List.{List}
 use Rattle.calculus.specs.Syntax.{Name, State, Process}
-use Rattle.calculus.specs.Reduction.{Rule, OUT, by, COM, Reduces, AnyOrder}
-use Rattle.semantics.specs.Definitions.Layout.{maxComponents}
+use Rattle.calculus.specs.Reduction.{Rule, OUT, by, COM, Reduces, AnyOrder, LogOrder}
 use Rattle.semantics.specs.Definitions.Logs.{addToken}
 use Rattle.semantics.specs.Claims.Denotation.{parallel, Bounded, WithinLimits}
 use Rattle.semantics.specs.Claims.Correspondence.{TakesOne}
@@ -21,10 +20,14 @@ pub record TwoMoves (Order : List Name → List Name → Type 0) (a : Name) (P :
   pub takes : Reduces Order (by second) between (addToken σ a) P′ σ
   pub takes-one : TakesOne a second
 
--- every COM is two such moves, with one component fewer between them. From a process of at most 64 components it is within
+-- every COM is two such moves, with one component fewer between them; from a process of at most 64 components it is within
 -- the limits exactly where process and counts are bounded behind each of the two: between them, and at the end
+abbrev pub HandoversIn : (List Name → List Name → Type 0) → Type 0
+HandoversIn Order =
+    (a : Name) (P P′ : Process) (σ σ′ : State) → Reduces Order (COM a) P σ P′ σ′ →
+    (σ′ ≡ σ) × (two : TwoMoves Order a P σ P′) × (suc (parallel (two .between)) ≡ parallel P) ×
+    (parallel P ≤ 64 → (WithinLimits (COM a) σ P′ σ′ ↔ (Bounded (two .between) (addToken σ a) × Bounded P′ σ′)))
+
+-- with an ATOK's outputs in any order, and with those in log order
 unfoldable pub HandoversBounded : Type 0
-HandoversBounded =
-    (a : Name) (P P′ : Process) (σ σ′ : State) → Reduces AnyOrder (COM a) P σ P′ σ′ → parallel P ≤ maxComponents →
-    (σ′ ≡ σ) × (two : TwoMoves AnyOrder a P σ P′) × (suc (parallel (two .between)) ≡ parallel P) ×
-    (WithinLimits (COM a) σ P′ σ′ ↔ (Bounded (two .between) (addToken σ a) × Bounded P′ σ′))
+HandoversBounded = HandoversIn AnyOrder × HandoversIn LogOrder

@@ -1,5 +1,7 @@
 -- The step call: one choice, given as three numbers (document 01, "Choices and moves" and "Reasons to turn a request
--- down"). What it answers and leaves is said apart from the definition, as a relation; and it is a run of that one choice.
+-- down"). Its four cases as a relation, which is the definition's own telling; and what holds the definition apart from
+-- that: it is a run of that one choice (`StepIsCall`: number, place, hall, tally and rule), and what it tells is the reply to
+-- the choice (`StepReplies`: the shortage).
 -- Assumes nothing.
 use Prim.Native.Nat.{ℕ, _≤_, _<_}
 use mathlib.Core.Path.{_≡_}
@@ -84,13 +86,14 @@ unfoldable pub NodeOfKind1 : Type 0
 NodeOfKind1 = (table : List ℕ) (l : Buffers) (p k m : ℕ) → stepCall table l 1 p k ≡ stepCall table l 1 p m
 
 -- a step is a run of that one choice, and so it is as one of a list of calls: the same number and place, the same hall and
--- tally afterwards, with one choice done where it moved and none elsewhere; the rule that it tells is that of the step done
+-- tally afterwards (every hall in such a list is bytes: CallLists.HallsAreBytes), with one choice done where it moved and
+-- none elsewhere; the rule that it tells is that of the step done
 unfoldable pub StepIsCall : Type 0
 StepIsCall =
     (table : List ℕ) (l : Buffers) (kind position node : ℕ) →
     let a = stepCall table l kind position node in
     let b = callAnswer table l (stepChoice kind position node) in
-    (b .number ≡ a .number) × (b .place ≡ a .place) × (Bytes table → Bytes (l .hall) → b .buffers ≡ a .buffers) ×
+    (b .number ≡ a .number) × (b .place ≡ a .place) × (Bytes (l .hall) → b .buffers ≡ a .buffers) ×
     ((b .number ≡ 0) ↔ (b .done ≡ 1)) × ((b .number ≢ 0) ↔ (b .done ≡ 0)) ×
     ((t : Table) (h : Configuration) → admission table (l .hall) ≡ admitted t h →
     map (λ s. ruleNumber (s .rule)) (steps h (callEntries (stepChoice kind position node)))

@@ -156,8 +156,9 @@ module _ (table : List ℕ) (t : Table) (buffer : List ℕ) (first : Counters) (
         ((runCall table initialBuffers (scheduleBytes es)) .done ≡ length es) ×
         ((runCall table initialBuffers (scheduleBytes es)) .buffers .hall ≡ bytesOf (idleConfiguration s))
 
-  -- Demand 3, sentence by sentence. Sentence 4 is in the definitions: `finalBuffers` and `allDone` hand hall and tally on
-  -- from call to call, and `first` is any tally (Checks/CallLists says the same of a list's last call).
+  -- Demand 3, sentence by sentence. Of sentence 2 the first half, that a block acts in one step at its commit, is the
+  -- one-step run's definition with `each-choice`. Sentence 4 is in the definitions: `finalBuffers` and `allDone` hand hall
+  -- and tally on from call to call, and `first` is any tally (Checks/CallLists says the same of a list's last call).
   pub record Demand3 : Type 0 where
     pub as-one-step-run : AsOneStepRun
     pub abandoned-never-happened : AbandonedNeverHappened
