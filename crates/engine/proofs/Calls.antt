@@ -7,7 +7,7 @@ use mathlib.Core.Path.{_≡_, refl, sym, ap, _∙_}
 use mathlib.Core.List.{List, [], _∷_}
 use Rattle.semantics.specs.Definitions.Moves.{Entry}
 use Rattle.semantics.specs.Definitions.Run.{Counters, schedule, run}
-use Rattle.semantics.specs.Definitions.Calls.{admission, runAdmitted, runCall, stepCall}
+use Rattle.semantics.specs.Definitions.Calls.{admission, runAdmitted, runCall, stepRefused, stepCall}
 use Rattle.semantics.specs.Definitions.Suggestion.{suggestFound, suggestCall}
 use Rattle.semantics.specs.Checks.Conditions.{RefusalNumbers}
 use Rattle.semantics.specs.Checks.Steps.{Names, names-act, names-inside}
@@ -62,6 +62,7 @@ module _ (d table hall starts : List ℕ) (a : Admission) (w : AdmissionIs a d h
 
     pub stepped-turned-down : (kind position node : ℕ) (c : code.Counters) →
         stepCallOf (step.Refused n p) (buffersOf hall c) ≡ stepCall table (buffersOf hall c) kind position node
+    unfolding stepRefused
     stepped-turned-down kind position node c =
         sym (step-turned-down table (buffersOf hall c) n p kind position node (refused-hall d table hall starts a w n p e))
 
@@ -83,16 +84,16 @@ module _ (d table hall starts : List ℕ) (a : Admission) (w : AdmissionIs a d h
     -- 12
     pub stepped-unknown : {kind : ℕ} → (kind ≡ 1 → ⊥) → (kind ≡ 2 → ⊥) → (position node : ℕ) (c : code.Counters) →
         stepCallOf (step.Refused 12 0) (buffersOf hall c) ≡ stepCall table (buffersOf hall c) kind position node
-    unfolding answered
+    unfolding stepRefused
     stepped-unknown {kind} one two position node c = admitted-hall d table hall starts a w n e
-        (λ t h q x. rw (step-unknown table (buffersOf hall c) t h q kind position node one two, ← x .holds .bytes))
+        (λ t h q x. sym (step-unknown table (buffersOf hall c) t h q kind position node one two))
 
     by-name : {kind position node size : ℕ} {o : Entry} → Names kind position node o size →
         {c : code.Counters} {r : StepAnswer} {s′ : List ℕ} →
         Stepped d hall starts n o size (countersOf c) r s′ →
         stepCallOf r (buffersOf s′ c) ≡ stepCall table (buffersOf hall c) kind position node
     by-name named {c} f = admitted-hall d table hall starts a w n e
-        (λ t h q x. f .found (t .terms) h (x .decoded) (x .holds) ∙ sym (step-answered table (buffersOf hall c) t h q named))
+        (λ t h q x. f .found (t .terms) h (x .decoded) (x .holds) ∙ sym (step-answered table (buffersOf hall c) t h q (x .holds .bytes) named))
 
     pub stepped-act : {position : ℕ} {c : code.Counters} {r : StepAnswer} {s′ : List ℕ} →
         Stepped d hall starts n (entryOf (entry.Act position)) 2 (countersOf c) r s′ → {kind : ℕ} → kind ≡ 1 →

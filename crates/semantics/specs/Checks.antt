@@ -15,6 +15,7 @@ pub mod PrintedLines
 pub mod Examples
 pub mod GainExamples
 pub mod ConverseSteps
+pub mod Handovers
 pub mod StatedSuggestions
 pub mod EdgeExamples
 pub mod SuggestionExamples

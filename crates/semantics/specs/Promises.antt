@@ -33,7 +33,7 @@ use Rattle.semantics.specs.Claims.Suggestions.{SuggestedIsFirst, KindsAp
 use Rattle.semantics.specs.Claims.Turns.{LaidThenWaiting, OneATurn, TurnsFall, TurnsEnd, WaitingFits, StackSuffices, LeaningNeedsItsWidth, CallsShowTurns, CallsShowTheOpening, TurnsRefusedAsChecked}
 use Rattle.semantics.specs.Checks.Answers.{AnswersReported, AnswersDiffer, ZeroIsAccepted}
 use Rattle.semantics.specs.Checks.Branches.{BranchesStandInOrder, BranchesAndPaths, LongestBranch, FirstReadableIsLeftmost}
-use Rattle.semantics.specs.Checks.CallLists.{CallBytes, CallsInTurn, CallsCut}
+use Rattle.semantics.specs.Checks.CallLists.{CallBytes, CallsInTurn, HallsAreBytes, CallsCut}
 use Rattle.semantics.specs.Checks.Conditions.{ReadAsStated, TableNumbers, MissingAtLength, HallNumbers, CheckNumbers, OpenNumbers, RefusalNumbers, ChoiceNumbers, RunNumbers, OneReason, RunCallNumbers, RunCallZero}
 use Rattle.semantics.specs.Checks.ConverseExamples.{ConverseExamples}
 use Rattle.semantics.specs.Checks.ConverseSteps.{StartIsOpening, ConverseStepsAreMoves, ReadableBlocksCommit, ConverseStepsGoOn}
@@ -43,6 +43,7 @@ use Rattle.semantics.specs.Checks.EdgeExamples.{EdgeExamples}
 use Rattle.semantics.specs.Checks.Examples.{Examples}
 use Rattle.semantics.specs.Checks.Fuels.{TableReadToItsEnd, TreesReadToTheirEnd, HallsReadToTheirEnd, InputsSplitAtTheTablesEnd, DigitsPrintedToTheLast, PrintedNumbersFit}
 use Rattle.semantics.specs.Checks.GainExamples.{GainRows, RunRows}
+use Rattle.semantics.specs.Checks.Handovers.{HandoversBounded}
 use Rattle.semantics.specs.Checks.LineExamples.{LineExamples}
 use Rattle.semantics.specs.Checks.LongExamples.{LongExamples}
 use Rattle.semantics.specs.Checks.MeasureExamples.{MeasureExamples}
@@ -143,6 +144,7 @@ pub record Demand2 : Type 0 where
   pub log-order-as-stated : LogOrderAsStated
   pub accepted-is-within-limits : AcceptedIsWithinLimits
   pub handover-is-com : HandoverIsCOM
+  pub handovers-bounded : HandoversBounded
   pub run-soundness : RunSoundness
   pub keeps-well-formed : KeepsWellFormed
   pub completeness : Completeness
@@ -163,6 +165,7 @@ pub record Demand3 : Type 0 where
   pub converse-steps-go-on : ConverseStepsGoOn
   pub call-bytes : CallBytes
   pub calls-in-turn : CallsInTurn
+  pub halls-are-bytes : HallsAreBytes
   pub calls-cut : CallsCut
   pub gain-rows : GainRows
   pub run-rows : RunRows

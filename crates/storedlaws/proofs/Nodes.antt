@@ -1,9 +1,9 @@
 -- The nodes of a transaction in its bytes: the walk over a tree's bytes ends behind them and finds each node where
 -- its bytes begin; a subtree in its place; a move at a node.
 -- Assumes nothing.
-use Prim.Native.Nat.{ℕ, zero, suc, _+_, _*_, _-_, _≤_}
+use Prim.Native.Nat.{ℕ, zero, suc, _+_, _*_, _-_, _≤_, _<_}
 use native.Mathlib.Omega.{arith}
-use mathlib.Core.Path.{_≡_, refl, sym, ap, fun-ext, _∙_}
+use mathlib.Core.Path.{_≡_, refl, sym, ap, _∙_}
 use mathlib.Core.Bool.{Bool, true, false, cond}
 use mathlib.Core.List.{List, [], _∷_, _++_, map, append-assoc, append-nil}
 use lib.ListN.{length, getD, drop, length-append, length-map}
@@ -15,9 +15,10 @@ use Rattle.semantics.specs.Definitions.Terms.{Expression, endT, retryT, rdT, wt
 use Rattle.semantics.specs.Definitions.Logs.{readable}
 use Rattle.semantics.specs.Definitions.Configuration.{Tree, leaf, fork, branchesOf, nodes}
 use Rattle.semantics.specs.Definitions.Stored.{actionByte, treeBytes, TreeOk}
-use Rattle.semantics.specs.Definitions.Moves.{Inner, evolves, noRule, outOfRange, inner, inLeft, inRight, reads, atLeaf, atFork}
+use Rattle.semantics.specs.Definitions.Moves.{Inner, evolves, noRule, outOfRange, atNode, inner}
 use Rattle.theorems.proofs.Measures.{branches-positive}
 use Rattle.theorems.proofs.Trees.{length-padded}
+use Rattle.theorems.proofs.Walk.{inLeft, inRight, inner-root, node-induction}
 use Rattle.stored.specs.declared.Place.the-variants.{At, Nowhere}
 use Rattle.stored.specs.declared.Walk.{Walk}
 use Rattle.stored.specs.Layout.{forkKind, leafKind, leafSize, maxActions, maxBranches, maxNodes, forkSize}
@@ -49,6 +50,27 @@ beyond-nodes (leaf M δ) k = let z : 1 + k ≡ suc k = omega arith in rw z
 beyond-nodes (fork l r) k =
     let z : 1 + (nodes l + nodes r) + k ≡ suc (nodes l + (nodes r + k)) = omega arith in
     rw (z, beyond-nodes l (nodes r + k), beyond-nodes r k)
+
+-- and a node that is not there lies past it
+unfoldable Past : Tree → ℕ → Node → Type 0
+Past t k (node c u) = Unit {0}
+Past t k (beyond j) = k ≡ nodes t + j
+
+past-nodes : (t : Tree) (k : ℕ) → Past t k (subtreeAt t k)
+unfolding Past nodes subtreeAt inLeftOf inRightOf
+past-nodes (leaf M δ) zero = tt
+past-nodes (leaf M δ) (suc k) = omega arith
+past-nodes (fork l r) zero = tt
+past-nodes (fork l r) (suc k) = go (subtreeAt l k) (past-nodes l k) (past-nodes r)
+  where
+    right : (j : ℕ) → k ≡ nodes l + j → (N : Node) → Past r j N → Past (fork l r) (suc k) (inRightOf l N)
+    right j e (node c u) h = tt
+    right j e (beyond i) h = omega arith
+
+    go : (N : Node) → Past l k N → ((j : ℕ) → Past r j (subtreeAt r j)) →
+        Past (fork l r) (suc k) (inLeftOf r N (λ j. inRightOf l (subtreeAt r j)))
+    go (node c u) h g = tt
+    go (beyond j) h g = right j h (subtreeAt r j) (g j)
 
 -- what a walk past k nodes comes to in a tree of n bytes at an offset, with p subtrees to come behind it
 Finds : List ℕ → (p at k n : ℕ) → Node → Type 0
@@ -181,86 +203,64 @@ plug-branches (rightOf l c) t = let h = plug-branches c t in omega arith
 
 -- ---- moves inside
 
--- a tree always has a node number 0
-Here : Inner → Type 0
-Here (evolves r w t) = Unit {0}
-Here noRule = Unit {0}
-Here (outOfRange k) = _≡_ {A = ℕ} 0 1
+module _ (s : State) where
+  around-here : (I : Inner) → around top I ≡ I
+  unfolding around plug
+  around-here (evolves r w u) = refl
+  around-here noRule = refl
+  around-here outOfRange = refl
 
-reads-here : (b : Bool) (x y : Inner) → Here x → Here y → Here (cond b x y)
-reads-here true x y h g = h
-reads-here false x y h g = g
+  around-left : (r : Tree) (c : Context) (I : Inner) → inLeft r (around c I) ≡ around (leftOf c r) I
+  unfolding inLeft around plug
+  around-left r c (evolves e w t) = refl
+  around-left r c noRule = refl
+  around-left r c outOfRange = refl
 
-leaf-here : (s : State) (M : Expression) (δ : Log) → Here (atLeaf s M δ)
-unfolding Here atLeaf reads
-leaf-here s (endT n) δ = tt
-leaf-here s (retryT n) δ = tt
-leaf-here s (rdT n a M) δ = reads-here (readable s (δ ++ (rd a ∷ []))) _ _ tt tt
-leaf-here s (wtT n a M) δ = tt
-leaf-here s (orElseT n M N) δ = tt
+  around-right : (l : Tree) (c : Context) (I : Inner) → inRight l (around c I) ≡ around (rightOf l c) I
+  unfolding inRight around plug
+  around-right l c (evolves r w t) = refl
+  around-right l c noRule = refl
+  around-right l c outOfRange = refl
 
-fork-here : (l r : Tree) → Here (atFork l r)
-unfolding Here atFork
-fork-here (leaf (endT n) δ) r = tt
-fork-here (leaf (retryT n) δ) r = tt
-fork-here (leaf (rdT n a M) δ) r = tt
-fork-here (leaf (wtT n a M) δ) r = tt
-fork-here (leaf (orElseT n M N) δ) r = tt
-fork-here (fork l m) r = tt
+  -- at the root, in a fork's left side, in its right side
+  at-root : (t : Tree) → atNode s t ≡ innerAt s (subtreeAt t 0)
+  unfolding subtreeAt innerAt
+  at-root (leaf M δ) = sym (around-here (inner s (leaf M δ) 0) ∙ inner-root s (leaf M δ))
+  at-root (fork l r) = sym (around-here (inner s (fork l r) 0) ∙ inner-root s (fork l r))
 
-inner-here : (s : State) (t : Tree) → Here (inner s t 0)
-unfolding inner
-inner-here s (leaf M δ) = leaf-here s M δ
-inner-here s (fork l r) = fork-here l r
+  at-left : (l r : Tree) (k : ℕ) → k < nodes l → (I : Inner) → I ≡ innerAt s (subtreeAt l k) →
+      inLeft r I ≡ innerAt s (subtreeAt (fork l r) (suc k))
+  unfolding subtreeAt innerAt inLeftOf Past
+  at-left l r k h I q = ap (inLeft r) q ∙ go (subtreeAt l k) (past-nodes l k)
+    where
+      go : (N : Node) → Past l k N → inLeft r (innerAt s N) ≡ innerAt s (inLeftOf r N (λ j. inRightOf l (subtreeAt r j)))
+      go (node c u) p = around-left r c (inner s u 0)
+      go (beyond j) p = absurd (omega arith)
 
-around-here : (s : State) (t : Tree) → inner s t 0 ≡ around top (inner s t 0)
-unfolding around plug
-around-here s t = go (inner s t 0)
-  where
-    go : (I : Inner) → I ≡ around top I
-    go (evolves r w u) = refl
-    go noRule = refl
-    go (outOfRange k) = refl
+  at-right : (l r : Tree) (j : ℕ) (I : Inner) → I ≡ innerAt s (subtreeAt r j) →
+      inRight l I ≡ innerAt s (subtreeAt (fork l r) (suc (nodes l + j)))
+  unfolding subtreeAt innerAt inLeftOf inRightOf inRight
+  at-right l r j I q = ap (inRight l) q ∙ rw (beyond-nodes l j) (go (subtreeAt r j))
+    where
+      go : (N : Node) → inRight l (innerAt s N) ≡ innerAt s (inRightOf l N)
+      go (node c u) = around-right l c (inner s u 0)
+      go (beyond i) = refl
 
-around-right : (l : Tree) (c : Context) (I : Inner) → inRight l (around c I) ≡ around (rightOf l c) I
-unfolding inRight around plug
-around-right l c (evolves r w t) = refl
-around-right l c noRule = refl
-around-right l c (outOfRange k) = refl
+  past-last : (t : Tree) (k : ℕ) → nodes t ≤ k → outOfRange ≡ innerAt s (subtreeAt t k)
+  unfolding innerAt
+  past-last t k h =
+      let e : k ≡ nodes t + (k - nodes t) = omega arith in
+      sym (ap (innerAt s) (ap (subtreeAt t) e ∙ beyond-nodes t (k - nodes t)))
 
-around-left : (r : Tree) (c : Context) (I : Inner) (right : ℕ → Inner) → Here I → inLeft r (around c I) right ≡ around (leftOf c r) I
-unfolding inLeft around plug Here
-around-left r c (evolves e w t) right h = refl
-around-left r c noRule right h = refl
-around-left r c (outOfRange k) right h = absurd (omega arith)
-
-inner-right : (s : State) (l : Tree) (R : Node) → inRight l (innerAt s R) ≡ innerAt s (inRightOf l R)
-unfolding innerAt inRightOf inRight
-inner-right s l (node c u) = around-right l c (inner s u 0)
-inner-right s l (beyond k) = refl
-
-inner-left : (s : State) (l r : Tree) (L : Node) →
-    inLeft r (innerAt s L) (λ j. innerAt s (inRightOf l (subtreeAt r j))) ≡ innerAt s (inLeftOf r L (λ j. inRightOf l (subtreeAt r j)))
-unfolding innerAt inLeftOf inLeft
-inner-left s l r (node c u) = around-left r c (inner s u 0) _ (inner-here s u)
-inner-left s l r (beyond k) = refl
-
--- a move at node number k is the move of the subtree there, in its place; past the last node there is none
-pub inner-at : (s : State) (t : Tree) (k : ℕ) → inner s t k ≡ innerAt s (subtreeAt t k)
-unfolding inner subtreeAt innerAt
-inner-at s (leaf M δ) zero = around-here s (leaf M δ)
-inner-at s (leaf M δ) (suc k) = refl
-inner-at s (fork l r) zero = around-here s (fork l r)
-inner-at s (fork l r) (suc k) =
-    let right : _≡_ {A = ℕ → Inner} (λ j. inRight l (inner s r j)) (λ j. innerAt s (inRightOf l (subtreeAt r j))) =
-    fun-ext (λ j. ap (inRight l) (inner-at s r j) ∙ inner-right s l (subtreeAt r j)) in
-    rw (inner-at s l k, right) (inner-left s l r (subtreeAt l k))
+  -- a move at node number k is the move of the subtree there, in its place; past the last node there is none
+  pub inner-at : (t : Tree) (k : ℕ) → inner s t k ≡ innerAt s (subtreeAt t k)
+  inner-at = node-induction s (λ t k I. I ≡ innerAt s (subtreeAt t k)) at-root at-left at-right past-last
 
 pub inner-node : (s : State) (t : Tree) (k : ℕ) (c : Context) (u : Tree) → subtreeAt t k ≡ node c u → inner s t k ≡ around c (inner s u 0)
 unfolding innerAt
 inner-node s t k c u e = inner-at s t k ∙ ap (innerAt s) e
 
-pub inner-past : (s : State) (t : Tree) (k j : ℕ) → subtreeAt t k ≡ beyond j → inner s t k ≡ outOfRange j
+pub inner-past : (s : State) (t : Tree) (k j : ℕ) → subtreeAt t k ≡ beyond j → inner s t k ≡ outOfRange
 unfolding innerAt
 inner-past s t k j e = inner-at s t k ∙ ap (innerAt s) e
 
@@ -277,15 +277,15 @@ pub inner-evolves : (s : State) (t : Tree) (k : ℕ) (r : Rule) (lacks : Shortag
 unfolding around
 inner-evolves s t k r lacks u e = go (subtreeAt t k) refl
   where
-    atNode : (c : Context) (w : Tree) → subtreeAt t k ≡ node c w → (I : Inner) → inner s w 0 ≡ I → around c I ≡ evolves r lacks u → Evolved s t k r lacks u
-    atNode c w p (evolves q told v) m h =
+    atPlace : (c : Context) (w : Tree) → subtreeAt t k ≡ node c w → (I : Inner) → inner s w 0 ≡ I → around c I ≡ evolves r lacks u → Evolved s t k r lacks u
+    atPlace c w p (evolves q told v) m h =
         let z : plug c v ≡ u = cc in
         let y : q ≡ r = cc in
         let x : told ≡ lacks = cc in
         record { context = c; subtree = w; makes = v; there = p; move = m ∙ rw (y, x); whole = sym z ∙ sym (with-node t k c w v p) }
-    atNode c w p noRule m h = let z : _≡_ {A = ℕ} 0 1 = cc in absurd (omega arith)
-    atNode c w p (outOfRange j) m h = let z : _≡_ {A = ℕ} 0 1 = cc in absurd (omega arith)
+    atPlace c w p noRule m h = let z : _≡_ {A = ℕ} 0 1 = cc in absurd (omega arith)
+    atPlace c w p outOfRange m h = let z : _≡_ {A = ℕ} 0 1 = cc in absurd (omega arith)
 
     go : (N : Node) → subtreeAt t k ≡ N → Evolved s t k r lacks u
-    go (node c w) p = atNode c w p (inner s w 0) refl (sym (inner-node s t k c w p) ∙ e)
+    go (node c w) p = atPlace c w p (inner s w 0) refl (sym (inner-node s t k c w p) ∙ e)
     go (beyond j) p = let q = sym (inner-past s t k j p) ∙ e in let z : _≡_ {A = ℕ} 0 1 = cc in absurd (omega arith)

@@ -108,9 +108,9 @@ unfoldable pub around : Context → Inner → Inner
 unfolding plug
 around c (evolves r w t) = evolves r w (plug c t)
 around c noRule = noRule
-around c (outOfRange k) = outOfRange k
+around c outOfRange = outOfRange
 
 unfoldable pub innerAt : State → Node → Inner
 unfolding around inner
 innerAt s (node c t) = around c (inner s t 0)
-innerAt s (beyond k) = outOfRange k
+innerAt s (beyond k) = outOfRange

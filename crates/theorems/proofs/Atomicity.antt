@@ -34,33 +34,39 @@ atomicity-of-calls table t accepts buffer size first cs =
     let kept-run = atomic-of-runs t first (spared .runs) in
     let told = spared .counters first first refl in
     record {
-      never-rejected = all .numbers;
-      whole = led .0;
-      hall = all .hall ∙ ap bytesOf (sym (led .1));
-      after = all .after;
-      read =
-          ap (configurationOf (t .terms)) (all .hall)
-          ∙ read-back (t .terms) (all .after) (accepted-is-good table t (accepts .1)) (all .well-formed);
-      counts = ap (λ a. a .counts) (sym run);
-      stations = unbegun-stations (all .after .components) ∙ ap (λ a. map (λ x. x .station) (a .stations)) (sym run);
-      tally = all .tally ∙ ap (λ a. a .counters) (sym run);
-      each-choice = each-choice t first (all .runs);
-      unaborted-whole = kept-led .0;
-      unaborted-hall = ap bytesOf (kept-led .1) ∙ sym (all .hall);
-      unaborted-atomic =
-          kept-run
-          ∙ λ i. record {
-            counts = sym run i .counts;
-            stations = sym run i .stations;
-            counters =
-                (told
-                ∙ ap (λ a. record { commits = a .counters .commits; failed = first .failed; retries = first .retries }) (sym run)) i;
-          };
-      unaborted-effects = spared .same-effects;
-      unaborted-none = spared .none-abandoned;
-      paths = commits-ok t first (allDone table t buffer first cs);
-      attempts = λ j h. attempts-ok t first (allDone table t buffer first cs) j (rw (led .0) h);
-      converse = converse-holds table t accepts buffer size first cs;
+      as-one-step-run = record {
+        never-rejected = all .numbers;
+        whole = led .0;
+        hall = all .hall ∙ ap bytesOf (sym (led .1));
+        after = all .after;
+        read =
+            ap (configurationOf (t .terms)) (all .hall)
+            ∙ read-back (t .terms) (all .after) (accepted-is-good table t (accepts .1)) (all .well-formed);
+        counts = ap (λ a. a .counts) (sym run);
+        stations = unbegun-stations (all .after .components) ∙ ap (λ a. map (λ x. x .station) (a .stations)) (sym run);
+        tally = all .tally ∙ ap (λ a. a .counters) (sym run);
+        each-choice = each-choice t first (all .runs);
+      };
+      abandoned-never-happened = record {
+        whole = kept-led .0;
+        hall = ap bytesOf (kept-led .1) ∙ sym (all .hall);
+        one-step =
+            kept-run
+            ∙ λ i. record {
+              counts = sym run i .counts;
+              stations = sym run i .stations;
+              counters =
+                  (told
+                  ∙ ap (λ a. record { commits = a .counters .commits; failed = first .failed; retries = first .retries }) (sym run)) i;
+            };
+        same-effects = spared .same-effects;
+        none-abandoned = spared .none-abandoned;
+      };
+      first-readable-paths = record {
+        commits = commits-ok t first (allDone table t buffer first cs);
+        attempts = λ j h. attempts-ok t first (allDone table t buffer first cs) j (rw (led .0) h);
+      };
+      converse = record { choices-found = converse-holds table t accepts buffer size first cs };
     }
 
 pub read-lacks-one : ReadLacksOne

@@ -12,12 +12,13 @@ use Rattle.semantics.specs.Definitions.Stored.{WellFormed, bytesOf}
 use Rattle.semantics.specs.Definitions.Moves.{Entry, act, inside, Answer, moved, refused, answerTo}
 use Rattle.semantics.specs.Definitions.Run.{Counters, counted, ScheduleItem, entry, malformed, schedule, entries, RunAnswer, continueRun, runFrom, run}
 use Rattle.semantics.specs.Definitions.Calls.{Buffers, Call, stepBytes, callBytes, Admission, admitted, notAdmitted, admission, runResult, runAdmitted, runCall, callAnswer, callEntries, afterCalls, entriesDone}
-use Rattle.semantics.specs.Claims.Atomicity.{answers}
-use Rattle.semantics.specs.Checks.CallLists.{CallBytes, CallsInTurn, CallsCut}
+use Rattle.semantics.specs.Claims.Atomicity.{answers, initialBuffers, finalBuffers}
+use Rattle.semantics.specs.Checks.CallLists.{CallBytes, CallsInTurn, HallsAreBytes, CallsCut}
 use Rattle.theorems.proofs.GoodTable.{accepted-is-good}
+use Rattle.theorems.proofs.RoundTrip.{stored-fits}
 use Rattle.theorems.proofs.WellFormedKept.{well-formed-step}
 use Rattle.theorems.proofs.Runs.{runs-keep}
-use Rattle.theorems.proofs.CallsAsOne.{AnswerHigh, choose-high, run-tells, stored-run}
+use Rattle.theorems.proofs.CallsAsOne.{AnswerHigh, choose-high, run-tells, stored-run, firstBuffers, opened-calls}
 
 -- ---- the last call
 
@@ -174,6 +175,12 @@ run-cut h c xs ys z =
     let done : a .done + 0 ≡ a .done = omega arith in
     run-append xs ys h c 0 0 z
     ∙ rw (place, done) at (run-shifted (schedule ys) (a .configuration) (a .counters) (a .place) (a .done) 0 0)
+
+pub halls-are-bytes : HallsAreBytes
+unfolding HallsAreBytes finalBuffers initialBuffers firstBuffers
+halls-are-bytes table t accepts buffer size first cs =
+    let all = opened-calls table t accepts buffer size first cs in
+    rw (all .hall) ((stored-fits (t .terms) (all .after) (accepted-is-good table t (accepts .1)) (all .well-formed)) .2)
 
 pub calls-cut : CallsCut
 unfolding CallsCut runResult

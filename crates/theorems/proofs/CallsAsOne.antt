@@ -104,7 +104,7 @@ inside-high σ (transaction n M s t) k = go (inner s t k)
     go : (i : Inner) → LocalHigh (innerLocal σ n M s i)
     go (evolves r w u) = tt
     go noRule = omega arith
-    go (outOfRange j) = omega arith
+    go outOfRange = omega arith
 
 -- at a position
 settles-high : (p : ℕ) (l : LocalAnswer) (h : Configuration) → LocalHigh l → ResponseHigh (applyAt p l h)

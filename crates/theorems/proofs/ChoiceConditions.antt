@@ -9,7 +9,7 @@ use mathlib.Core.Bool.{true, false≢true}
 use mathlib.Core.Logic.{_⊎_, inl, inr, _↔_}
 use mathlib.Core.Option.{Option, none, some}
 use mathlib.Core.List.{List, [], _∷_, _++_, map}
-use lib.ListN.{length, getElem?, length-append}
+use lib.ListN.{length, getElem?}
 use lib.Dec.{leb, eqb}
 use borrow.Author.Tests.{leb-true, leb-false, eqb-true, eqb-false}
 use Rattle.calculus.specs.Syntax.{Name, rd, Log, State}
@@ -21,11 +21,12 @@ use Rattle.semantics.specs.Definitions.Terms.{Expression, endT, retryT, rdT, wt
 use Rattle.semantics.specs.Definitions.Shortage.{Shortage, enough}
 use Rattle.semantics.specs.Definitions.Logs.{emptyLog, shortage, readable, takeToken, addToken}
 use Rattle.semantics.specs.Definitions.Configuration.{Idle, taking, repeating, block, output, Tree, leaf, fork, Component, idle, transaction, Configuration, opens, nodes, preorder}
-use Rattle.semantics.specs.Definitions.Moves.{Entry, act, inside, moves, blocked, takes, puts, commits, ends, acts, Inner, evolves, noRule, outOfRange, reads, atLeaf, atFork, inLeft, inRight, inner, innerLocal, actsInside, Response, does, refuses, Answer, moved, refused, applyAt, atPosition, respondTo, answerOf, answerTo, isMoved, isAccepted}
+use Rattle.semantics.specs.Definitions.Moves.{Entry, act, inside, moves, blocked, takes, puts, commits, ends, acts, Inner, evolves, noRule, outOfRange, reads, atLeaf, atFork, atNode, inner, innerLocal, actsInside, Response, does, refuses, Answer, moved, refused, applyAt, atPosition, respondTo, answerOf, answerTo, isMoved, isAccepted}
 use Rattle.semantics.specs.Claims.ConverseRuns.{EmptyChannel, TooManyComponents, FullChannel}
 use Rattle.semantics.specs.Claims.InnerMoves.{Settled}
 use Rattle.semantics.specs.Checks.Conditions.{FirstCondition, NoRuleAtNode, ChoiceCondition, no-station, no-station-inside, unsettled, no-attempt, no-node, no-rule-there, in-empty, rep-empty, in-many, rep-many, commit-many, out-full, ChoiceNumbers}
-use Rattle.theorems.proofs.Lists.{none-past, found-below, found-left, found-right, length-replaceAt}
+use Rattle.theorems.proofs.Walk.{length-preorder, node-left, node-right, inLeft, inRight, node-induction}
+use Rattle.theorems.proofs.Lists.{none-past, found-below, length-replaceAt}
 use Rattle.theorems.proofs.Readable.{readable-included, unreadable-not-included}
 use Rattle.theorems.proofs.Reading.{by-cases}
 
@@ -195,17 +196,11 @@ module _ (h : Configuration) (p : ℕ) where
 
 -- ---- kind 2
 
--- as many nodes in preorder as in the tree
-pub length-preorder : (t : Tree) → length (preorder t) ≡ nodes t
-unfolding preorder nodes
-length-preorder (leaf M δ) = refl
-length-preorder (fork l r) = let a = length-preorder l in let b = length-preorder r in let c = length-append (preorder l) (preorder r) in omega arith
-
 -- where a move inside goes: past the tree, at a node at rest, or at one that is not
 abbrev InnerReason : Tree → ℕ → Inner → Type 0
 InnerReason t k (evolves r w v) = (k < nodes t) × ((u : Tree) → getElem? (preorder t) k ≡ some u → ¬ NoRuleAtNode u)
 InnerReason t k noRule = (u : Tree) × (getElem? (preorder t) k ≡ some u) × NoRuleAtNode u
-InnerReason t k (outOfRange j) = k ≡ nodes t + j
+InnerReason t k outOfRange = nodes t ≤ k
 
 -- a node that is the first of its tree
 first-node : (t u : Tree) → NoRuleAtNode u → t ≡ u → NoRuleAtNode t
@@ -232,36 +227,30 @@ fork-reason (leaf (wtT n a M) δ) r = (fork (leaf (wtT n a M) δ) r, refl, λ z.
 fork-reason (leaf (orElseT n M N) δ) r = (fork (leaf (orElseT n M N) δ) r, refl, λ z. z)
 fork-reason (fork l m) r = (fork (fork l m) r, refl, λ z. z)
 
--- a node of a fork's left side, and one of its right side
-pub node-left : (l r : Tree) (k : ℕ) → k < nodes l → getElem? (preorder l ++ preorder r) k ≡ getElem? (preorder l) k
-node-left l r k h = found-left (preorder l) (preorder r) k (rw length-preorder h)
-
-pub node-right : (l r : Tree) (j : ℕ) → getElem? (preorder l ++ preorder r) (nodes l + j) ≡ getElem? (preorder r) j
-node-right l r j = rw (← (length-preorder l)) (found-right (preorder l) (preorder r) j)
-
 -- a move in the right side of a fork
 right-reason : (l r : Tree) (j : ℕ) (i : Inner) → InnerReason r j i → InnerReason (fork l r) (suc (nodes l + j)) (inRight l i)
 unfolding inRight preorder nodes
 right-reason l r j (evolves e w v) h = (omega arith, λ u f. h .1 u (sym (node-right l r j) ∙ f))
 right-reason l r j noRule h = (h .0, node-right l r j ∙ h .1, h .2)
-right-reason l r j (outOfRange m) h = omega arith
+right-reason l r j outOfRange h = omega arith
 
--- and in the left side, or past it
-left-reason : (l r : Tree) (k : ℕ) (i : Inner) (right : ℕ → Inner) → InnerReason l k i → ((j : ℕ) → InnerReason r j (right j)) →
-    InnerReason (fork l r) (suc k) (inLeft r i (λ j. inRight l (right j)))
+-- and in the left side
+left-reason : (l r : Tree) (k : ℕ) → k < nodes l → (i : Inner) → InnerReason l k i → InnerReason (fork l r) (suc k) (inLeft r i)
 unfolding inLeft preorder nodes
-left-reason l r k (evolves e w v) right h g = (omega arith, λ u f. h .1 u (sym (node-left l r k (h .0)) ∙ f))
-left-reason l r k noRule right h g =
-    (h .0, node-left l r k (rw length-preorder at (found-below (preorder l) k (h .0) (h .1))) ∙ h .1, h .2)
-left-reason l r k (outOfRange j) right h g = rw h (right-reason l r j (right j) (g j))
+left-reason l r k b (evolves e w v) h = (omega arith, λ u f. h .1 u (sym (node-left l r k b) ∙ f))
+left-reason l r k b noRule h = (h .0, node-left l r k b ∙ h .1, h .2)
+left-reason l r k b outOfRange h = absurd (omega arith)
+
+-- at the root
+node-reason : (s : State) (t : Tree) → InnerReason t 0 (atNode s t)
+unfolding atNode
+node-reason s (leaf M δ) = leaf-reason s M δ
+node-reason s (fork l r) = fork-reason l r
 
 -- at any node
 inner-reason : (s : State) (t : Tree) (k : ℕ) → InnerReason t k (inner s t k)
-unfolding inner nodes
-inner-reason s (leaf M δ) zero = leaf-reason s M δ
-inner-reason s (leaf M δ) (suc k) = omega arith
-inner-reason s (fork l r) zero = fork-reason l r
-inner-reason s (fork l r) (suc k) = left-reason l r k (inner s l k) (inner s r) (inner-reason s l k) (inner-reason s r)
+inner-reason s =
+    node-induction s (λ t k i. InnerReason t k i) (node-reason s) left-reason right-reason (λ t k h. h)
 
 module _ (h : Configuration) (p k : ℕ) where
   -- the conditions of a move inside at this position and node
@@ -294,7 +283,7 @@ module _ (h : Configuration) (p k : ℕ) where
       where
         below : nodes t ≤ k → ⊥
         below z = let y = found-below (preorder t) k (q .0) (q .1) in let w = length-preorder t in omega arith
-    inner-local-reason n M s t e (outOfRange j) q =
+    inner-local-reason n M s t e outOfRange q =
         let over : nodes t ≤ k = omega arith in
         (no-node n M s t e over, λ m l c. elim (barred-inside (transaction n M s t) e m c) [ inl b ↦ omega arith | inr b ↦ omega arith ])
 

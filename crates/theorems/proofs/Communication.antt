@@ -3,7 +3,7 @@
 -- Assumes nothing.
 use Prim.Native.Nat.{ℕ, _+_, _≤_}
 use native.Mathlib.Omega.{arith}
-use mathlib.Core.Path.{_≡_, refl, sym, ap, _∙_}
+use mathlib.Core.Path.{_≡_, refl, sym, ap, _∙_, subst}
 use mathlib.Core.List.{List, [], _∷_}
 use Rattle.calculus.specs.Syntax.{Name, State, Ongoing, Process, par}
 use Rattle.calculus.specs.State.{count, same, occurrences, Included, Plus, without}
@@ -11,9 +11,10 @@ use Rattle.calculus.specs.Log.{RD}
 use Rattle.calculus.specs.Reduction.{Rule, OUT, IN, REP, ATOK, Label, by, COM, Evolves, ardok, ardf, awr, aoi, aof, aoe, aol, aor, Reduces, OUTr, INr, REPr, COMl, COMr, PARL, PARR, ATSTr, ATPASS, ATREr, ATFAILr, ATOKr}
 use Rattle.calculus.proofs.States.{same-self, same-name, one-occurs, count-plus, count-without, grown, not-itself}
 use Rattle.calculus.proofs.Reductions.{adding-is-out}
-use Rattle.semantics.specs.Definitions.Logs.{takeToken}
+use Rattle.semantics.specs.Definitions.Logs.{addToken, takeToken}
 use Rattle.semantics.specs.Definitions.Moves.{effectOf}
 use Rattle.semantics.specs.Claims.Correspondence.{TakesOne}
+use Rattle.semantics.specs.Checks.Handovers.{TwoMoves}
 use Rattle.theorems.proofs.Soundness.{spent-plus}
 
 -- ---- what the labels do to the counts
@@ -74,31 +75,53 @@ module _ (Order : List Name → List Name → Type 0) where
 
   -- ---- a communication as two moves
 
-  -- from P and σ to P′: an OUT of a to a process and a state between, and from there a move that takes a away
-  pub record TwoMoves (a : Name) (P : Process) (σ : State) (P′ : Process) : Type 0 where
-    pub between : Process
-    pub gaining : State
-    pub second : Rule
-    pub adds : Plus σ a gaining
-    pub puts : Reduces Order (by (OUT a)) P σ between gaining
-    pub takes : Reduces Order (by second) between gaining P′ σ
-    pub one : TakesOne a second
+  -- the two moves of parts are two moves of the whole
+  at-left : {a : Name} {P P′ : Process} {σ : State} (Q : Process) → TwoMoves Order a P σ P′ → TwoMoves Order a (par P Q) σ (par P′ Q)
+  at-left Q m = record {
+    between = par (m .between) Q;
+    second = m .second;
+    puts = PARL (m .puts);
+    takes = PARL (m .takes);
+    takes-one = m .takes-one;
+  }
+
+  at-right : {a : Name} {Q Q′ : Process} {σ : State} (P : Process) → TwoMoves Order a Q σ Q′ → TwoMoves Order a (par P Q) σ (par P Q′)
+  at-right P m = record {
+    between = par P (m .between);
+    second = m .second;
+    puts = PARR (m .puts);
+    takes = PARR (m .takes);
+    takes-one = m .takes-one;
+  }
 
   -- every communication is two such moves, and leaves the state as it was
-  pub communication : {a : Name} {P P′ : Process} {σ σ′ : State} → Reduces Order (COM a) P σ P′ σ′ → TwoMoves a P σ P′ × (σ′ ≡ σ)
+  pub communication : {a : Name} {P P′ : Process} {σ σ′ : State} → Reduces Order (COM a) P σ P′ σ′ → TwoMoves Order a P σ P′ × (σ′ ≡ σ)
+  unfolding addToken
   communication (COMl {l} {k} {a} {P} {P′} {Q} {Q′} {σ} {σ′} q d e) =
       let two = taking-is-one a q e in
       let put : Reduces Order (by (OUT a)) P σ P′ σ′ = rw (adding-is-out a q d) at d in
-      let take : Reduces Order (by (two .0)) Q σ′ Q′ σ = rw (two .1) at e in
-      (record { between = par P′ Q; gaining = σ′; second = two .0; adds = q; puts = PARL put; takes = PARR take; one = two .2 }, refl)
+      let take : Reduces Order (by (two .0)) Q σ′ Q′ σ = rw (two .1) at e in (
+        record {
+          between = par P′ Q;
+          second = two .0;
+          puts = PARL (subst (Reduces Order (by (OUT a)) P σ P′) (q .added) put);
+          takes = PARR (subst (λ τ. Reduces Order (by (two .0)) Q τ Q′ σ) (q .added) take);
+          takes-one = two .2;
+        },
+        refl,
+      )
   communication (COMr {l} {k} {a} {P} {P′} {Q} {Q′} {σ} {σ′} q d e) =
       let two = taking-is-one a q e in
       let put : Reduces Order (by (OUT a)) Q σ Q′ σ′ = rw (adding-is-out a q d) at d in
-      let take : Reduces Order (by (two .0)) P σ′ P′ σ = rw (two .1) at e in
-      (record { between = par P Q′; gaining = σ′; second = two .0; adds = q; puts = PARR put; takes = PARL take; one = two .2 }, refl)
-  communication (PARL {Q = Q} d) =
-      let (t, e) = communication d in
-      (record { between = par (t .between) Q; gaining = t .gaining; second = t .second; adds = t .adds; puts = PARL (t .puts); takes = PARL (t .takes); one = t .one }, e)
-  communication (PARR {P = P} d) =
-      let (t, e) = communication d in
-      (record { between = par P (t .between); gaining = t .gaining; second = t .second; adds = t .adds; puts = PARR (t .puts); takes = PARR (t .takes); one = t .one }, e)
+      let take : Reduces Order (by (two .0)) P σ′ P′ σ = rw (two .1) at e in (
+        record {
+          between = par P Q′;
+          second = two .0;
+          puts = PARR (subst (Reduces Order (by (OUT a)) Q σ Q′) (q .added) put);
+          takes = PARL (subst (λ τ. Reduces Order (by (two .0)) P τ P′ σ) (q .added) take);
+          takes-one = two .2;
+        },
+        refl,
+      )
+  communication (PARL {Q = Q} d) = let (m, e) = communication d in (at-left Q m, e)
+  communication (PARR {P = P} d) = let (m, e) = communication d in (at-right P m, e)

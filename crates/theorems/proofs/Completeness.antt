@@ -28,14 +28,16 @@ use Rattle.semantics.specs.Definitions.Stored.{ComponentOk, WellFormed}
 use Rattle.semantics.specs.Definitions.Moves.{Entry, act, inside, moves, takes, puts, acts, evolves, inner}
 use Rattle.semantics.specs.Claims.Correspondence.{AcceptsTable, HasChoices, Completeness}
 use Rattle.semantics.specs.Claims.Denotation.{expr, proc, ongoingOf, componentProcess, Denotes, nothing, alone, beside, parallel, Bounded, WithinLimits}
+use Rattle.theorems.proofs.Walk.{left-evolves, right-evolves}
 use Rattle.theorems.proofs.Lists.{found-below, found-left, found-right, replaceAt-left, replaceAt-right, all-at, all-getD}
 use Rattle.theorems.proofs.Readable.{included-readable, not-included-unreadable}
-use Rattle.theorems.proofs.Moves.{positionOf, localMove, out-of-range, accepted-made}
+use Rattle.theorems.proofs.Moves.{positionOf, localMove, accepted-made}
 use Rattle.theorems.proofs.Measures.{branches-positive}
 use Rattle.theorems.proofs.GoodTable.{accepted-is-good}
 use Rattle.theorems.proofs.WellFormedKept.{well-formed-step}
 use Rattle.theorems.proofs.Soundness.{opens-stand, outputs-stand}
-use Rattle.theorems.proofs.Communication.{TwoMoves, communication}
+use Rattle.semantics.specs.Checks.Handovers.{TwoMoves}
+use Rattle.theorems.proofs.Communication.{communication}
 
 -- ---- from the calculus back to the terms
 
@@ -147,14 +149,13 @@ inner-move (aol {A = A} {B = B} d) s t e =
     let m = inner-move d s l left in
     let k = m .counted in
     let z = m .made in
-    rw shape (record { node = suc (m .node); result = fork (m .result) r; counted = omega arith; lacks = m .lacks; made = rw z; image = cc (m .image) })
+    rw shape (record { node = suc (m .node); result = fork (m .result) r; counted = omega arith; lacks = m .lacks; made = left-evolves s l r (m .node) z; image = cc (m .image) })
 inner-move (aor {A = A} {B = B} d) s t e =
     let (l, r, shape, left, right) = of-ongoing s (orElse′ A B) t e in
     let m = inner-move d s r right in
     let k = m .counted in
     let z = m .made in
-    let on = out-of-range s l (m .node) in
-    rw shape (record { node = suc (nodes l + m .node); result = fork l (m .result); counted = omega arith; lacks = m .lacks; made = rw (on, z); image = cc (m .image) })
+    rw shape (record { node = suc (nodes l + m .node); result = fork l (m .result); counted = omega arith; lacks = m .lacks; made = right-evolves s l r (m .node) z; image = cc (m .image) })
 
 -- ---- what stands for a process
 
@@ -378,18 +379,18 @@ two-moves : (bs : List ℕ) (t : Table) → AcceptsTable bs t → (h : Configura
     HasChoices (COM a) h P′ (h .counts)
 unfolding HasChoices Bounded addToken
 two-moves bs t acc h ok P s a P′ m b g =
-    next (one-rule (t .terms) h ok P s (OUT a) (m .between) (m .gaining) (m .puts) (rw (m .adds .added) g, few))
+    next (one-rule (t .terms) h ok P s (OUT a) (m .between) (addToken (h .counts) a) (m .puts) (g, few))
   where
     few : parallel (m .between) ≤ 64
     few = let y = out-leaves-fewer (m .puts) in let z = stands-length s in let w = ok .few in omega arith
 
-    next : HasChoices (by (OUT a)) h (m .between) (m .gaining) → HasChoices (COM a) h P′ (h .counts)
+    next : HasChoices (by (OUT a)) h (m .between) (addToken (h .counts) a) → HasChoices (COM a) h P′ (h .counts)
     next x =
         let (e, f, small, first, reached, between) = x in
         let kept = well-formed-step e (accepted-is-good bs t (acc .1)) ok first in
         let two = one-rule (t .terms) f kept (m .between) between (m .second) P′ (h .counts) (rw reached (m .takes)) b in
         let (d, g′, small′, then, left, result) = two in
-        (e, f, d, m .second, g′, small, small′, first, then, m .one, left, result)
+        (e, f, d, m .second, g′, small, small′, first, then, m .takes-one, left, result)
 
 -- each reduction within the limits has its choices, with ATOK's outputs in log order
 pub completeness : Completeness

@@ -16,7 +16,8 @@ use Rattle.semantics.specs.Definitions.Terms.{Expression, endT, retryT, rdT, wt
 use Rattle.semantics.specs.Definitions.Shortage.{Shortage, enough}
 use Rattle.semantics.specs.Definitions.Logs.{emptyLog, shortage, readable, firstReadable}
 use Rattle.semantics.specs.Definitions.Configuration.{Tree, leaf, fork}
-use Rattle.semantics.specs.Definitions.Moves.{evolves, inner, inLeft, atLeaf, reads, atFork}
+use Rattle.semantics.specs.Definitions.Moves.{evolves, inner, atLeaf, reads, atFork}
+use Rattle.theorems.proofs.Walk.{left-evolves}
 use Rattle.theorems.proofs.Measures.{branches-positive}
 use Rattle.theorems.proofs.Lists.{all-append}
 use Rattle.theorems.proofs.Outcome.{firstFrom, readable-empty, readable-write, orElseOf, first-from-empty, first-from-end, first-from-retry, first-from-rd, first-from-wt, first-from-orElse, first-from-unreadable}
@@ -53,10 +54,10 @@ beside (r ∷ rs) t = beside rs (fork t r)
 -- a move in it
 beside-moves : {w : Shortage} (s : State) (rs : List Tree) (t u : Tree) (k : ℕ) (r : Rule) → inner s t k ≡ evolves r w u →
     inner s (beside rs t) (length rs + k) ≡ evolves r w (beside rs u)
-unfolding beside inner inLeft
+unfolding beside
 beside-moves s [] t u k r e = let z : 0 + k ≡ k = omega arith in rw z e
 beside-moves s (x ∷ rs) t u k r e =
-    let z : suc (length rs) + k ≡ length rs + suc k = omega arith in rw z (beside-moves s rs (fork t x) (fork u x) (suc k) r (rw e))
+    let z : suc (length rs) + k ≡ length rs + suc k = omega arith in rw z (beside-moves s rs (fork t x) (fork u x) (suc k) r (left-evolves s t x k e))
 
 -- at its root
 beside-root : {w : Shortage} (s : State) (rs : List Tree) (t u : Tree) (r : Rule) → inner s t 0 ≡ evolves r w u → inner s (beside rs t) (length rs) ≡ evolves r w (beside rs u)

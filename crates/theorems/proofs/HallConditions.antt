@@ -114,6 +114,11 @@ module _ (table hall : List ℕ) where
         let read : configurationOf (t .terms) hall ≡ some h = rw same at (read-back (t .terms) h good w) in
         size-passes t e (ap length (sym same) ∙ (stored-fits (t .terms) h good w) .1) ∙ ap (formTested t) read
 
+-- what is admitted is what was stored
+pub admitted-stored : (table hall : List ℕ) → Bytes hall → (t : Table) (h : Configuration) → admission table hall ≡ admitted t h →
+    bytesOf h ≡ hall
+admitted-stored table hall bytes t h e = (subst (AdmissionReason table hall) e (admission-reason table hall bytes)) .2
+
 pub hall-numbers : HallNumbers
 unfolding HallNumbers
 hall-numbers table hall _ bytes =

@@ -9,18 +9,19 @@ use mathlib.Core.List.{List, [], _∷_}
 use lib.ListN.{length, getElem?}
 use Rattle.calculus.specs.Syntax.{Name, State, Process, par}
 use Rattle.calculus.specs.State.{Plus}
-use Rattle.calculus.specs.Reduction.{Rule, OUT, by, COM, AnyOrder, Reduces, COMl, COMr, PARL, PARR}
+use Rattle.calculus.specs.Reduction.{Rule, OUT, by, COM, AnyOrder, LogOrder, Reduces, COMl, COMr, PARL, PARR}
 use Rattle.calculus.proofs.Reductions.{out-adds}
 use Rattle.semantics.specs.Definitions.Basics.{replaceAt, All}
 use Rattle.semantics.specs.Definitions.Logs.{addToken}
 use Rattle.semantics.specs.Definitions.Configuration.{Component, Configuration}
-use Rattle.semantics.specs.Claims.Denotation.{componentProcess, Denotes, nothing, alone, beside, WithinLimits}
+use Rattle.semantics.specs.Claims.Denotation.{componentProcess, Denotes, nothing, alone, beside, Bounded, WithinLimits}
 use Rattle.semantics.specs.Claims.Correspondence.{TakesOne, HandoverIsCOM}
+use Rattle.semantics.specs.Checks.Handovers.{HandoversIn, HandoversBounded}
 use Rattle.theorems.proofs.Lists.{none-found}
 use Rattle.theorems.proofs.GoodTable.{accepted-is-good}
 use Rattle.theorems.proofs.WellFormedKept.{well-formed-step}
 use Rattle.theorems.proofs.Soundness.{in-either, reduces-at, OneReduces, one-reduces}
-use Rattle.theorems.proofs.Communication.{one-is-taken}
+use Rattle.theorems.proofs.Communication.{one-is-taken, communication}
 use Rattle.theorems.proofs.Completeness.{stands-length, spent-back, out-leaves-fewer}
 
 -- ---- two components that reduce
@@ -96,3 +97,16 @@ handover-is-com bs t acc h ok a e f q d r g q′ one P s =
     let few = stands-length stands in
     let gaining : All (λ c. c ≤ 255) (addToken (h .counts) a) = rw (← (out-adds (x .reduces) .added)) (between .channelCounts .1) in
     (P′, reduces, same, stands, ((ok .channelCounts .1, let n = last .few in omega arith), gaining))
+
+-- ---- between the two moves
+
+bounded-in : (Order : List Name → List Name → Type 0) → HandoversIn Order
+unfolding WithinLimits Bounded addToken
+bounded-in Order a P P′ σ σ′ d =
+    let (two, same) = communication Order d in
+    let fewer = out-leaves-fewer (two .puts) in
+    (same, two, fewer, λ few. (λ w. ((w .1, omega arith), w .0), λ b. (b .1, b .0 .0)))
+
+pub handovers-bounded : HandoversBounded
+unfolding HandoversBounded
+handovers-bounded = (bounded-in AnyOrder, bounded-in LogOrder)

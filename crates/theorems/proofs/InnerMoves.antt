@@ -19,6 +19,7 @@ use Rattle.semantics.specs.Definitions.Configuration.{Tree, leaf, fork, Compone
 use Rattle.semantics.specs.Definitions.Stored.{ComponentOk}
 use Rattle.semantics.specs.Definitions.Moves.{inside, moved, moves, answerTo, Inner, evolves, noRule, outOfRange, inner, innerLocal, ruleNumber}
 use Rattle.semantics.specs.Claims.InnerMoves.{weight, Settled, Moves, unmoved, movedOn, MovesLowerWeight, MovesGoOn, SettledHasNoRule, OneOutcome, MovesSettleFirstPath}
+use Rattle.theorems.proofs.Walk.{left-evolves}
 use Rattle.theorems.proofs.Measures.{tree-branches-positive}
 use Rattle.theorems.proofs.Lists.{found-below, length-replaceAt, all-at}
 use Rattle.theorems.proofs.Moves.{positionOf, localMove, accepted-inverts, Moving, inner-induction}
@@ -57,8 +58,8 @@ read-mover s n a M δ = go (readable s (δ ++ (rd a ∷ []))) refl
 
 -- a move in the left side of a fork is a move of the fork
 left-mover : (s : State) (l r : Tree) → Mover s l → Mover s (fork l r)
-unfolding inner branchesOf
-left-mover s l r (k, e, w, u, q, h) = let g = tree-branches-positive r in (suc k, e, w, fork u r, rw q, omega arith)
+unfolding branchesOf
+left-mover s l r (k, e, w, u, q, h) = let g = tree-branches-positive r in (suc k, e, w, fork u r, left-evolves s l r k q, omega arith)
 
 -- there is such a node in every tree that is not settled
 pub mover : (s : State) (t : Tree) → ¬ Settled t → Mover s t
@@ -196,7 +197,7 @@ inside-moved σ p k n M s u r w σ′ cs q = go (inner s u k) refl q
         (v : Tree) × (inner s u k ≡ evolves r w v) × (σ ≡ σ′) × (transaction n M s v ∷ [] ≡ cs)
     go (evolves r′ w′ v) i q = let z : r′ ≡ r = cc in let y : w′ ≡ w = cc in (v, i ∙ rw (z, y), cc, cc)
     go noRule i q = let z : _≡_ {A = ℕ} 0 1 = cc in absurd (omega arith)
-    go (outOfRange j) i q = let z : _≡_ {A = ℕ} 0 1 = cc in absurd (omega arith)
+    go outOfRange i q = let z : _≡_ {A = ℕ} 0 1 = cc in absurd (omega arith)
 
 -- an accepted move inside the attempt at p is a move of its nodes, and changes nothing else
 pub inside-alone : (h : Configuration) (p k n : ℕ) (M : Expression) (s : State) (u : Tree) →

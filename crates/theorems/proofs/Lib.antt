@@ -8,6 +8,7 @@ pub mod GoodTable
 pub mod Trees
 pub mod RoundTrip
 pub mod StoredBytes
+pub mod Walk
 pub mod Moves
 pub mod WellFormedKept
 pub mod Soundness

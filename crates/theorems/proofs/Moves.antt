@@ -17,17 +17,10 @@ use Rattle.semantics.specs.Definitions.Terms.{Expression, endT, retryT, rdT, wt
 use Rattle.semantics.specs.Definitions.Shortage.{Shortage}
 use Rattle.semantics.specs.Definitions.Logs.{readable}
 use Rattle.semantics.specs.Definitions.Configuration.{Tree, leaf, fork, Component, Configuration, nodes}
-use Rattle.semantics.specs.Definitions.Moves.{Entry, act, inside, LocalAnswer, moves, blocked, acts, Inner, evolves, noRule, outOfRange, atLeaf, atFork, inRight, inLeft, inner, actsInside, Response, does, refuses, applyAt, atPosition, respondTo, Answer, moved, refused, answerOf, answerTo}
+use Rattle.semantics.specs.Definitions.Moves.{Entry, act, inside, LocalAnswer, moves, blocked, acts, Inner, evolves, noRule, outOfRange, atLeaf, atFork, atNode, inner, actsInside, Response, does, refuses, applyAt, atPosition, respondTo, Answer, moved, refused, answerOf, answerTo}
 use Rattle.semantics.specs.Definitions.Run.{ScheduleItem, entry, malformed, entries, Counters, counted, RunAnswer, continueRun, runFrom, Step, continueSteps, steps}
+use Rattle.theorems.proofs.Walk.{inLeft, inRight, node-induction}
 use Rattle.theorems.proofs.Reading.{by-cases}
-
--- counting on behind a tree's nodes leads past the tree
-pub out-of-range : (s : State) (t : Tree) (j : ℕ) → inner s t (nodes t + j) ≡ outOfRange j
-unfolding inner nodes inLeft inRight
-out-of-range s (leaf M δ) j = let z : 1 + j ≡ suc j = omega arith in rw z
-out-of-range s (fork l r) j =
-    let z : 1 + (nodes l + nodes r) + j ≡ suc (nodes l + (nodes r + j)) = omega arith in
-    rw (z, out-of-range s l (nodes r + j), out-of-range s r j)
 
 -- the position that an entry names
 unfoldable pub positionOf : Entry → ℕ
@@ -130,7 +123,7 @@ accepted-made h e r σ c cs f l k = ap answerOf (response-made h e r σ c cs f l
 abbrev pub Moving : (Tree → Rule → Tree → Type 0) → Tree → Inner → Type 0
 Moving Q t (evolves r w u) = Q t r u
 Moving Q t noRule = Unit {0}
-Moving Q t (outOfRange k) = Unit {0}
+Moving Q t outOfRange = Unit {0}
 
 -- it holds of each of the six rules, and of a fork where it holds of the side that moves
 pub record EachRule (s : State) (Q : Tree → Rule → Tree → Type 0) : Type 0 where
@@ -168,24 +161,25 @@ module _ {s : State} {Q : Tree → Rule → Tree → Type 0} (each : EachRule s 
   unfolding inRight
   right-moving l r (evolves e w u) h = each .aor l r u e h
   right-moving l r noRule h = tt
-  right-moving l r (outOfRange k) h = tt
+  right-moving l r outOfRange h = tt
 
-  -- in its left side, or past it
-  left-moving : (l r : Tree) (i : Inner) (next : ℕ → Inner) → Moving Q l i → ((j : ℕ) → Moving Q (fork l r) (next j)) → Moving Q (fork l r) (inLeft r i next)
+  -- in its left side
+  left-moving : (l r : Tree) (i : Inner) → Moving Q l i → Moving Q (fork l r) (inLeft r i)
   unfolding inLeft
-  left-moving l r (evolves e w u) next h f = each .aol l r u e h
-  left-moving l r noRule next h f = tt
-  left-moving l r (outOfRange j) next h f = f j
+  left-moving l r (evolves e w u) h = each .aol l r u e h
+  left-moving l r noRule h = tt
+  left-moving l r outOfRange h = tt
+
+  -- at a node
+  node-moving : (t : Tree) → Moving Q t (atNode s t)
+  unfolding atNode
+  node-moving (leaf M δ) = leaf-moving M δ
+  node-moving (fork l r) = fork-moving l r
 
   -- it holds of every move inside
   pub inner-induction : (t : Tree) (k : ℕ) → Moving Q t (inner s t k)
-  unfolding inner
-  inner-induction (leaf M δ) zero = leaf-moving M δ
-  inner-induction (leaf M δ) (suc k) = tt
-  inner-induction (fork l r) zero = fork-moving l r
-  inner-induction (fork l r) (suc k) =
-      left-moving l r (inner s l k) (λ j. inRight l (inner s r j)) (inner-induction l k)
-      (λ j. right-moving l r (inner s r j) (inner-induction r j))
+  inner-induction =
+      node-induction s (λ t k i. Moving Q t i) node-moving (λ l r k h. left-moving l r) (λ l r j. right-moving l r) (λ t k h. tt)
 
 -- ---- a run
 

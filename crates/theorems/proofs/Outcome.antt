@@ -178,7 +178,7 @@ faithful-start s M = record { comes = outcome-start s M; logs = readable-start s
 abbrev pub StaysFaithful : State → Expression → Inner → Type 0
 StaysFaithful s M (evolves r w u) = Faithful s M u
 StaysFaithful s M noRule = Unit {0}
-StaysFaithful s M (outOfRange k) = Unit {0}
+StaysFaithful s M outOfRange = Unit {0}
 
 -- every move inside keeps it so
 pub faithful-move : (s : State) (M : Expression) (t : Tree) (k : ℕ) → Faithful s M t → StaysFaithful s M (inner s t k)
@@ -187,7 +187,7 @@ faithful-move s M t k f = go (inner s t k) (inner-keeps s t k)
     go : (i : Inner) → Moving (Keeps s) t i → StaysFaithful s M i
     go (evolves r w u) h = let k = h (f .logs) in record { comes = k .0 ∙ f .comes; logs = k .1 }
     go noRule h = tt
-    go (outOfRange j) h = tt
+    go outOfRange h = tt
 
 -- at a single end leaf the log is the first readable path
 pub faithful-end : (s : State) (M : Expression) (n : ℕ) (δ : Log) → Faithful s M (leaf (endT n) δ) → firstReadable s M ≡ some δ

@@ -111,7 +111,7 @@ inside-steps σ j p k i n M s u = go (inner s u k) refl (inner-rule s u k)
         Steps σ j (tries i n M s u) (inside p k) (innerLocal σ n M s x)
     go (evolves r w v) e late = (tries i n M s v ∷ [], refl, evolved p k i n M s u v r e late)
     go noRule e late = tt
-    go (outOfRange m) e late = tt
+    go outOfRange e late = tt
 
 -- either kind at any component
 local-steps : (σ : State) (j : ℕ) (z : Live) (e : Entry) → Steps σ j z e (localMove σ (component z) e)

@@ -23,10 +23,11 @@ use Rattle.semantics.specs.Definitions.Logs.{emptyLog, readable, addToken, take
 use Rattle.semantics.specs.Definitions.Configuration.{taking, repeating, block, output, Tree, leaf, fork, Component, idle, transaction, Configuration, nodes, opens}
 use Rattle.semantics.specs.Definitions.Stored.{ComponentOk, WellFormed}
 use Rattle.semantics.specs.Claims.Denotation.{expr, proc, ongoingOf, componentProcess, Denotes, nothing, alone, beside}
-use Rattle.semantics.specs.Definitions.Moves.{Entry, act, inside, LocalAnswer, moves, blocked, ends, acts, Inner, evolves, noRule, outOfRange, atLeaf, atFork, inRight, inLeft, inner, innerLocal, actsInside, Answer, moved, refused, answerTo, ruleNumber}
+use Rattle.semantics.specs.Definitions.Moves.{Entry, act, inside, LocalAnswer, moves, blocked, ends, acts, Inner, evolves, noRule, outOfRange, atLeaf, atFork, atNode, inner, innerLocal, actsInside, Answer, moved, refused, answerTo, ruleNumber}
 use Rattle.semantics.specs.Checks.AcceptedTables.{GoodTable}
 use Rattle.semantics.specs.Definitions.Run.{ScheduleItem, Counters, counted, runFrom, run, Step, continueSteps, steps, schedule, entries}
 use Rattle.semantics.specs.Claims.Correspondence.{OpeningDenotes, OneReduction, Soundness, AtChosen, Located, Chain, RunSoundness}
+use Rattle.theorems.proofs.Walk.{inLeft, inRight, node-induction}
 use Rattle.theorems.proofs.Lists.{none-found, found-left, found-right, replaceAt-left, replaceAt-right, all-at}
 use Rattle.theorems.proofs.Readable.{readable-included, unreadable-not-included}
 use Rattle.theorems.proofs.Moves.{positionOf, localMove, accepted-inverts, run-induction}
@@ -84,11 +85,11 @@ unfolding nodes nodesOf ongoingOf
 nodes-ongoing s (leaf M δ) = refl
 nodes-ongoing s (fork l r) = let h = nodes-ongoing s l in let g = nodes-ongoing s r in omega arith
 
--- at node k it is one step of the ongoing expression at that node; what is past the tree is counted on behind it
+-- at node k it is one step of the ongoing expression at that node, or k lies past the tree
 abbrev InnerSound : State → Tree → ℕ → Inner → Type 0
 InnerSound s t k (evolves r w u) = EvolvesAt k r (ongoingOf s t) (ongoingOf s u)
 InnerSound s t k noRule = Unit {0}
-InnerSound s t k (outOfRange j) = k ≡ nodes t + j
+InnerSound s t k outOfRange = nodes t ≤ k
 
 -- at a leaf: ARDOK or ARDF, AWR, AOI
 atLeaf-sound : (s : State) (M : Expression) (δ : Log) → InnerSound s (leaf M δ) 0 (atLeaf s M δ)
@@ -118,25 +119,26 @@ inRight-sound : (s : State) (l r : Tree) (k : ℕ) (x : Inner) → InnerSound s 
 unfolding inRight ongoingOf nodes nodeOf
 inRight-sound s l r k (evolves e w u) h = (aor (h .0), let n = nodes-ongoing s l in let m = h .1 in omega arith)
 inRight-sound s l r k noRule h = tt
-inRight-sound s l r k (outOfRange j) h = omega arith
+inRight-sound s l r k outOfRange h = omega arith
 
--- in a fork's left side: AOL; or past it
-inLeft-sound : (s : State) (l r : Tree) (k : ℕ) (x : Inner) (right : ℕ → Inner) → InnerSound s l k x →
-    ((j : ℕ) → InnerSound s (fork l r) (suc (nodes l + j)) (right j)) → InnerSound s (fork l r) (suc k) (inLeft r x right)
+-- in a fork's left side: AOL
+inLeft-sound : (s : State) (l r : Tree) (k : ℕ) → k < nodes l → (x : Inner) → InnerSound s l k x →
+    InnerSound s (fork l r) (suc k) (inLeft r x)
 unfolding inLeft ongoingOf nodeOf
-inLeft-sound s l r k (evolves e w u) right h f = (aol (h .0), ap suc (h .1))
-inLeft-sound s l r k noRule right h f = tt
-inLeft-sound s l r k (outOfRange j) right h f = rw h (f j)
+inLeft-sound s l r k b (evolves e w u) h = (aol (h .0), ap suc (h .1))
+inLeft-sound s l r k b noRule h = tt
+inLeft-sound s l r k b outOfRange h = absurd (omega arith)
+
+-- at the root
+atNode-sound : (s : State) (t : Tree) → InnerSound s t 0 (atNode s t)
+unfolding atNode
+atNode-sound s (leaf M δ) = atLeaf-sound s M δ
+atNode-sound s (fork l r) = atFork-sound s l r
 
 -- at any node
 inner-sound : (s : State) (t : Tree) (k : ℕ) → InnerSound s t k (inner s t k)
-unfolding inner nodes
-inner-sound s (leaf M δ) zero = atLeaf-sound s M δ
-inner-sound s (leaf M δ) (suc k) = omega arith
-inner-sound s (fork l r) zero = atFork-sound s l r
-inner-sound s (fork l r) (suc k) =
-    inLeft-sound s l r k (inner s l k) (λ j. inRight l (inner s r j)) (inner-sound s l k)
-    (λ j. inRight-sound s l r j (inner s r j) (inner-sound s r j))
+inner-sound s =
+    node-induction s (λ t k x. InnerSound s t k x) (atNode-sound s) (inLeft-sound s) (inRight-sound s) (λ t k h. h)
 
 -- ---- a move of one component
 
@@ -192,7 +194,7 @@ innerLocal-sound : (σ : State) (n : ℕ) (M : Expression) (s : State) (t : Tree
 unfolding innerLocal
 innerLocal-sound σ n M s t k (evolves r w u) h = (n, M, s, t, u, refl, h, refl, refl)
 innerLocal-sound σ n M s t k noRule h = tt
-innerLocal-sound σ n M s t k (outOfRange j) h = tt
+innerLocal-sound σ n M s t k outOfRange h = tt
 
 actsInside-sound : (σ : State) (c : Component) (k : ℕ) → InsideSound σ c k (actsInside σ c k)
 unfolding actsInside

@@ -17,12 +17,13 @@ use Rattle.semantics.specs.Definitions.Terms.{Expression, endT, retryT, rdT, wt
 use Rattle.semantics.specs.Definitions.Shortage.{Shortage, enough}
 use Rattle.semantics.specs.Definitions.Logs.{emptyLog, shortage, readable, addToken, takeToken}
 use Rattle.semantics.specs.Definitions.Configuration.{Idle, taking, repeating, block, output, Tree, leaf, fork, Component, idle, transaction, Configuration, opens, nodes}
-use Rattle.semantics.specs.Definitions.Moves.{Entry, act, inside, LocalAnswer, moves, blocked, takes, puts, commits, ends, acts, Inner, evolves, noRule, outOfRange, reads, atLeaf, atFork, inLeft, inRight, inner, innerLocal, actsInside, does, respondTo, ruleNumber}
+use Rattle.semantics.specs.Definitions.Moves.{Entry, act, inside, LocalAnswer, moves, blocked, takes, puts, commits, ends, acts, Inner, evolves, noRule, outOfRange, reads, atLeaf, atFork, atNode, inner, innerLocal, actsInside, does, respondTo, ruleNumber}
 use Rattle.semantics.specs.Checks.StatedMoves.{OpensInto, nil-opens, put-opens, take-opens, repeat-opens, par-opens, atom-opens, GivesWay, at-first, further, NodeBecomes, at-root, at-left, at-right, NodeMoves, ardok8, ardf9, awr10, aoi11, aof12, aoe13, MoveAsStated, out1, in2, rep3, atst4, atre5, atfail6, atok7, inside8-13, OpensAsStated, MovesAsStated}
+use Rattle.theorems.proofs.Walk.{inLeft, inRight, left-evolves, right-evolves, node-induction}
 use Rattle.theorems.proofs.Lists.{none-found, found-below, length-replaceAt}
 use Rattle.theorems.proofs.Readable.{readable-included, included-readable, unreadable-short, short-unreadable}
 use Rattle.theorems.proofs.Reading.{by-cases}
-use Rattle.theorems.proofs.Moves.{positionOf, localMove, out-of-range, response-inverts, response-made}
+use Rattle.theorems.proofs.Moves.{positionOf, localMove, response-inverts, response-made}
 
 -- ---- what a process opens into
 
@@ -72,12 +73,12 @@ way-placed (further {d = d} w) = ap (_∷_ d) (way-placed w)
 
 -- ---- at a node
 
--- from the definition: a node that is found, with its move, or that lies past the tree
+-- from the definition: a node that is found, with its move
 abbrev pub InnerPrinted : State → Tree → ℕ → Inner → Type 0
 InnerPrinted s t k (evolves r w u) =
     (old : Tree) × (new : Tree) × NodeBecomes k old new t u × NodeMoves s old r (ruleNumber r) w new
 InnerPrinted s t k noRule = Unit {0}
-InnerPrinted s t k (outOfRange j) = k ≡ nodes t + j
+InnerPrinted s t k outOfRange = Unit {0}
 
 -- at a leaf
 leaf-printed : (s : State) (M : Expression) (δ : Log) → InnerPrinted s (leaf M δ) 0 (atLeaf s M δ)
@@ -108,24 +109,25 @@ right-printed : (s : State) (l r : Tree) (j : ℕ) (i : Inner) → InnerPrinted 
 unfolding inRight nodes
 right-printed s l r j (evolves e w v) (old, new, b, m) = (old, new, at-right b, m)
 right-printed s l r j noRule h = tt
-right-printed s l r j (outOfRange k) h = omega arith
+right-printed s l r j outOfRange h = tt
 
--- in its left side, or past it
-left-printed : (s : State) (l r : Tree) (k : ℕ) (i : Inner) (right : ℕ → Inner) → InnerPrinted s l k i →
-    ((j : ℕ) → InnerPrinted s r j (right j)) → InnerPrinted s (fork l r) (suc k) (inLeft r i (λ j. inRight l (right j)))
+-- in its left side
+left-printed : (s : State) (l r : Tree) (k : ℕ) (i : Inner) → InnerPrinted s l k i → InnerPrinted s (fork l r) (suc k) (inLeft r i)
 unfolding inLeft
-left-printed s l r k (evolves e w v) right (old, new, b, m) g = (old, new, at-left b, m)
-left-printed s l r k noRule right h g = tt
-left-printed s l r k (outOfRange j) right h g = rw h (right-printed s l r j (right j) (g j))
+left-printed s l r k (evolves e w v) (old, new, b, m) = (old, new, at-left b, m)
+left-printed s l r k noRule h = tt
+left-printed s l r k outOfRange h = tt
+
+-- at the root
+node-printed : (s : State) (t : Tree) → InnerPrinted s t 0 (atNode s t)
+unfolding atNode
+node-printed s (leaf M δ) = leaf-printed s M δ
+node-printed s (fork l r) = fork-printed s l r
 
 -- at any node
 pub inner-printed : (s : State) (t : Tree) (k : ℕ) → InnerPrinted s t k (inner s t k)
-unfolding inner nodes
-inner-printed s (leaf M δ) zero = leaf-printed s M δ
-inner-printed s (leaf M δ) (suc k) = omega arith
-inner-printed s (fork l r) zero = fork-printed s l r
-inner-printed s (fork l r) (suc k) =
-    left-printed s l r k (inner s l k) (inner s r) (inner-printed s l k) (inner-printed s r)
+inner-printed s =
+    node-induction s (λ t k i. InnerPrinted s t k i) (node-printed s) (λ l r k h. left-printed s l r k) (right-printed s) (λ t k h. tt)
 
 -- a node that moves as printed moves by itself
 root-moves : {s : State} {old new : Tree} {r : Rule} {n : ℕ} {w : Shortage} → NodeMoves s old r n w new →
@@ -141,10 +143,9 @@ root-moves aoe13 = (refl, refl)
 -- and a node that moves by itself moves in its tree
 node-moves : {k : ℕ} {old new t u : Tree} {w : Shortage} (s : State) (r : Rule) → NodeBecomes k old new t u →
     inner s old 0 ≡ evolves r w new → inner s t k ≡ evolves r w u
-unfolding inner inLeft inRight
 node-moves s e at-root q = q
-node-moves s e (at-left b) q = rw (node-moves s e b q)
-node-moves s e (at-right {k = k} {l = l} b) q = rw (out-of-range s l k, node-moves s e b q)
+node-moves s e (at-left {k = k} {l = l} {r = r} b) q = left-evolves s l r k (node-moves s e b q)
+node-moves s e (at-right {k = k} {l = l} {r = r} b) q = right-evolves s l r k (node-moves s e b q)
 
 -- ---- taking a token
 
@@ -221,7 +222,7 @@ module _ (h : Configuration) (p : ℕ) where
       go : (i : Inner) → InnerPrinted s t k i → LocalPrinted (inside p k) (innerLocal (h .counts) n M s i)
       go (evolves r w u) q = λ fits. inside8-13 (gives-way (h .components) p _ _ e) (q .2) (q .3)
       go noRule q = tt
-      go (outOfRange j) q = tt
+      go outOfRange q = tt
 
 -- what an entry asks of the component at its position
 local-printed : (h : Configuration) (e : Entry) (c : Component) → getElem? (h .components) (positionOf e) ≡ some c →

@@ -32,7 +32,7 @@ use Rattle.theorems.proofs.GoodTable.{accepted-is-good}
 use Rattle.theorems.proofs.Shortages.{Found, shortage-found, found-is}
 use Rattle.theorems.proofs.Readable.{readable-included, included-readable}
 use Rattle.theorems.proofs.WellFormedKept.{leaf-parts}
-use Rattle.theorems.proofs.ChoiceConditions.{length-preorder, node-left, node-right}
+use Rattle.theorems.proofs.Walk.{length-preorder, node-left, node-right}
 use Rattle.theorems.proofs.StatedMoves.{way-found, chosen-printed}
 use Rattle.theorems.proofs.Outcome.{LogsReadable, faithful-start}
 use Rattle.theorems.proofs.InnerMoves.{moves-keep}

@@ -192,7 +192,7 @@ module _ {ts : List Term} (good : GoodTable ts) where
       let (tree, fewer) = i (k .2) in
       let few = k .3 in (h, ((k .0, k .1, tree, omega arith), tt))
   innerLocal-ok σ n M s t noRule h k i = tt
-  innerLocal-ok σ n M s t (outOfRange j) h k i = tt
+  innerLocal-ok σ n M s t outOfRange h k i = tt
 
   -- kind 2 at a component
   actsInside-ok : (σ : State) (c : Component) (j : ℕ) → ByteCounts σ → ComponentOk ts c → LocalOk ts (actsInside σ c j)

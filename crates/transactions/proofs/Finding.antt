@@ -9,7 +9,9 @@ use Rattle.calculus.specs.Syntax.{rd}
 use Rattle.semantics.specs.Definitions.Shortage.{enough, short, isEnough}
 use Rattle.semantics.specs.Definitions.Terms.{rdT}
 use Rattle.semantics.specs.Definitions.Logs.{shortage, readable}
-use Rattle.semantics.specs.Definitions.Moves.{reads, atLeaf, atFork, inner}
+use Rattle.semantics.specs.Definitions.Configuration.{leaf}
+use Rattle.semantics.specs.Definitions.Moves.{reads, atLeaf, atFork, atNode, inner}
+use Rattle.theorems.proofs.Walk.{inner-root}
 use Rattle.terms.specs.Decoded.{channels}
 use Rattle.rules.specs.declared.Shortage.{Shortage}
 use Rattle.rules.specs.declared.Shortage.the-variants.{Enough, Short}
@@ -76,12 +78,12 @@ module _ (d s : List ℕ) (snapshot at : ℕ) where
           let l : LeafAt (x .terms) (rdT n a M) δ d s at = leaf-at (rw e at (x .there .tree)) in l .fields .2
 
       pub read-rule : {r : Reply} → ReadTried s snapshot at a r → RuleRead d s snapshot at r
-      unfolding inner atLeaf
+      unfolding atNode
       read-rule tried = record {
         found = λ ts u σ y.
             let (n, M, δ, e) = redex-here read is (y .tree) in
             let l : LeafAt ts (rdT n a M) δ d s at = leaf-at (rw e at (y .tree)) in
-            rw e (tried .found δ σ M (record { size = l .size; log = l .log; counts = y .counts }));
+            rw (e, inner-root σ (leaf (rdT n a M) δ)) (tried .found δ σ M (record { size = l .size; log = l .log; counts = y .counts }));
       }
 
     pub write-rule : {a : ℕ} → w ≡ Write a → RuleRead d s snapshot at (Moved 10 Enough)

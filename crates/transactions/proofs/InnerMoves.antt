@@ -15,7 +15,8 @@ use Rattle.semantics.specs.Definitions.Shortage.{Shortage, enough}
 use Rattle.semantics.specs.Definitions.Logs.{shortage, readable}
 use Rattle.semantics.specs.Definitions.Configuration.{Tree, leaf, fork, Component, transaction, Configuration}
 use Rattle.semantics.specs.Definitions.Stored.{actionByte, treeBytes}
-use Rattle.semantics.specs.Definitions.Moves.{evolves, reads, atLeaf, atFork, inner, inside, answerTo, ruleNumber}
+use Rattle.semantics.specs.Definitions.Moves.{evolves, reads, atLeaf, atFork, atNode, inner, inside, answerTo, ruleNumber}
+use Rattle.theorems.proofs.Walk.{inner-root}
 use Rattle.terms.specs.Decoded.{secondAt}
 use Rattle.stored.specs.Layout.{forkKind, leafSize, leafTerm, leafLog, logSize, noRecord, readOffset, writeOffset}
 use Rattle.stored.specs.Nodes.{treeEnd}
@@ -89,8 +90,8 @@ module _ {ts : List Term} {h : Configuration} {d s starts : List ℕ} {n p k rul
   module _ {m : ℕ} {a : Name} {M : Expression} {δ : Log} where
     module _ (was : i .subtree ≡ leaf (rdT m a M) δ) where
       tries : reads (i .snapshot) a M δ ≡ evolves (i .by) (i .lacks) (i .becomes)
-      unfolding inner atLeaf
-      tries = rw was at (i .steps)
+      unfolding atNode
+      tries = sym (inner-root (i .snapshot) (leaf (rdT m a M) δ)) ∙ (rw was at (i .steps))
 
       pub ardok-link : rule ≡ 8 → Stored (logged d s at (readOffset + a))
       unfolding actionByte pathLength

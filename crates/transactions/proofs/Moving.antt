@@ -91,7 +91,7 @@ module _ {ts : List Term} {h : Configuration} {d s starts : List ℕ} {n p k rul
             after = rw q is;
           }
       byInner r lacks g laid q number placed m M σ t e y u w noRule i f = let z : _≡_ {A = ℕ} 0 1 = cc in absurd (omega arith)
-      byInner r lacks g laid q number placed m M σ t e y u w (outOfRange j) i f =
+      byInner r lacks g laid q number placed m M σ t e y u w outOfRange i f =
           let z : _≡_ {A = ℕ} 0 1 = cc in absurd (omega arith)
 
       byComponent : (r : Rule) (lacks : Shortage) (g : Configuration) (laid : List Component) → answerTo h (inside p k) ≡ moved r g →

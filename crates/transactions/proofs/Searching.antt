@@ -52,7 +52,7 @@ module _ {ts : List Term} {h : Configuration} {s starts : List ℕ} {n : ℕ} (x
           (response-made h (inside p k) r {w = w} (h .counts) (transaction m M σ t) (transaction m M σ u ∷ []) e (rw q)
           (omega arith))
       go noRule q = rw (chosen-at h (inside p k) (transaction m M σ t) e, q)
-      go (outOfRange j) q = rw (chosen-at h (inside p k) (transaction m M σ t) e, q)
+      go outOfRange q = rw (chosen-at h (inside p k) (transaction m M σ t) e, q)
 
   -- at a node
   pub reply-node : (k : ℕ) (y : Context) (u : Tree) → subtreeAt t k ≡ node y u →
@@ -63,10 +63,10 @@ module _ {ts : List Term} {h : Configuration} {s starts : List ℕ} {n : ℕ} (x
       go : (I : Inner) → innerReply (around y I) ≡ innerReply I
       go (evolves r w v) = refl
       go noRule = refl
-      go (outOfRange j) = refl
+      go outOfRange = refl
 
   -- past the last one
-  pub reply-past : (k j : ℕ) → subtreeAt t k ≡ beyond j → replyOf (respondTo h (inside p k)) ≡ innerReply (outOfRange j)
+  pub reply-past : (k j : ℕ) → subtreeAt t k ≡ beyond j → replyOf (respondTo h (inside p k)) ≡ innerReply outOfRange
   reply-past k j f = reply-inside k ∙ ap innerReply (inner-past σ t k j f)
 
 -- ---- an open transaction

@@ -28,7 +28,7 @@ unfoldable pub innerReply : Inner → Reply
 unfolding ruleNumber
 innerReply (evolves r w t) = movedBy (ruleNumber r) w
 innerReply noRule = refusedBy 17
-innerReply (outOfRange k) = refusedBy 16
+innerReply outOfRange = refusedBy 16
 
 -- ---- a read
 

@@ -7,13 +7,14 @@ use mathlib.Core.Path.{_≡_}
 use mathlib.Core.Logic.{_≢_}
 use mathlib.Core.List.{List, [], _∷_, _++_}
 use lib.ListN.{length, take}
+use Rattle.semantics.specs.Definitions.Basics.{Bytes}
 use Rattle.semantics.specs.Definitions.Table.{Table}
 use Rattle.semantics.specs.Definitions.Configuration.{Configuration}
-use Rattle.semantics.specs.Definitions.Stored.{WellFormed, bytesOf}
-use Rattle.semantics.specs.Definitions.Run.{schedule, entries}
+use Rattle.semantics.specs.Definitions.Stored.{WellFormed, hallBytes, bytesOf}
+use Rattle.semantics.specs.Definitions.Run.{Counters, schedule, entries}
 use Rattle.semantics.specs.Definitions.Calls.{Buffers, Call, runChoices, stepChoice, callBytes, runCall, afterCalls, entriesDone}
 use Rattle.semantics.specs.Claims.Correspondence.{AcceptsTable}
-use Rattle.semantics.specs.Claims.Atomicity.{answers}
+use Rattle.semantics.specs.Claims.Atomicity.{answers, finalBuffers}
 
 -- the bytes of a call: a run's choices; of a step its one choice, or the kind alone where that is neither 1 nor 2
 unfoldable pub CallBytes : Type 0
@@ -37,6 +38,14 @@ CallsInTurn =
     (afterCalls table l all ≡ a .buffers) × (answers table l all ≡ answers table l cs ++ (a ∷ [])) ×
     (entriesDone table l all ≡ entriesDone table l cs ++ take (a .done) (entries (schedule (callBytes c)))) ×
     (length (entriesDone table l all) ≡ length (entriesDone table l cs) + a .done))
+
+-- what a list of calls leaves of a hall just opened is bytes, after each of them: there a step is a run of its choice
+-- (Steps.StepIsCall)
+unfoldable pub HallsAreBytes : Type 0
+unfolding finalBuffers
+HallsAreBytes =
+    (table : List ℕ) (t : Table) → AcceptsTable table t → (buffer : List ℕ) → length buffer ≡ hallBytes →
+    (first : Counters) (cs : List Call) → Bytes ((finalBuffers table t buffer first cs) .hall)
 
 -- where a call does all of its choices, it and the next one are one call on the choices of both
 unfoldable pub CallsCut : Type 0

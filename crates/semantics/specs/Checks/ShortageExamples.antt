@@ -10,8 +10,7 @@ use Rattle.semantics.specs.Definitions.Basics.{countUp}
 use Rattle.semantics.specs.Definitions.Shortage.{Shortage, enough, short, shortageOf}
 use Rattle.semantics.specs.Definitions.Terms.{Expression, endT, retryT, rdT, wtT}
 use Rattle.semantics.specs.Definitions.Configuration.{Tree, leaf, fork, transaction}
-use Rattle.semantics.specs.Definitions.Moves.{Entry, act, inside, respondTo}
-use Rattle.semantics.specs.Definitions.Calls.{shortageIn}
+use Rattle.semantics.specs.Definitions.Moves.{Entry, act, inside, Response, does, refuses, respondTo}
 use Rattle.semantics.specs.Checks.Examples.{numbers, trays}
 
 -- ---- reads and counts
@@ -32,6 +31,11 @@ pub record ReadsShort : Type 0 where
       enough ∷ map (short 7) (countUp 1 16)
 
 -- ---- choices
+
+-- the shortage that a response tells; a refusal tells none
+unfoldable pub shortageIn : Response → Shortage
+shortageIn (does r w h) = w
+shortageIn (refuses n) = enough
 
 -- an attempt alone, with the counts of now and those of its snapshot: what a choice tells
 unfoldable pub toldOn : (present snapshot : State) → Tree → Entry → Shortage

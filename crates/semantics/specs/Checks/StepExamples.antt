@@ -4,10 +4,10 @@
 use Prim.Native.Nat.{ℕ}
 use Prim.Native.String.{String}
 use mathlib.Core.Path.{_≡_}
-use mathlib.Core.List.{List, [], _∷_, _++_}
+use mathlib.Core.List.{List, [], _∷_, _++_, map}
 use Rattle.semantics.specs.Definitions.Shortage.{Shortage, enough, short}
 use Rattle.semantics.specs.Definitions.Run.{Counters}
-use Rattle.semantics.specs.Definitions.Calls.{Buffers, StepCall, stepCall}
+use Rattle.semantics.specs.Definitions.Calls.{Buffers, StepCall, stepCall, stepChoice, callBytes}
 use Rattle.semantics.specs.Checks.Examples.{numbers, trays, hallOf, attempt, leafOf, tally}
 
 -- steps in turn, each a kind, a position and a node
@@ -52,5 +52,13 @@ Told =
     ended : List ℕ
     ended = attempt 2 "9 9 9 9 9 9" (leafOf 0 3 "5 3 3")
 
+-- in a list of calls a step stands for the bytes of its choice: those of kind 1 or 2, and of any other kind that kind alone
+unfoldable pub Written : Type 0
+unfolding numbers callBytes
+Written =
+    map callBytes (stepChoice 0 4 5 ∷ stepChoice 1 4 5 ∷ stepChoice 2 4 5 ∷ stepChoice 7 4 5 ∷ [])
+    ≡ numbers "0" ∷ numbers "1 4" ∷ numbers "2 4 5" ∷ numbers "7" ∷ []
+
 pub record StepExamples : Type 0 where
   pub told : Told
+  pub written : Written

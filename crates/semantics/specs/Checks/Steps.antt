@@ -1,11 +1,13 @@
 -- The step call: one choice, given as three numbers (document 01, "Choices and moves" and "Reasons to turn a request
--- down"). What it answers and leaves is said apart from the definition, which goes through a run over the choice's bytes.
+-- down"). Its four cases as a relation, which is the definition's own telling; and what holds the definition apart from
+-- that: it is a run of that one choice (`StepIsCall`: number, place, hall, tally and rule), and what it tells is the reply to
+-- the choice (`StepReplies`: the shortage).
 -- Assumes nothing.
 use Prim.Native.Nat.{ℕ, _≤_, _<_}
 use mathlib.Core.Path.{_≡_}
 use mathlib.Core.Bool.{cond}
 use mathlib.Core.Logic.{_⊎_, _↔_, _≢_}
-use mathlib.Core.List.{List}
+use mathlib.Core.List.{List, [], _∷_, map}
 use lib.Dec.{eqb}
 use Rattle.calculus.specs.Reduction.{Rule}
 use Rattle.semantics.specs.Definitions.Basics.{Bytes}
@@ -14,8 +16,8 @@ use Rattle.semantics.specs.Definitions.Shortage.{Shortage, enough, short
 use Rattle.semantics.specs.Definitions.Configuration.{Configuration}
 use Rattle.semantics.specs.Definitions.Stored.{bytesOf}
 use Rattle.semantics.specs.Definitions.Moves.{Entry, act, inside, does, refuses, respondTo, ruleNumber, Reply, movedBy, refusedBy, replyOf}
-use Rattle.semantics.specs.Definitions.Run.{counted}
-use Rattle.semantics.specs.Definitions.Calls.{admitted, notAdmitted, admission, Buffers, StepCall, stepCall, stepChoice, callAnswer}
+use Rattle.semantics.specs.Definitions.Run.{counted, steps}
+use Rattle.semantics.specs.Definitions.Calls.{admitted, notAdmitted, admission, Buffers, StepCall, stepCall, stepChoice, callAnswer, callEntries}
 
 -- the choice that a kind, a position and a node name, and how many bytes it has in a schedule: kind 1 has no node, and
 -- one handed in counts for nothing
@@ -51,7 +53,7 @@ pub data StepCallAsStated (table : List ℕ) (l : Buffers) (kind position node :
 -- the definition gives exactly these
 unfoldable pub StepCallsAsStated : Type 0
 StepCallsAsStated =
-    (table : List ℕ) (l : Buffers) → Bytes table → Bytes (l .hall) → (kind position node : ℕ) (a : StepCall) →
+    (table : List ℕ) (l : Buffers) (kind position node : ℕ) (a : StepCall) →
     (stepCall table l kind position node ≡ a) ↔ StepCallAsStated table l kind position node a
 
 -- refused, under any number: no rule, no shortage told, hall and tally as they were; 12, or 14 to 20, at place 0 (13
@@ -83,11 +85,16 @@ StepReplies =
 unfoldable pub NodeOfKind1 : Type 0
 NodeOfKind1 = (table : List ℕ) (l : Buffers) (p k m : ℕ) → stepCall table l 1 p k ≡ stepCall table l 1 p m
 
--- as one of a list of calls it is answered in the same way, with one choice done where it moved and none elsewhere
+-- a step is a run of that one choice, and so it is as one of a list of calls: the same number and place, the same hall and
+-- tally afterwards (every hall in such a list is bytes: CallLists.HallsAreBytes), with one choice done where it moved and
+-- none elsewhere; the rule that it tells is that of the step done
 unfoldable pub StepIsCall : Type 0
 StepIsCall =
     (table : List ℕ) (l : Buffers) (kind position node : ℕ) →
     let a = stepCall table l kind position node in
     let b = callAnswer table l (stepChoice kind position node) in
-    (b .number ≡ a .number) × (b .place ≡ a .place) × (b .buffers ≡ a .buffers) ×
-    ((b .number ≡ 0) ↔ (b .done ≡ 1)) × ((b .number ≢ 0) ↔ (b .done ≡ 0))
+    (b .number ≡ a .number) × (b .place ≡ a .place) × (Bytes (l .hall) → b .buffers ≡ a .buffers) ×
+    ((b .number ≡ 0) ↔ (b .done ≡ 1)) × ((b .number ≢ 0) ↔ (b .done ≡ 0)) ×
+    ((t : Table) (h : Configuration) → admission table (l .hall) ≡ admitted t h →
+    map (λ s. ruleNumber (s .rule)) (steps h (callEntries (stepChoice kind position node)))
+    ≡ cond (eqb (a .number) 0) (a .rule ∷ []) [])

@@ -97,20 +97,20 @@ module _ (table : List ℕ) (t : Table) (buffer : List ℕ) (first : Counters) (
   unfolding atomicRun atomicStart allDone
   atomic = atomicRun (atomicStart t first) allDone
 
-  pub record Demand3 : Type 0 where
-    -- Sentence 1, whatever the calls: none is turned down with 1 to 11, and what they did is one accepted list of
-    -- choices, from the opening to the hall that they leave.
+  -- Sentence 1: after the calls counts, stations and tally are those of the one-step run over the choices done.
+  pub record AsOneStepRun : Type 0 where
+    -- whatever the calls: none is turned down with 1 to 11, and what they did is one accepted list of choices, from the
+    -- opening to the hall that they leave
     pub never-rejected : All (λ a. (a .number ≡ 0) ⊎ (12 ≤ a .number)) (answers table initialBuffers cs)
     pub whole : length (steps (opening t) allDone) ≡ length allDone
     pub hall : finalBuffers .hall ≡ bytesOf (finalConfiguration (opening t) (steps (opening t) allDone))
-    -- Sentence 1, what they leave: read back from its bytes, with attempts as blocks, it is what the one-step run
-    -- has.
+    -- what they leave: read back from its bytes, with attempts as blocks, it is what the one-step run has
     pub after : Configuration
     pub read : configurationOf (t .terms) (finalBuffers .hall) ≡ some after
     pub counts : after .counts ≡ atomic .counts
     pub stations : map rolledBack (after .components) ≡ map (λ x. x .station) (atomic .stations)
     pub tally : finalBuffers .counters ≡ atomic .counters
-    -- Sentence 1, all along the way: the same of the first j choices done, run by themselves.
+    -- all along the way: the same of the first j choices done, run by themselves
     pub each-choice :
         (j : ℕ) →
         let a = run (opening t) first (scheduleBytes (take j allDone)) in
@@ -118,40 +118,52 @@ module _ (table : List ℕ) (t : Table) (buffer : List ℕ) (first : Counters) (
         (a .number ≡ 0) × (a .configuration ≡ finalConfiguration (opening t) (take j (steps (opening t) allDone))) ×
         (a .configuration .counts ≡ o .counts) × (a .counters ≡ o .counters) ×
         (map rolledBack (a .configuration .components) ≡ map (λ x. x .station) (o .stations))
-    -- Sentence 2. What a committed block does happens all at once, at its commit: so the one-step run is defined; with
-    -- `each-choice` the hall has that step's counts and stations right behind the commit. And abandoned attempts: take
-    -- their choices away, and the list is still accepted whole, to the same bytes; the one-step run ends in the same
-    -- state and with as many commits, while failed and retries are the first tally's; all that had an effect is done
-    -- in the same order; no attempt is abandoned.
-    pub unaborted-whole : length (steps (opening t) doneWithoutAborted) ≡ length doneWithoutAborted
-    pub unaborted-hall :
-        bytesOf (finalConfiguration (opening t) (steps (opening t) doneWithoutAborted)) ≡ finalBuffers .hall
-    pub unaborted-atomic :
+
+  -- Sentence 2. What a committed block does happens all at once, at its commit: so the one-step run is defined; with
+  -- `each-choice` the hall has that step's counts and stations right behind the commit. And, but for the tally, abandoned
+  -- attempts never happened: take their choices away, and the list is still accepted whole, to the same bytes; the
+  -- one-step run ends in the same state and with as many commits, while failed and retries are the first tally's; all
+  -- that had an effect is done in the same order; no attempt is abandoned.
+  pub record AbandonedNeverHappened : Type 0 where
+    pub whole : length (steps (opening t) doneWithoutAborted) ≡ length doneWithoutAborted
+    pub hall : bytesOf (finalConfiguration (opening t) (steps (opening t) doneWithoutAborted)) ≡ finalBuffers .hall
+    pub one-step :
         atomicRun (atomicStart t first) doneWithoutAborted
         ≡ record {
           counts = atomic .counts;
           stations = atomic .stations;
           counters = record { commits = atomic .counters .commits; failed = first .failed; retries = first .retries };
         }
-    pub unaborted-effects : effects (steps (opening t) doneWithoutAborted) ≡ effects (steps (opening t) allDone)
-    pub unaborted-none : All (λ u. aborts (u .rule) ≡ false) (steps (opening t) doneWithoutAborted)
-    -- Sentence 3, at every choice done; and all along the way each open attempt is one that its block's moves lead
-    -- to.
-    pub paths : (j : ℕ) (s : Step) → getElem? (steps (opening t) allDone) j ≡ some s → CommitOk t first allDone j s
+    pub same-effects : effects (steps (opening t) doneWithoutAborted) ≡ effects (steps (opening t) allDone)
+    pub none-abandoned : All (λ u. aborts (u .rule) ≡ false) (steps (opening t) doneWithoutAborted)
+
+  -- Sentence 3: a block's path is the first readable at its opening, and at its commit too if no tray gained. It is said
+  -- of every choice done; and all along the way each open attempt is one that its block's moves lead to.
+  pub record FirstReadablePaths : Type 0 where
+    pub commits : (j : ℕ) (s : Step) → getElem? (steps (opening t) allDone) j ≡ some s → CommitOk t first allDone j s
     pub attempts :
         (j : ℕ) → j ≤ length allDone →
         AttemptsOk t first allDone j (finalConfiguration (opening t) (take j (steps (opening t) allDone)))
-    -- Sentence 4 is in the definitions: `finalBuffers` and `allDone` hand hall and tally on from call to call, and `first`
-    -- is any tally (Checks/CallLists says the same of a list's last call).
-    -- Sentence 5: wherever one-step steps lead, each within the limits and each commit by the path that is the first
-    -- readable then, there leads a list of choices too, in bytes, that one call accepts whole and that ends with the
-    -- same counts and stations and no attempt open.
-    pub converse :
+
+  -- Sentence 5, the converse: wherever one-step steps lead, each within the limits and each commit by the path that is the
+  -- first readable then, there leads a list of choices too, in bytes, that one call accepts whole and that ends with the
+  -- same counts and stations and no attempt open.
+  pub record ConverseHolds : Type 0 where
+    pub choices-found :
         (s : PlainState) → ConverseSteps (plainStart t) s →
         (es : List Entry) × Bytes (scheduleBytes es) ×
         ((runCall table initialBuffers (scheduleBytes es)) .number ≡ 0) ×
         ((runCall table initialBuffers (scheduleBytes es)) .done ≡ length es) ×
         ((runCall table initialBuffers (scheduleBytes es)) .buffers .hall ≡ bytesOf (idleConfiguration s))
+
+  -- Demand 3, sentence by sentence. Of sentence 2 the first half, that a block acts in one step at its commit, is the
+  -- one-step run's definition with `each-choice`. Sentence 4 is in the definitions: `finalBuffers` and `allDone` hand hall
+  -- and tally on from call to call, and `first` is any tally (Checks/CallLists says the same of a list's last call).
+  pub record Demand3 : Type 0 where
+    pub as-one-step-run : AsOneStepRun
+    pub abandoned-never-happened : AbandonedNeverHappened
+    pub first-readable-paths : FirstReadablePaths
+    pub converse : ConverseHolds
 
 -- for every accepted table's bytes, any buffer of a hall's size to open it in, any first tally and any list of calls,
 -- each a run over choice bytes, well or badly formed, or a step by one choice, of a known kind or not

@@ -85,7 +85,7 @@ Bounded P σ = All (λ c. c ≤ maxCount) σ × (parallel P ≤ maxComponents)
 
 -- a reduction from σ with this label to P′ and σ′ is within the limits: what it leaves is, and for COM the state
 -- between its two moves too. (One component fewer stands there than before, so of the two bounds only that of the
--- counts is left to ask.)
+-- counts is left to ask: Checks/Handovers has what stands there, bounded as a whole.)
 unfoldable pub WithinLimits : Label → State → Process → State → Type 0
 unfolding Bounded addToken
 WithinLimits (by r) σ P′ σ′ = Bounded P′ σ′

@@ -4,15 +4,15 @@
 use Prim.Native.Nat.{ℕ, zero, suc}
 use mathlib.Core.Bool.{Bool, true, false}
 use mathlib.Core.Option.{Option, none, some}
-use mathlib.Core.List.{List, [], _∷_, _++_, map}
-use lib.ListN.{length, take, getD}
+use mathlib.Core.List.{List, [], _∷_, _++_}
+use lib.ListN.{length, take}
 use lib.Dec.{eqb}
 use Rattle.semantics.specs.Definitions.Table.{Table, TableAnswer, accepted, refusedAt, readTable}
 use Rattle.semantics.specs.Definitions.Shortage.{Shortage, enough}
 use Rattle.semantics.specs.Definitions.Configuration.{Configuration, opening}
 use Rattle.semantics.specs.Definitions.Stored.{hallBytes, bytesOf, configurationOf}
-use Rattle.semantics.specs.Definitions.Moves.{Entry, Response, does, refuses, respondTo, ruleNumber}
-use Rattle.semantics.specs.Definitions.Run.{Counters, freshCounters, RunAnswer, run, schedule, entries, steps}
+use Rattle.semantics.specs.Definitions.Moves.{Entry, act, inside, Response, does, refuses, respondTo, ruleNumber}
+use Rattle.semantics.specs.Definitions.Run.{Counters, freshCounters, counted, RunAnswer, run, schedule, entries}
 
 -- accepted, or refused with a number and a place
 pub data Verdict : Type 0 where
@@ -141,13 +141,6 @@ runCall table l choices = runAdmitted l choices (admission table (l .hall))
 
 -- ---- step: one choice, given as three numbers
 
--- its bytes in a schedule; a kind that is neither 1 nor 2 stands alone, and a run refuses it with 12
-unfoldable pub stepBytes : (kind position node : ℕ) → List ℕ
-stepBytes zero p k = 0 ∷ []
-stepBytes (suc zero) p k = 1 ∷ p ∷ []
-stepBytes (suc (suc zero)) p k = 2 ∷ p ∷ k ∷ []
-stepBytes (suc (suc (suc n))) p k = suc (suc (suc n)) ∷ []
-
 -- the answer, with the number of the rule that moved (0 where refused) and the shortage told, and what was lent
 -- afterwards
 pub record StepCall : Type 0 where
@@ -157,39 +150,49 @@ pub record StepCall : Type 0 where
   pub shortage : Shortage
   pub buffers : Buffers
 
--- the number of the first rule done, 0 where none is
-unfoldable pub firstRule : Admission → List Entry → ℕ
-unfolding steps ruleNumber
-firstRule (notAdmitted n p) es = 0
-firstRule (admitted t h) es = getD (map (λ s. ruleNumber (s .rule)) (steps h es)) 0 0
+-- turned down, nothing of what was lent changes
+unfoldable pub stepRefused : Buffers → (number place : ℕ) → StepCall
+stepRefused l n p = record { number = n; place = p; rule = 0; shortage = enough; buffers = l }
 
--- the shortage that a response tells; a refusal tells none
-unfoldable pub shortageIn : Response → Shortage
-shortageIn (does r w h) = w
-shortageIn (refuses n) = enough
+-- by the response to a choice of so many bytes. Refused: at its first byte. Moved: the place is behind it; its rule, the
+-- shortage told (document 02, Q-3), the hall after it, and the tally with that rule counted
+unfoldable pub stepResponse : Buffers → (size : ℕ) → Response → StepCall
+unfolding stepRefused ruleNumber bytesOf counted
+stepResponse l size (refuses n) = stepRefused l n 0
+stepResponse l size (does r w h) =
+    let after : Buffers = record { hall = bytesOf h; counters = counted r (l .counters) } in
+    record { number = 0; place = size; rule = ruleNumber r; shortage = w; buffers = after }
 
--- the shortage that the first choice tells (document 02, Q-3)
-unfoldable pub firstShortage : Admission → List Entry → Shortage
-unfolding shortageIn respondTo
-firstShortage (notAdmitted n p) es = enough
-firstShortage (admitted t h) [] = enough
-firstShortage (admitted t h) (e ∷ es) = shortageIn (respondTo h e)
+-- kind 1 has a position, and kind 2 a position and a node; refusal 12 for every other kind
+unfoldable pub stepKind : Buffers → Configuration → (kind position node : ℕ) → StepCall
+unfolding stepRefused stepResponse respondTo
+stepKind l h zero p k = stepRefused l 12 0
+stepKind l h (suc zero) p k = stepResponse l 2 (respondTo h (act p))
+stepKind l h (suc (suc zero)) p k = stepResponse l 3 (respondTo h (inside p k))
+stepKind l h (suc (suc (suc n))) p k = stepRefused l 12 0
 
--- a run of that one choice
+-- table or hall is not admitted: their number and place
+unfoldable pub stepAdmitted : Buffers → Admission → (kind position node : ℕ) → StepCall
+unfolding stepRefused stepKind
+stepAdmitted l (notAdmitted n q) kind p k = stepRefused l n q
+stepAdmitted l (admitted t h) kind p k = stepKind l h kind p k
+
 unfoldable pub stepCall : (table : List ℕ) → Buffers → (kind position node : ℕ) → StepCall
-unfolding stepBytes runCall firstRule firstShortage admission entries schedule
-stepCall table l kind position node =
-    let choice = stepBytes kind position node in
-    let a = runCall table l choice in
-    let rule = firstRule (admission table (l .hall)) (entries (schedule choice)) in
-    let shortage = firstShortage (admission table (l .hall)) (entries (schedule choice)) in
-    record { number = a .number; place = a .place; rule = rule; shortage = shortage; buffers = a .buffers }
+unfolding stepAdmitted admission
+stepCall table l kind p k = stepAdmitted l (admission table (l .hall)) kind p k
 
 -- ---- a list of calls, with one table, one hall and one tally
 
 pub data Call : Type 0 where
   runChoices : List ℕ → Call
   stepChoice : (kind position node : ℕ) → Call
+
+-- the bytes of a step's choice in a schedule; a kind that is neither 1 nor 2 stands alone, and a run refuses it with 12
+unfoldable pub stepBytes : (kind position node : ℕ) → List ℕ
+stepBytes zero p k = 0 ∷ []
+stepBytes (suc zero) p k = 1 ∷ p ∷ []
+stepBytes (suc (suc zero)) p k = 2 ∷ p ∷ k ∷ []
+stepBytes (suc (suc (suc n))) p k = suc (suc (suc n)) ∷ []
 
 unfoldable pub callBytes : Call → List ℕ
 unfolding stepBytes

@@ -1,11 +1,22 @@
 -- One choice on a hall (document 01, "Choices and moves" and refusals 14 to 20). A choice is an entry of a schedule.
+--
+-- The answers on the way, from a node out to the caller, with their words for yes and for no:
+--
+--   type         what is asked                yes, and with it                           no, and with it
+--   Inner        one node of a transaction    evolves: rule, shortage, tree              noRule, outOfRange
+--   LocalAnswer  one component                moves: rule, shortage, counts, components  blocked: 15 to 18 or 20
+--   Response     an entry on a configuration  does: rule, shortage, configuration        refuses: 14 to 20
+--   Answer       the same, for a run          moved: rule, configuration                 refused: 14 to 20
+--   Reply        the same, in numbers         movedBy: the rule's number, shortage       refusedBy: 14 to 20
+--
+-- Of a node `innerLocal` makes noRule 17 and outOfRange 16. A step's reply may have 1 to 12 too (Checks/Steps.stepReply).
 -- Assumes nothing.
-use Prim.Native.Nat.{ℕ, zero, suc}
+use Prim.Native.Nat.{ℕ, zero, suc, _-_}
 use mathlib.Core.Bool.{Bool, true, false, cond}
-use mathlib.Core.Option.{Option, none, some}
+use mathlib.Core.Option.{Option, none, some, Option·elim}
 use mathlib.Core.List.{List, [], _∷_, _++_, map}
 use lib.ListN.{length, getElem?}
-use lib.Dec.{leb, eqb}
+use lib.Dec.{leb, ltb, eqb}
 use Rattle.calculus.specs.Syntax.{Name, rd, wt, Log, State}
 use Rattle.calculus.specs.State.{count, without}
 use Rattle.calculus.specs.Log.{RD, WT}
@@ -15,7 +26,7 @@ use Rattle.semantics.specs.Definitions.Basics.{replaceAt}
 use Rattle.semantics.specs.Definitions.Terms.{Expression, endT, retryT, rdT, wtT, orElseT}
 use Rattle.semantics.specs.Definitions.Shortage.{Shortage, enough}
 use Rattle.semantics.specs.Definitions.Logs.{emptyLog, shortage, readable, addToken, takeToken}
-use Rattle.semantics.specs.Definitions.Configuration.{Idle, taking, repeating, block, output, Tree, leaf, fork, Component, idle, transaction, Configuration, opens}
+use Rattle.semantics.specs.Definitions.Configuration.{Idle, taking, repeating, block, output, Tree, leaf, fork, Component, idle, transaction, Configuration, nodes, preorder, opens}
 
 -- kind 1, act, at a position; kind 2, inside, a move inside the transaction at a position, at a node
 pub data Entry : Type 0 where
@@ -71,7 +82,7 @@ acts σ (transaction n M s t) = ends σ n M t
 pub data Inner : Type 0 where
   evolves : Rule → Shortage → Tree → Inner
   noRule : Inner
-  outOfRange : ℕ → Inner
+  outOfRange : Inner
 
 -- ARDOK where the log with this read is readable at the snapshot, else ARDF, with what is short of it
 unfoldable pub reads : State → Name → Expression → Log → Inner
@@ -97,30 +108,35 @@ atFork (leaf (wtT n a M) δ) r = noRule
 atFork (leaf (orElseT n M N) δ) r = noRule
 atFork (fork l m) r = noRule
 
--- what a fork makes of a move in its left side, or past it in its right side
-unfoldable pub inRight : Tree → Inner → Inner
-inRight l (evolves e w r) = evolves e w (fork l r)
-inRight l noRule = noRule
-inRight l (outOfRange k) = outOfRange k
+-- a node's own move
+unfoldable pub atNode : State → Tree → Inner
+unfolding atLeaf atFork
+atNode s (leaf M δ) = atLeaf s M δ
+atNode s (fork l r) = atFork l r
 
-unfoldable pub inLeft : Tree → Inner → (ℕ → Inner) → Inner
-unfolding inRight
-inLeft r (evolves e w l) right = evolves e w (fork l r)
-inLeft r noRule right = noRule
-inLeft r (outOfRange k) right = right k
+-- a tree with another in the place of its node k; a leaf is its only node
+unfoldable pub putBack : Tree → ℕ → Tree → Tree
+unfolding nodes
+putBack (leaf M δ) k u = u
+putBack (fork l r) zero u = u
+putBack (fork l r) (suc k) u = cond (ltb k (nodes l)) (fork (putBack l k u) r) (fork l (putBack r (k - nodes l) u))
 
+unfoldable pub putBackMove : Tree → ℕ → Inner → Inner
+unfolding putBack
+putBackMove t k (evolves e w u) = evolves e w (putBack t k u)
+putBackMove t k noRule = noRule
+putBackMove t k outOfRange = outOfRange
+
+-- node k in preorder, if there is one, makes its move, and what it becomes is put back in its place
 unfoldable pub inner : State → Tree → ℕ → Inner
-unfolding atLeaf atFork inLeft
-inner s (leaf M δ) zero = atLeaf s M δ
-inner s (leaf M δ) (suc k) = outOfRange k
-inner s (fork l r) zero = atFork l r
-inner s (fork l r) (suc k) = inLeft r (inner s l k) (λ j. inRight l (inner s r j))
+unfolding atNode putBackMove preorder Option·elim
+inner s t k = Option·elim (getElem? (preorder t) k) outOfRange (λ u. putBackMove t k (atNode s u))
 
 -- refusal 16 past the last node; refusal 17 where the node has nothing to do
 unfoldable pub innerLocal : State → ℕ → Expression → State → Inner → LocalAnswer
 innerLocal σ n M s (evolves r w t) = moves r w σ (transaction n M s t ∷ [])
 innerLocal σ n M s noRule = blocked 17
-innerLocal σ n M s (outOfRange k) = blocked 16
+innerLocal σ n M s outOfRange = blocked 16
 
 -- kind 2 at a component; refusal 15 where no transaction is open
 unfoldable pub actsInside : State → Component → ℕ → LocalAnswer
