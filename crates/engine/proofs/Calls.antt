@@ -13,7 +13,7 @@ use Rattle.semantics.specs.Checks.Conditions.{RefusalNumbers}
 use Rattle.semantics.specs.Checks.Steps.{Names, names-act, names-inside}
 use Rattle.theorems.proofs.HallConditions.{refusal-numbers}
 use Rattle.theorems.proofs.Suggestions.{admitted-suggests, refused-suggests}
-use Rattle.theorems.proofs.Steps.{answered, step-turned-down, step-unknown, step-answered}
+use Rattle.theorems.proofs.Steps.{step-turned-down, step-unknown, step-answered}
 use Rattle.counters.specs.declared.Counters as code
 use Rattle.counters.specs.Counted.{countersOf}
 use Rattle.index.specs.Holds.{Running}

@@ -35,7 +35,7 @@ use Rattle.theorems.proofs.WellFormedKept.{well-formed-step}
 use Rattle.theorems.proofs.Completeness.{few-nodes}
 use Rattle.theorems.proofs.Runs.{runs-keep, tallied}
 use Rattle.theorems.proofs.CallsAsOne.{run-tells}
-use Rattle.theorems.proofs.ChoiceConditions.{length-preorder}
+use Rattle.theorems.proofs.Walk.{length-preorder}
 use Rattle.theorems.proofs.TableConditions.{condition-number, refused-within, table-numbers}
 use Rattle.theorems.proofs.RunConditions.{run-numbers}
 use Rattle.theorems.proofs.CallConditions.{choice-range}
