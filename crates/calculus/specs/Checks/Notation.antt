@@ -14,8 +14,8 @@ few = 0 ∷ 2 ∷ 1 ∷ []
 
 pub record NotationRows : Type 0 where
   -- RD(δ) and WT(δ)
-  pub read : RD (wt 2 ∷ rd 1 ∷ wt 1 ∷ rd 0 ∷ rd 1 ∷ []) ≡ 1 ∷ 0 ∷ 1 ∷ []
-  pub written : WT (rd 0 ∷ wt 2 ∷ rd 1 ∷ wt 0 ∷ wt 2 ∷ []) ≡ 2 ∷ 0 ∷ 2 ∷ []
+  pub read : RD (wt 2 ∷ rd 1 ∷ wt 1 ∷ rd 1 ∷ rd 0 ∷ []) ≡ 1 ∷ 1 ∷ 0 ∷ []
+  pub written : WT (rd 0 ∷ wt 2 ∷ rd 1 ∷ wt 0 ∷ wt 0 ∷ []) ≡ 2 ∷ 0 ∷ 0 ∷ []
   pub nothing-read : RD [] ≡ []
   pub nothing-written : WT [] ≡ []
   -- how often a name occurs: in a state, where one that is not counted occurs never, and in a list
@@ -55,7 +55,7 @@ pub record NotationRows : Type 0 where
   pub log-order : LogOrder (1 ∷ 2 ∷ []) (1 ∷ 2 ∷ [])
   pub not-log-order : ¬ LogOrder (1 ∷ 2 ∷ []) (2 ∷ 1 ∷ [])
   -- outputs in parallel, and nodes
-  pub three-outputs : outputs (2 ∷ 0 ∷ 2 ∷ []) ≡ par (out 2) (par (out 0) (par (out 2) nil))
+  pub three-outputs : outputs (2 ∷ 0 ∷ 0 ∷ []) ≡ par (out 2) (par (out 0) (par (out 0) nil))
   pub no-output : outputs [] ≡ nil
   pub one-node : nodesOf (running end few []) ≡ 1
   pub five-nodes : nodesOf (orElse′ (orElse′ (running end few []) (running retry few [])) (running end few [])) ≡ 5
