@@ -1,8 +1,8 @@
 -- The branches of an expression, said a second time: as a relation, with the way to each. The measures and paths of
 -- Definitions/Terms and Definitions/Logs are held against it (document 01, "The rule table": branches and length;
 -- "Choices and moves": a path of a block is a branch of its unfolded expression, its actions in order, that finishes in
--- end). Proved in theorems/proofs/Branches; the rows are in Checks/MeasureExamples. The third measure, width, is held by
--- the number of turns that opening a process takes (Claims/Turns, TurnsEnd).
+-- end). Proved in theorems/proofs/Branches; the rows are in Checks/MeasureExamples. The third measure, width, is held
+-- by the number of turns that opening a process takes (Claims/Turns, TurnsEnd).
 -- Assumes nothing.
 use Prim.Native.Nat.{ℕ, _≤_}
 use mathlib.Core.Path.{_≡_}

@@ -139,8 +139,8 @@ pub record LinesFit (first : Configuration) (a : RunAnswer) : Type 0 where
   pub last-counts : (length (a .configuration .counts) ≡ 16) × Bytes (a .configuration .counts)
   pub each : All (λ c. Bytes (lineNumbers c)) (a .configuration .components)
 
--- what an input of at most 16,384 bytes has printed, its table refused or accepted. Every number of a sentence is handed
--- in as a byte (Claims/Sentences, AllBytes).
+-- what an input of at most 16,384 bytes has printed, its table refused or accepted. Every number of a sentence is
+-- handed in as a byte (Claims/Sentences, AllBytes).
 unfoldable pub PrintedNumbersFit : Type 0
 unfolding readTable opening run freshCounters
 PrintedNumbersFit =

@@ -1,7 +1,7 @@
--- Worked rows for Checks/Branches and Checks/Fuels: expressions with their branches, their length and their paths written
--- out, processes with their widths, the first readable path at given counts; lists that are an expression's branches and
--- lists that are not; inputs whose answers would be others if reading them or printing their numbers ended too early,
--- and what is answered with too few turns. Proved in proofs/MeasureExamples.
+-- Worked rows for Checks/Branches and Checks/Fuels: expressions with their branches, their length and their paths
+-- written out, processes with their widths, the first readable path at given counts; lists that are an expression's
+-- branches and lists that are not; inputs whose answers would be others if reading them or printing their numbers ended
+-- too early, and what is answered with too few turns. Proved in proofs/MeasureExamples.
 -- Assumes nothing.
 use Prim.Native.Nat.{ℕ, _^_}
 use Prim.Native.String.{String}
