@@ -4,15 +4,13 @@
 use Prim.Native.Nat.{ℕ, zero, suc, _+_, _*_, _-_, _≤_, _<_}
 use native.Mathlib.Omega.{arith}
 use mathlib.Core.Path.{_≡_, refl, sym, ap, _∙_}
-use mathlib.Core.Bool.{Bool, true, false, cond}
 use mathlib.Core.List.{List, [], _∷_, _++_, map, append-assoc, append-nil}
 use lib.ListN.{length, getD, drop, length-append, length-map}
 use borrow.Author.Tests.{ne-eqb}
-use Rattle.calculus.specs.Syntax.{rd, Log, State}
+use Rattle.calculus.specs.Syntax.{Log, State}
 use Rattle.calculus.specs.Reduction.{Rule}
 use Rattle.semantics.specs.Definitions.Shortage.{Shortage}
-use Rattle.semantics.specs.Definitions.Terms.{Expression, endT, retryT, rdT, wtT, orElseT, Term}
-use Rattle.semantics.specs.Definitions.Logs.{readable}
+use Rattle.semantics.specs.Definitions.Terms.{Expression, Term}
 use Rattle.semantics.specs.Definitions.Configuration.{Tree, leaf, fork, branchesOf, nodes}
 use Rattle.semantics.specs.Definitions.Stored.{actionByte, treeBytes, TreeOk}
 use Rattle.semantics.specs.Definitions.Moves.{Inner, evolves, noRule, outOfRange, atNode, inner}

@@ -1,7 +1,7 @@
 -- Which number a choice is refused with: the first of the conditions 14 to 20 that holds of it, and no number where none
 -- holds. It rests on one thing of the configuration only, that it has at most 64 components.
 -- Assumes nothing.
-use Prim.Native.Nat.{ℕ, zero, suc, _+_, _≤_, _<_}
+use Prim.Native.Nat.{ℕ, suc, _+_, _≤_, _<_}
 use native.Mathlib.Omega.{arith}
 use native.Mathlib.Decide.{decLt}
 use mathlib.Core.Path.{_≡_, refl, sym, ap, _∙_, subst}

@@ -1,7 +1,7 @@
 -- What an accepted choice does, taken apart: the component at its position, that component's own move, and what it leaves there.
 -- And two inductions: over the moves inside a transaction, and over the choices of a run.
 -- Assumes nothing.
-use Prim.Native.Nat.{ℕ, zero, suc, _+_, _≤_}
+use Prim.Native.Nat.{ℕ, suc, _+_, _≤_}
 use native.Mathlib.Omega.{arith}
 use mathlib.Core.Path.{_≡_, refl, ap, _∙_}
 use mathlib.Core.Bool.{Bool, true, false}
@@ -16,7 +16,7 @@ use Rattle.semantics.specs.Definitions.Basics.{replaceAt}
 use Rattle.semantics.specs.Definitions.Terms.{Expression, endT, retryT, rdT, wtT, orElseT}
 use Rattle.semantics.specs.Definitions.Shortage.{Shortage}
 use Rattle.semantics.specs.Definitions.Logs.{readable}
-use Rattle.semantics.specs.Definitions.Configuration.{Tree, leaf, fork, Component, Configuration, nodes}
+use Rattle.semantics.specs.Definitions.Configuration.{Tree, leaf, fork, Component, Configuration}
 use Rattle.semantics.specs.Definitions.Moves.{Entry, act, inside, LocalAnswer, moves, blocked, acts, Inner, evolves, noRule, outOfRange, atLeaf, atFork, atNode, inner, actsInside, Response, does, refuses, applyAt, atPosition, respondTo, Answer, moved, refused, answerOf, answerTo}
 use Rattle.semantics.specs.Definitions.Run.{ScheduleItem, entry, malformed, entries, Counters, counted, RunAnswer, continueRun, runFrom, Step, continueSteps, steps}
 use Rattle.theorems.proofs.Walk.{inLeft, inRight, node-induction}

@@ -14,7 +14,7 @@ use Rattle.calculus.specs.Reduction.{Rule}
 use Rattle.semantics.specs.Definitions.Shortage.{Shortage}
 use Rattle.semantics.specs.Definitions.Terms.{Expression}
 use Rattle.semantics.specs.Definitions.Configuration.{Tree, leaf, fork, nodes, preorder}
-use Rattle.semantics.specs.Definitions.Moves.{Inner, evolves, noRule, outOfRange, atNode, putBack, putBackMove, inner}
+use Rattle.semantics.specs.Definitions.Moves.{Inner, evolves, noRule, outOfRange, atNode, putBackMove, inner}
 use Rattle.theorems.proofs.Lists.{found-left, found-right, found-below}
 
 -- ---- the nodes of a fork
