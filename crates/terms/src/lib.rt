@@ -221,12 +221,16 @@ fn walk(decoded: &[u8; DECODED], measured: usize, at: usize) -> u16
     }
 }
 
-// The measures of the term at a number, where those of the first `measured` terms are stored.
+// The measures of the term at a number, where those of the first `measured` terms are stored. A term without parts needs
+// no walk.
 pub fn measures_of(decoded: &[u8; DECODED], measured: usize, at: usize) -> Measures
     requires { ⌜ Measurable (now decoded) measured at ⌝ }
     ensures { λ m. ⌜ MeasuresOf (now (decoded .entry)) measured at (m .breadth) (m .length) ⌝ }
 {
-    let p = walk(decoded, measured, at);
+    let p = match kind_of(decoded, at) {
+        PAR | OR_ELSE | RD | WT => walk(decoded, measured, at),
+        _ => ALONE,
+    };
     Measures {
         breadth: breadth_in(p),
         length: length_in(p),
