@@ -11,7 +11,7 @@ use super::investigate::Explored;
 use super::labels::Labels;
 use super::model::Kind;
 use super::replay::{replay, Contradiction, Replay, Witness};
-use super::search::{Barred, Limits, Questions};
+use super::search::{Barred, Cut, Limits, Questions};
 use super::steps::Limit;
 use super::store::Index;
 use super::waiting::{left, Left};
@@ -23,6 +23,8 @@ pub struct Facts {
     pub ends: Vec<End>,
     /// How many sorts of ends there are; some may be left out of `ends`.
     pub sorts: usize,
+    /// Why not all ends that were wanted are told.
+    pub ends_cut: Option<Cut>,
     /// For each tray in use its name, and the least and the most it ever has.
     pub trays: Vec<(String, u8, u8)>,
     /// Stations that stand in some situation and act in none.
@@ -43,6 +45,19 @@ pub struct Facts {
     /// What is answered to the questions.
     pub answers: Vec<Answer>,
 }
+
+/// Ends that are told, how many sorts there are, and why not all are told.
+struct Ends {
+    told: Vec<End>,
+    sorts: usize,
+    cut: Option<Cut>,
+}
+
+/// So many sorts of ends are told whatever the limits are.
+const ALWAYS_TOLD: usize = 12;
+
+/// So many ends are sorted between two looks at the limits.
+const BETWEEN_LOOKS: usize = 1 << 12;
 
 /// Ends with the same counts.
 #[derive(Clone, Debug)]
@@ -126,7 +141,8 @@ impl Collector<'_> {
     ///
     /// Where the engine does not go one of the ways found.
     pub fn collect(&self) -> Result<Facts, Contradiction> {
-        let (ends, sorts) = self.ends()?;
+        let answers = self.answers()?;
+        let ends = self.ends()?;
         let labels = Labels::of(self.table, self.program, &self.explored.model);
         let (never_act, never_open) = self.never_act(&labels);
         let marks = &self.explored.found.marks;
@@ -137,8 +153,9 @@ impl Collector<'_> {
             _ => self.for_ever(Allowed::Any)?,
         };
         Ok(Facts {
-            ends,
-            sorts,
+            ends: ends.told,
+            sorts: ends.sorts,
+            ends_cut: ends.cut,
             trays: self.trays(),
             never_act,
             never_open,
@@ -147,7 +164,7 @@ impl Collector<'_> {
             for_ever_no_commit,
             full_hall: self.barred(marks.full_hall, Limit::Stations)?,
             full_tray: self.barred(marks.full_tray, Limit::Tray)?,
-            answers: self.answers()?,
+            answers,
         })
     }
 
@@ -166,36 +183,77 @@ impl Collector<'_> {
     }
 
     /// The ends are found in the order of their distance, so the first of a
-    /// sort is the nearest.
-    fn ends(&self) -> Result<(Vec<End>, usize), Contradiction> {
+    /// sort is the nearest. The nearest few are told whatever the limits are.
+    fn ends(&self) -> Result<Ends, Contradiction> {
+        let (sorts, mut cut) = self.sorts_of_ends();
+        let mut told = Vec::new();
+        let mut memory = sorts.len() * self.memory_of_a_sort();
+        for (index, situations) in sorts.iter().take(self.most_ends) {
+            if told.len() >= ALWAYS_TOLD {
+                if let Some(met) = self.met(memory) {
+                    cut = Some(met);
+                    break;
+                }
+            }
+            let end = self.end(*index, *situations)?;
+            memory += end.witness.memory();
+            told.push(end);
+        }
+        Ok(Ends {
+            told,
+            sorts: sorts.len(),
+            cut,
+        })
+    }
+
+    fn end(&self, index: Index, situations: usize) -> Result<End, Contradiction> {
+        let Explored { model, found, .. } = self.explored;
+        let witness = self.way_to(index)?;
+        let situation = found.store.get(index);
+        let (counts, _) = model.split(&situation);
+        Ok(End {
+            counts: counts.to_vec(),
+            situations,
+            left: self.left_at(&witness),
+            witness,
+        })
+    }
+
+    /// For each sort of ends its first one, and how many there are; and why not
+    /// all ends were looked at.
+    fn sorts_of_ends(&self) -> (Vec<(Index, usize)>, Option<Cut>) {
         let Explored { model, found, .. } = self.explored;
         let mut sorts: Vec<(Index, usize)> = Vec::new();
         let mut of_counts: HashMap<Vec<u8>, usize> = HashMap::new();
-        for index in &found.ends {
-            let situation = found.store.get(*index);
-            let (counts, _) = model.split(&situation);
-            let sort = *of_counts.entry(counts.to_vec()).or_insert(sorts.len());
-            match sorts.get_mut(sort) {
-                Some((_, situations)) => *situations += 1,
-                None => sorts.push((*index, 1)),
+        let mut situation = Vec::new();
+        for ends in found.ends.chunks(BETWEEN_LOOKS) {
+            for index in ends {
+                found.store.read(*index, &mut situation);
+                let (counts, _) = model.split(&situation);
+                let known = of_counts.get(counts).copied();
+                match known.and_then(|sort| sorts.get_mut(sort)) {
+                    Some((_, situations)) => *situations += 1,
+                    None => {
+                        of_counts.insert(counts.to_vec(), sorts.len());
+                        sorts.push((*index, 1));
+                    }
+                }
+            }
+            if let Some(cut) = self.met(sorts.len() * self.memory_of_a_sort()) {
+                return (sorts, Some(cut));
             }
         }
-        let told: Result<Vec<End>, Contradiction> = sorts
-            .iter()
-            .take(self.most_ends)
-            .map(|(index, situations)| {
-                let witness = self.way_to(*index)?;
-                let situation = found.store.get(*index);
-                let (counts, _) = model.split(&situation);
-                Ok(End {
-                    counts: counts.to_vec(),
-                    situations: *situations,
-                    left: self.left_at(&witness),
-                    witness,
-                })
-            })
-            .collect();
-        Ok((told?, sorts.len()))
+        (sorts, None)
+    }
+
+    /// Which limit is met with so many bytes more than the exploration uses.
+    fn met(&self, more: usize) -> Option<Cut> {
+        self.limits.met(self.explored.found.memory() + more)
+    }
+
+    fn memory_of_a_sort(&self) -> usize {
+        // Its counts stand apart, and not all room for entries is taken.
+        self.explored.model.trays().len() + 80
     }
 
     fn trays(&self) -> Vec<(String, u8, u8)> {

@@ -6,7 +6,8 @@ use crate::text::tree::Program;
 use super::facts::{Answer, End, Facts, ForEver, Verdict};
 use super::investigate::Explored;
 use super::replay::Witness;
-use super::report::exact_words;
+use super::report::{cut_words, exact_words};
+use super::search::Cut;
 use super::waiting::Left;
 
 /// The object of an exploration.
@@ -34,6 +35,7 @@ pub fn object(program: &Program, explored: &Explored, facts: &Facts, seconds: f6
         .count("memory", found.memory())
         .count("end_situations", found.ends.len())
         .count("end_sorts", facts.sorts)
+        .raw("ends_cut_by", option(facts.ends_cut))
         .raw(
             "ends",
             list(
@@ -128,6 +130,11 @@ fn for_ever(for_ever: &ForEver) -> String {
             with_witness(Object::new().count("round_from", *before), witness).written()
         }
     }
+}
+
+/// The option that cut something short.
+fn option(cut: Option<Cut>) -> String {
+    cut.map_or("null".to_owned(), |cut| string(cut_words(cut)))
 }
 
 fn strings(words: &[String]) -> String {

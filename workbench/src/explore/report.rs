@@ -112,12 +112,26 @@ impl Report<'_> {
         for (number, end) in (1..).zip(&self.facts.ends) {
             lines.extend(self.end(number, end));
         }
-        let more = self.facts.sorts - self.facts.ends.len().min(self.facts.sorts);
-        if more > 0 {
-            let more = u64::try_from(more).unwrap_or(0);
-            lines.push(format!("  and {} more (--all tells them)", grouped(more)));
-        }
+        lines.extend(self.ends_not_told());
         lines
+    }
+
+    fn ends_not_told(&self) -> Option<String> {
+        let Facts {
+            ends,
+            sorts,
+            ends_cut,
+            ..
+        } = self.facts;
+        let more = grouped(u64::try_from(sorts.saturating_sub(ends.len())).unwrap_or(0));
+        match ends_cut {
+            Some(cut) => Some(format!(
+                "  and {more} more at least: the telling was cut short by {}",
+                cut_words(*cut)
+            )),
+            None if *sorts > ends.len() => Some(format!("  and {more} more (--all tells them)")),
+            None => None,
+        }
     }
 
     fn end(&self, number: usize, end: &End) -> Vec<String> {
@@ -318,7 +332,9 @@ pub fn exact_words(exact: Exact) -> String {
     }
 }
 
-fn cut_words(cut: Cut) -> &'static str {
+/// The option that cut something short.
+#[must_use]
+pub fn cut_words(cut: Cut) -> &'static str {
     match cut {
         Cut::Time => "--seconds",
         Cut::Memory => "--memory",

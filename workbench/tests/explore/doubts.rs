@@ -1,6 +1,8 @@
 //! Explorations that cannot be exact say so, and say of nothing that it holds;
 //! and those that are exact by their notes.
 
+use std::time::Instant;
+
 use reference::build::Builder;
 use reference::generator::Random;
 use workbench::explore::facts::{Collector, Facts, ForEver, Verdict};
@@ -11,7 +13,9 @@ use workbench::explore::report::Report;
 use workbench::explore::search::{search, Cut, Limits, Questions};
 use workbench::style::Style;
 use workbench::table::Table;
+use workbench::text::source::Source;
 use workbench::text::tree::Program;
+use workbench::text::understand;
 
 use crate::common::{all_replay, explore};
 use crate::halls::tight;
@@ -270,4 +274,80 @@ fn a_fault_that_only_notes_show() {
         out.contains("the limit of 64 stations was never met"),
         "{out}"
     );
+}
+
+/// So many stations take one of the letters each, and every way that they are
+/// parted among is an end.
+fn many_ends() -> String {
+    let mut text = String::from("tray a has 4\n");
+    let rules: Vec<String> = (0..10).map(|number| format!("r{number}")).collect();
+    for rule in &rules {
+        text += &format!("tray o{rule}\nrule {rule} is 4 of (take a then put o{rule})\n");
+    }
+    text + "start " + &rules.join(" beside ") + "\n"
+}
+
+/// The nearest ends are told whatever the limits are, all others within them.
+#[test]
+fn limits_bound_the_telling_too() {
+    let text = many_ends();
+    let numbered = |out: &str| {
+        out.lines()
+            .filter(|line| line.contains(" after 8 steps"))
+            .count()
+    };
+    let (code, out, _) = explore(&text, &["--all"]);
+    assert_eq!((code, numbered(&out)), (0, 715));
+    assert!(!out.contains("cut short"), "{out}");
+    let (code, out, _) = explore(&text, &["--all", "--memory", "4"]);
+    let told = numbered(&out);
+    assert!(code == 0 && told > 12 && told < 600, "{told}");
+    let words = format!(
+        "\n  and {} more at least: the telling was cut short by --memory\n",
+        715 - told
+    );
+    assert!(out.contains(&words), "{out}");
+    assert!(out.contains("all of them seen"), "{out}");
+    let (_, out, _) = explore(&text, &["--all", "--memory", "4", "--json"]);
+    assert!(
+        out.contains("\"end_sorts\": 715, \"ends_cut_by\": \"--memory\""),
+        "{out}"
+    );
+    // What is asked is answered all the same.
+    let (code, out, _) = explore(&text, &["--memory", "4", "--all", "--ends", "a = 0"]);
+    assert!(
+        code == 0 && out.contains("every end has a = 0: holds"),
+        "{out}"
+    );
+}
+
+/// The time may be over when all was seen: then the nearest ends are told.
+#[test]
+fn the_time_is_over_before_the_telling() {
+    let source = Source::new("", many_ends());
+    let understood = understand(&source).unwrap();
+    let (table, program) = (&understood.table, &understood.program);
+    let questions = Questions::default();
+    let large = Limits::memory(100_000_000);
+    let explored = investigate(table, &questions, large, &mut |_, _| {});
+    let over = Limits {
+        until: Some(Instant::now()),
+        ..large
+    };
+    for (limits, cut) in [
+        (over, Cut::Time),
+        (Limits::memory(explored.found.memory()), Cut::Memory),
+    ] {
+        let facts = Collector {
+            table,
+            program,
+            explored: &explored,
+            questions: &questions,
+            limits,
+            most_ends: usize::MAX,
+        };
+        let facts = facts.collect().unwrap();
+        assert_eq!((facts.ends.len(), facts.sorts), (12, 715));
+        assert_eq!(facts.ends_cut, Some(cut));
+    }
 }

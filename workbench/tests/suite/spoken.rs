@@ -43,7 +43,7 @@ const AT_ODDS: [&str; 27] = [
 
 /// Compared whole by a test in code, since it takes a terminal, a full disk, a
 /// name in other letters or a certain moment: the sentence and the test.
-const IN_CODE: [(&str, &str); 11] = [
+const IN_CODE: [(&str, &str); 12] = [
     (
         "build: bytes do not belong on a terminal: add -o FILE",
         "tests/suite/commands.rs",
@@ -55,6 +55,10 @@ const IN_CODE: [(&str, &str); 11] = [
     ),
     ("hall: cannot write: {error} ", "tests/suite/commands.rs"),
     ("cannot read: {error}", "tests/suite/commands.rs"),
+    (
+        " and {more} more at least: the telling was cut short by {}",
+        "tests/explore/doubts.rs",
+    ),
     (
         "hall: this program is at odds with itself: {words}. Nothing it printed counts. ",
         "src/commands/mod.rs",

@@ -6,8 +6,8 @@ mod progress;
 
 use std::time::{Duration, Instant};
 
-use super::build::{not_over, write_whole};
 use super::check::refused;
+use super::files::{not_over, write_whole};
 use super::load::{self, Loaded};
 use super::{Args, Exit, Failure, Outcome, Streams};
 use crate::explore::dot::{picture, MOST_DRAWN};
