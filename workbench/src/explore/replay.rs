@@ -224,6 +224,7 @@ impl<'a> Replay<'a> {
             Deed::Take => self.act(position, Moved::IN),
             Deed::Repeat => self.act(position, Moved::REP),
             Deed::Note(_) => self.attempt(position),
+            Deed::Drop => self.act(position, Moved::ATFAIL),
             Deed::Commit(_) => {
                 if matches!(self.model.kind(step.code), Some(Kind::Block { .. })) {
                     self.attempt(position)?;

@@ -253,7 +253,7 @@ fn a_fault_that_only_notes_show() {
     assert_eq!(all_replay(text, &out), 4, "{out}");
     let (_, out, _) = explore(text, &["--engine", "--never", "c > 1"]);
     assert!(
-        out.contains("the same situations and the same ends"),
+        out.contains("the same situations, the same ends and the same rounds"),
         "{out}"
     );
     assert!(out.contains("never c > 1: broken"), "{out}");
@@ -350,4 +350,32 @@ fn the_time_is_over_before_the_telling() {
         assert_eq!((facts.ends.len(), facts.sorts), (12, 715));
         assert_eq!(facts.ends_cut, Some(cut));
     }
+}
+
+/// There is room for all situations and none to look for rounds: then nothing is
+/// said to hold at every end, though no end breaks it.
+#[test]
+fn rounds_that_are_not_looked_for() {
+    let text = "tray a has 3\ntray b\nrule there is repeatedly take a then put b\n\
+        rule back is repeatedly take b then put a\nstart there beside back\n";
+    let understood = understand(&Source::new("", text)).unwrap();
+    let table = &understood.table;
+    let model = Model::of(table);
+    let all = search(
+        &model,
+        &Questions::default(),
+        Limits::memory(100_000_000),
+        &mut |_, _| {},
+    );
+    let (explored, facts, text) = asked(table, all.memory());
+    assert!(explored.complete() && !explored.ends_known());
+    let verdicts = facts.answers.iter().map(|answer| &answer.verdict);
+    let verdicts: Vec<bool> = verdicts.map(|it| matches!(it, Verdict::Holds)).collect();
+    assert_eq!(verdicts, [true, false], "{text}");
+    assert!(!facts.all_hold());
+    let words = "\nWhether there are rounds that are never left is not known.\n";
+    assert!(text.contains(words), "{text}");
+    let (explored, facts, text) = asked(table, 100_000_000);
+    assert!(explored.ends_known() && facts.all_hold(), "{text}");
+    assert_eq!(facts.rounds.map(|rounds| rounds.len()), Some(1));
 }

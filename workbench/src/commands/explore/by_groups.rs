@@ -255,7 +255,7 @@ fn group_lines(group: &Group, style: Style) -> Vec<String> {
         .iter()
         .map(|answer| {
             let verdict = match answer.verdict {
-                Verdict::Holds => style.good(answer.holds()),
+                Verdict::Holds => style.good("holds"),
                 Verdict::Broken(..) => style.bad("broken"),
                 Verdict::Open => "not known".to_owned(),
             };

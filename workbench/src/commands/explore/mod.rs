@@ -207,6 +207,9 @@ fn saved<'a>(prefix: &str, facts: &'a Facts) -> Vec<Saved<'a>> {
     for (number, end) in (1..).zip(&facts.ends) {
         ways.push((format!("end-{number}"), &end.witness));
     }
+    for (number, round) in (1..).zip(facts.rounds.iter().flatten()) {
+        ways.push((format!("round-{number}"), &round.witness));
+    }
     for (what, for_ever) in [
         ("for-ever", &facts.for_ever),
         ("no-commit", &facts.for_ever_no_commit),
