@@ -63,7 +63,7 @@ const BETWEEN_LOOKS: u32 = 1 << 8;
 pub fn engine_search(
     table: &Table,
     limits: Limits,
-    progress: &mut super::search::Progress<'_>,
+    progress: &mut dyn FnMut(usize, usize),
 ) -> Result<EngineFound, Failed> {
     let (hall, _) = Hall::open(table.bytes()).map_err(Failed::Refused)?;
     let mut search = Search {

@@ -495,14 +495,20 @@ impl Answer {
     /// The question as it is told.
     #[must_use]
     pub fn told(&self) -> String {
-        match self.asked {
-            Asked::Never => format!("never {}", self.question),
-            Asked::Ends => format!("every end has {}", self.question),
-        }
+        self.asked.told(&self.question)
     }
 }
 
 impl Asked {
+    /// A question as it is told.
+    #[must_use]
+    pub fn told(self, question: &str) -> String {
+        match self {
+            Asked::Never => format!("never {question}"),
+            Asked::Ends => format!("every end has {question}"),
+        }
+    }
+
     /// The word for it.
     #[must_use]
     pub fn word(self) -> &'static str {

@@ -407,6 +407,7 @@ pub fn cut_words(cut: Cut) -> &'static str {
     match cut {
         Cut::Time => "--seconds",
         Cut::Memory => "--memory",
+        Cut::Fault => "--first",
     }
 }
 

@@ -47,6 +47,8 @@ pub enum Cut {
     Time,
     /// The memory was used up.
     Memory,
+    /// A fault was found, and no more than the first was wanted.
+    Fault,
 }
 
 /// What is asked beside all that is reported anyway.
@@ -56,6 +58,8 @@ pub struct Questions {
     pub never: Vec<Question>,
     /// What must be so at every end.
     pub ends: Vec<Question>,
+    /// Whether to stop where the first of them is broken.
+    pub only_first: bool,
 }
 
 impl Questions {
@@ -161,9 +165,18 @@ pub struct Found {
     pub cut: Option<Cut>,
 }
 
-/// Told now and then how many situations there are and how many of them are
-/// done with.
-pub type Progress<'a> = dyn FnMut(usize, usize) + 'a;
+/// What was found so far.
+#[derive(Clone, Copy, Debug)]
+pub struct SoFar<'a> {
+    /// The stations' codes.
+    pub model: &'a Model,
+    /// What was found.
+    pub found: &'a Found,
+}
+
+/// Shown now and then what was found so far, and how many situations are done
+/// with.
+pub type Progress<'a> = dyn FnMut(SoFar<'_>, usize) + 'a;
 
 /// So many situations, or a few more, are looked up at once.
 const BATCH: usize = 256;
@@ -209,7 +222,11 @@ impl Search<'_> {
         while done < self.found.store.len() && self.found.cut.is_none() {
             if batches % BETWEEN_LOOKS == 0 {
                 self.found.cut = limits.met(self.found.memory());
-                progress(self.found.store.len(), done);
+                let so_far = SoFar {
+                    model: self.model,
+                    found: &self.found,
+                };
+                progress(so_far, done);
             }
             batches = batches.wrapping_add(1);
             batch.clear();
@@ -223,6 +240,9 @@ impl Search<'_> {
                 return;
             }
             self.keep(&mut batch);
+            if self.questions.only_first && self.found.breaks_something() {
+                self.found.cut = Some(Cut::Fault);
+            }
         }
     }
 

@@ -28,6 +28,7 @@ fn asked(table: &Table, memory: usize) -> (Explored, Facts, String) {
     let questions = Questions {
         never: question("stations > 64"),
         ends: question("stations >= 0"),
+        ..Questions::default()
     };
     let limits = Limits::memory(memory);
     let explored = investigate(table, &questions, limits, &mut |_, _| {});

@@ -154,6 +154,7 @@ fn questions(program: &Program, model: &Model, random: &mut Random) -> Questions
     Questions {
         never: ask(">"),
         ends: ask("<="),
+        ..Questions::default()
     }
 }
 

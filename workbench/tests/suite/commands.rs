@@ -731,3 +731,49 @@ mod written {
         only(&folder, &["a.hall", "a.table"]);
     }
 }
+
+/// A hall of some million situations, and a fault near its opening.
+fn large_hall() -> String {
+    let mut text = String::from("tray t0 has 8\ntray t1\ntray t2\ntray t3\ntray t4\ntray t5\n");
+    let mut start = Vec::new();
+    for from in 0..6 {
+        let to = (from + 1) % 6;
+        text += &format!("rule r{from} is repeatedly take t{from} then put t{to}\n");
+        text += &format!("rule b{from} is block (take t{from}, put t{to}, end)\n");
+        start.push(format!("r{from} beside 2 of b{from}"));
+    }
+    text + "start " + &start.join(" beside ") + "\n"
+}
+
+/// Whoever ends the program has seen the fault by then.
+#[test]
+fn a_fault_is_told_when_it_is_found() {
+    let folder = scratch("fault-at-once");
+    fs::write(folder.join("large.hall"), large_hall()).unwrap();
+    for (option, on_error) in [("--all", false), ("--json", true)] {
+        let mut child = Command::new(env!("CARGO_BIN_EXE_hall"))
+            .args(["explore", "large.hall", "--never", "t3 = 2", option])
+            .current_dir(&folder)
+            .stdout(Stdio::piped())
+            .stderr(Stdio::piped())
+            .spawn()
+            .unwrap();
+        let mut told = [0; 200];
+        if on_error {
+            child.stderr.take().unwrap().read_exact(&mut told).unwrap();
+        } else {
+            child.stdout.take().unwrap().read_exact(&mut told).unwrap();
+        }
+        // It has far to go yet.
+        assert_eq!(child.try_wait().unwrap(), None);
+        child.kill().unwrap();
+        child.wait().unwrap();
+        let told = String::from_utf8_lossy(&told);
+        assert!(told.starts_with("never t3 = 2: broken after "), "{told}");
+        assert!(told.contains(" steps, found among "), "{told}");
+        assert!(
+            told.contains("; the search goes on\n  choices\n    act "),
+            "{told}"
+        );
+    }
+}

@@ -44,7 +44,7 @@ const AT_ODDS: [&str; 27] = [
 
 /// Compared whole by a test in code, since it takes a terminal, a full disk, a
 /// name in other letters or a certain moment: the sentence and the test.
-const IN_CODE: [(&str, &str); 13] = [
+const IN_CODE: [(&str, &str); 14] = [
     (
         "build: bytes do not belong on a terminal: add -o FILE",
         "tests/suite/commands.rs",
@@ -56,6 +56,10 @@ const IN_CODE: [(&str, &str); 13] = [
     ),
     ("hall: cannot write: {error} ", "tests/suite/commands.rs"),
     ("cannot read: {error}", "tests/suite/commands.rs"),
+    (
+        "{}: {} {}, found among {}; the search goes on",
+        "tests/suite/commands.rs",
+    ),
     (
         " and {more} more at least: the telling was cut short by {}",
         "tests/explore/doubts.rs",

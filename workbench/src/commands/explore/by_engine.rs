@@ -37,11 +37,19 @@ pub(super) fn by_engine(job: &Job<'_>, args: &Args, streams: &mut Streams<'_>) -
     {
         return Err(wrong("--dot and --save are not for --engine"));
     }
+    if job.questions.only_first {
+        return Err(wrong("--first is not for --engine"));
+    }
     let table = &job.loaded.table;
     let mut progress = Progress::new();
     let mut tell = |seen, done| progress.tell(seen, done);
     let found = engine_search(table, job.limits, &mut tell)?;
-    let by_steps = investigate(table, &Questions::default(), job.limits, &mut tell);
+    let by_steps = investigate(
+        table,
+        &Questions::default(),
+        job.limits,
+        &mut |so_far, done| tell(so_far.found.store.len(), done),
+    );
     drop(progress);
     let compared = found.cut.is_none() && by_steps.ends_known();
     if compared {

@@ -43,7 +43,7 @@ pub(super) fn by_groups(job: &Job<'_>, args: &Args, streams: &mut Streams<'_>) -
         program,
         &job.questions,
         job.limits,
-        &mut |seen, done| progress.tell(seen, done),
+        &mut |so_far, done| progress.tell(so_far.found.store.len(), done),
     );
     drop(progress);
     let told = Told {
