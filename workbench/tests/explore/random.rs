@@ -208,7 +208,7 @@ impl Met {
             runs(table, &end.witness);
             self.ends += 1;
         }
-        self.last_rounds(table, &facts, rounds);
+        self.last_rounds(table, explored, &facts, rounds);
         if let ForEver::Yes(witness, before) = &facts.for_ever {
             comes_round(table, witness, *before);
             self.rounds += 1;
@@ -220,7 +220,13 @@ impl Met {
 
     /// Each told round is entered by its way, which is a shortest one: it leads
     /// to a situation of a round with these trays.
-    fn last_rounds(&mut self, table: &Table, facts: &Facts, rounds: &BTreeSet<BTreeSet<Vec<u8>>>) {
+    fn last_rounds(
+        &mut self,
+        table: &Table,
+        explored: &Explored,
+        facts: &Facts,
+        rounds: &BTreeSet<BTreeSet<Vec<u8>>>,
+    ) {
         let model = Model::of(table);
         let told = facts.rounds.as_ref().unwrap();
         assert_eq!(told.is_empty(), rounds.is_empty());
@@ -230,7 +236,18 @@ impl Met {
             let entered = rounds
                 .iter()
                 .filter(|set| set.contains(situation.as_ref().unwrap()));
-            let sizes: Vec<u64> = entered.map(|set| set.len() as u64).collect();
+            let entered: Vec<_> = entered.collect();
+            // Notes are steps too, and no situation of the set is nearer.
+            let store = &explored.found.store;
+            let steps = |it: &Vec<u8>| store.find(it).map(|at| store.way_to(at).len() - 1);
+            for set in entered
+                .iter()
+                .filter(|_| explored.exact != Exact::WithNotes)
+            {
+                let nearest = set.iter().filter_map(steps).min();
+                assert_eq!(nearest, Some(round.witness.steps));
+            }
+            let sizes: Vec<u64> = entered.iter().map(|set| set.len() as u64).collect();
             assert!(sizes.contains(&round.situations), "{sizes:?}");
             assert!(!round.who.go_on.is_empty());
             self.last_rounds += 1;

@@ -734,15 +734,19 @@ mod written {
 
 /// A hall of some million situations, and a fault near its opening.
 fn large_hall() -> String {
-    let mut text = String::from("tray t0 has 8\ntray t1\ntray t2\ntray t3\ntray t4\ntray t5\n");
-    let mut start = Vec::new();
-    for from in 0..6 {
+    let trays = "tray t0 has 8\ntray t1\ntray t2\ntray t3\ntray t4\ntray t5\n".to_owned();
+    let rules = (0..6).map(|from| {
         let to = (from + 1) % 6;
-        text += &format!("rule r{from} is repeatedly take t{from} then put t{to}\n");
-        text += &format!("rule b{from} is block (take t{from}, put t{to}, end)\n");
-        start.push(format!("r{from} beside 2 of b{from}"));
-    }
-    text + "start " + &start.join(" beside ") + "\n"
+        format!(
+            "rule r{from} is repeatedly take t{from} then put t{to}\n\
+             rule b{from} is block (take t{from}, put t{to}, end)\n"
+        )
+    });
+    let start: Vec<String> = (0..6)
+        .map(|from| format!("r{from} beside 2 of b{from}"))
+        .collect();
+    let rules: String = rules.collect();
+    trays + &rules + "start " + &start.join(" beside ") + "\n"
 }
 
 /// Whoever ends the program has seen the fault by then.
