@@ -102,8 +102,13 @@ fn refused_length(here: &[u8]) -> usize {
     here.first().map_or(1, |byte| byte.to_string().len())
 }
 
-/// A table with choices behind it is what `build --choices` writes: say so.
+/// A table with choices behind it is what `build --choices` writes, and what
+/// begins with no record is some other file: say so.
 fn help(bytes: &[u8], refusal: Refusal) -> Option<String> {
+    if refusal.number == Refusal::UNKNOWN_KIND && refusal.place == 0 {
+        let words = "no table begins with this byte: it is some other binary file";
+        return Some(words.to_owned());
+    }
     let (table, behind) = split_choices(bytes);
     let is_table = refusal.number == Refusal::START_NOT_LAST
         && !behind.is_empty()

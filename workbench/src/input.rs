@@ -73,7 +73,9 @@ pub fn material(name: &str, bytes: Vec<u8>, binary: bool) -> Material {
         return Material::Unreadable(Source::new(name, ""), Box::new(problem));
     }
     match String::from_utf8(bytes) {
-        Ok(text) => Material::Text(Source::new(name, text)),
+        Ok(text) if !text.contains('\0') => Material::Text(Source::new(name, text)),
+        Ok(text) => binary_file(name, text.as_bytes()),
+        Err(error) if has_control_bytes(error.as_bytes()) => binary_file(name, error.as_bytes()),
         Err(error) => {
             let at = error.utf8_error().valid_up_to();
             let problem = Problem::error(Span::new(at, at), "a text is written in UTF-8")
@@ -83,6 +85,21 @@ pub fn material(name: &str, bytes: Vec<u8>, binary: bool) -> Material {
             Material::Unreadable(Source::new(name, text), Box::new(problem))
         }
     }
+}
+
+/// Whether some byte is one that no text of people has in it.
+fn has_control_bytes(bytes: &[u8]) -> bool {
+    let in_texts = |byte: u8| matches!(byte, b'\t' | b'\n' | b'\r' | 12);
+    bytes.iter().any(|byte| *byte < 32 && !in_texts(*byte))
+}
+
+/// Pictures, programs and the like; none of it is shown.
+fn binary_file(name: &str, bytes: &[u8]) -> Material {
+    let first: Vec<String> = bytes.iter().take(8).map(u8::to_string).collect();
+    let problem = Problem::error(Span::default(), "this is a binary file, not a text")
+        .help(format!("it begins with the bytes {}", first.join(" ")))
+        .help("if it is a table of bytes, add --binary");
+    Material::Unreadable(Source::new(name, ""), Box::new(problem))
 }
 
 #[cfg(test)]
@@ -103,6 +120,23 @@ mod tests {
             material("f", b"tray".to_vec(), true),
             Material::Bytes(_)
         ));
+    }
+
+    #[test]
+    fn binary_files_are_called_so() {
+        for bytes in [&b"\x7fELF\x02\x01\0"[..], b"\x89PNG\r\n\x1a\n", b"tray a\0"] {
+            let Material::Unreadable(source, problem) = material("f", bytes.to_vec(), false) else {
+                unreachable!("no text");
+            };
+            assert_eq!(problem.message, "this is a binary file, not a text");
+            assert!(source.text.is_empty());
+        }
+        // A stray letter of another alphabet makes no binary file.
+        let latin = b"tray caf\xe9\r\n".to_vec();
+        let Material::Unreadable(_, problem) = material("f", latin, false) else {
+            unreachable!("no text");
+        };
+        assert_eq!(problem.message, "a text is written in UTF-8");
     }
 
     #[test]

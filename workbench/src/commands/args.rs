@@ -23,7 +23,12 @@ fn known(command: &str) -> (&'static [&'static str], usize) {
         "opening" => (&["--json", "--binary"], 1),
         "run" => (&["--board", "--quiet", "--json", "--binary"], 2),
         "play" => (&["--binary"], 2),
-        "explore" => (&["--groups", "--engine", "--all", "--json", "--binary"], 1),
+        "explore" => (
+            &[
+                "--groups", "--engine", "--first", "--all", "--json", "--binary",
+            ],
+            1,
+        ),
         _ => (&[], 0),
     }
 }

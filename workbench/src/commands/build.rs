@@ -1,9 +1,7 @@
 //! `hall build`
 
-use std::fs;
-use std::path::Path;
-
 use super::check::refused;
+use super::files::{not_over, write_whole};
 use super::load::{self, Loaded};
 use super::run::problems::{lost_problem, missed, unexpected};
 use super::run::script::{script, Script};
@@ -25,7 +23,13 @@ pub(super) fn build(args: &Args, streams: &mut Streams<'_>) -> Outcome {
     if let Some(file) = &args.output {
         not_over(name, file)?;
     }
-    let mut loaded = match load::load(name, args.has("--binary"), streams) {
+    // Bytes behind a table are choices, or they do not belong there.
+    let loaded = if args.has("--choices") {
+        load::load(name, args.has("--binary"), streams)
+    } else {
+        load::of_material(load::material_of(name, args.has("--binary"), streams)?)
+    };
+    let mut loaded = match loaded {
         Ok(loaded) => loaded,
         Err(unloaded) => return refused(name, unloaded, false, streams),
     };
@@ -115,35 +119,4 @@ fn left_out(
     let problem = Problem::note(line.span, "a refused choice ends a list of choices")
         .label(format!("{left} behind it left out"));
     load::tell(source, &[problem], streams)
-}
-
-/// Nothing is written over the file that is read, by whatever path it is named.
-///
-/// # Errors
-///
-/// Where both are the same.
-pub(super) fn not_over(read: &str, file: &str) -> Result<(), Failure> {
-    match (fs::canonicalize(read), fs::canonicalize(file)) {
-        (Ok(first), Ok(second)) if read != "-" && first == second => Err(Failure::Usage(format!(
-            "{file} is the file that is read, and is not written over: name another"
-        ))),
-        _ => Ok(()),
-    }
-}
-
-/// Writes a new file beside the wanted one and renames it: whoever looks finds
-/// the old file or the whole new one.
-///
-/// # Errors
-///
-/// Where it can't be written.
-pub(super) fn write_whole(file: &str, bytes: &[u8]) -> Result<(), Failure> {
-    let path = Path::new(file);
-    let mut beside = path.as_os_str().to_owned();
-    beside.push(format!(".{}.new", std::process::id()));
-    let written = fs::write(&beside, bytes).and_then(|()| fs::rename(&beside, path));
-    written.map_err(|error| {
-        let _ = fs::remove_file(&beside);
-        Failure::File(format!("cannot write {file}: {error}"))
-    })
 }

@@ -15,20 +15,15 @@ use ruonfidd::{check_hall, Hall, Refusal};
 /// Whether a file is accepted.
 pub(super) fn check(args: &Args, streams: &mut Streams<'_>) -> Outcome {
     let name = args.file(0).unwrap_or("-");
-    let bytes = load::bytes_of(name, streams)?;
-    let loaded = match input::material(name, bytes, args.has("--binary")) {
-        Material::Text(_) | Material::Unreadable(..) if args.file(1).is_some() => {
-            return Err(Failure::Usage(
-                "check: a stored hall belongs to a table of bytes, not to a text: build the table \
-                 once and keep it beside the hall"
-                    .to_owned(),
-            ));
-        }
-        Material::Text(source) => load::of_text(source),
-        Material::Unreadable(source, problem) => Err(Unloaded::Text(source, vec![*problem])),
-        // All of the file is the table here, so that 9 can be seen.
-        Material::Bytes(bytes) => load::of_bytes(&bytes, &[]),
-    };
+    let material = load::material_of(name, args.has("--binary"), streams)?;
+    if args.file(1).is_some() && !matches!(material, Material::Bytes(_)) {
+        return Err(Failure::Usage(
+            "check: a stored hall belongs to a table of bytes, not to a text: build the table \
+             once and keep it beside the hall"
+                .to_owned(),
+        ));
+    }
+    let loaded = load::of_material(material);
     let json = args.has("--json");
     match loaded {
         Err(unloaded) => refused(name, unloaded, json, streams),

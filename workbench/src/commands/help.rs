@@ -124,11 +124,11 @@ const EXPLORE: &str = "\
 usage: hall explore FILE [--never Q] [--ends Q] [--groups] [--engine] ..
 
 Tries every way the hall can go, a block acting in one step. Says where it ends
-and who is left, what trays have, who never acts, whether a run goes on for ever
-and a limit is met. Ways are choices for 'hall run', made on the engine before.
+or goes round for ever, who is left, what trays have, who never acts, whether a
+limit is met. Ways are choices for 'hall run', made on the engine before.
 
   --never 'done > 2'       must be so in no situation
-  --ends 'win + lose = 3'  must be so at every end
+  --ends 'win + lose = 3'  must be so at every end, and in rounds never left
                            Quotes keep < and > from the shell. There are = != <
                            <= > >= + - and or not ( ), trays, numbers, and
                            'stations' for how many stand there.
@@ -142,6 +142,6 @@ and a limit is met. Ways are choices for 'hall run', made on the engine before.
   --memory MB      the same; 2000 where nothing is said
   --json           one object, for programs
   --binary         FILE is a table, whatever it looks like
-Exit: 1 where something asked is broken or was not found out, or --engine had to
-stop before it could compare.
+  --first          stops at the first fault
+Exit: 1 where something asked is broken or not known, or --engine had to stop.
 ";

@@ -65,14 +65,40 @@ pub fn bytes_of(name: &str, streams: &mut Streams<'_>) -> Result<Vec<u8>, Failur
 ///
 /// Where there is no accepted one.
 pub fn load(name: &str, binary: bool, streams: &mut Streams<'_>) -> Result<Loaded, Unloaded> {
-    let bytes = bytes_of(name, streams)?;
-    match input::material(name, bytes, binary) {
-        Material::Text(source) => of_text(source),
-        Material::Unreadable(source, problem) => Err(Unloaded::Text(source, vec![*problem])),
+    match material_of(name, binary, streams)? {
         Material::Bytes(bytes) => {
             let (table, choices) = split_choices(&bytes);
             of_bytes(table, choices)
         }
+        other => of_material(other),
+    }
+}
+
+/// What a file holds, told by its bytes.
+///
+/// # Errors
+///
+/// Where it can't be read.
+pub fn material_of(
+    name: &str,
+    binary: bool,
+    streams: &mut Streams<'_>,
+) -> Result<Material, Failure> {
+    let bytes = bytes_of(name, streams)?;
+    Ok(input::material(name, bytes, binary))
+}
+
+/// The table of what a file holds, with nothing behind it: where bytes follow,
+/// the engine's refusal is seen.
+///
+/// # Errors
+///
+/// Where there is no accepted one.
+pub fn of_material(material: Material) -> Result<Loaded, Unloaded> {
+    match material {
+        Material::Text(source) => of_text(source),
+        Material::Unreadable(source, problem) => Err(Unloaded::Text(source, vec![*problem])),
+        Material::Bytes(bytes) => of_bytes(&bytes, &[]),
     }
 }
 

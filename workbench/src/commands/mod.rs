@@ -4,6 +4,7 @@ pub mod args;
 mod build;
 mod check;
 mod explore;
+mod files;
 pub mod help;
 pub mod load;
 mod opening;

@@ -4,8 +4,8 @@ use std::fmt::Write as _;
 
 use ruonfidd::Choice;
 
-use super::build::{not_over, write_whole};
 use super::check::refused;
+use super::files::{not_over, write_whole};
 use super::load;
 use super::run::problems::{lost_problem, missed, unexpected};
 use super::run::script::script;

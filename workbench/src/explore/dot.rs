@@ -81,6 +81,7 @@ fn step_words(explored: &Explored, labels: &Labels, step: Step) -> String {
             }
         }
         Deed::Note(_) => format!("{name} opens"),
+        Deed::Drop => format!("{name} fails"),
     }
 }
 

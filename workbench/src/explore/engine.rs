@@ -4,11 +4,14 @@
 //! known here. This finds faults of an engine, where the other exploration finds
 //! faults of rules; it is for small halls.
 
+use std::collections::HashMap;
+
 use ruonfidd::{Choice, Hall, Refusal, Tally, HALL_BYTES};
 
-use crate::stations::{self, Station};
+use crate::stations;
 use crate::table::Table;
 
+use super::components::{bottom_components, Edges};
 use super::model::Model;
 use super::search::{Cut, Limits};
 use super::store::{Index, Kept, NoRoom, Store};
@@ -24,9 +27,14 @@ pub struct EngineFound {
     pub first_hall: Vec<Index>,
     /// How many steps there are between the halls.
     pub steps: u64,
-    /// The situations at which nothing but abandoned attempts can follow once no
-    /// attempt is open.
+    /// The situations that some hall never leaves.
     pub ends: Vec<Index>,
+    /// The sets of two situations or more that some hall never leaves, and all
+    /// of which it can come to from each of them.
+    pub rounds: Vec<Vec<Index>>,
+    /// For each situation of an end or a round the first hall that has it and
+    /// never leaves what it is in.
+    pub last_halls: HashMap<Index, Index>,
     /// Whether some choice was refused 19.
     pub full_hall: bool,
     /// Whether some choice was refused 20.
@@ -55,7 +63,7 @@ const BETWEEN_LOOKS: u32 = 1 << 8;
 pub fn engine_search(
     table: &Table,
     limits: Limits,
-    progress: &mut super::search::Progress<'_>,
+    progress: &mut dyn FnMut(usize, usize),
 ) -> Result<EngineFound, Failed> {
     let (hall, _) = Hall::open(table.bytes()).map_err(Failed::Refused)?;
     let mut search = Search {
@@ -67,14 +75,14 @@ pub fn engine_search(
             first_hall: Vec::new(),
             steps: 0,
             ends: Vec::new(),
+            rounds: Vec::new(),
+            last_halls: HashMap::new(),
             full_hall: false,
             full_tray: false,
             cut: None,
         },
         situation_of: Vec::new(),
-        idle: Vec::new(),
-        leaves: Vec::new(),
-        inside: Vec::new(),
+        edges: Edges::default(),
     };
     search.keep(&hall, 0)?;
     let mut index = 0;
@@ -100,13 +108,10 @@ struct Search<'a> {
     table: &'a Table,
     model: Model,
     found: EngineFound,
-    /// For each hall its situation, whether no attempt is open, and whether a
-    /// step can lead to another situation, now or later.
+    /// For each hall its situation.
     situation_of: Vec<Index>,
-    idle: Vec<bool>,
-    leaves: Vec<bool>,
-    /// The steps that stay in a situation: from and to.
-    inside: Vec<(Index, Index)>,
+    /// The steps between halls.
+    edges: Edges,
 }
 
 impl Search<'_> {
@@ -125,12 +130,9 @@ impl Search<'_> {
             let Some(to) = self.keep(&next, index)? else {
                 return Ok(());
             };
-            if self.situation(to) == self.situation(index) {
-                self.inside.push((index, to));
-            } else if let Some(leaves) = self.leaves.get_mut(place(index)) {
-                *leaves = true;
-            }
+            self.edges.add(to);
         }
+        self.edges.close();
         Ok(())
     }
 
@@ -155,9 +157,6 @@ impl Search<'_> {
             .model
             .situation(&stations::counts(hall), &stations)
             .ok_or(Failed::NoSituation)?;
-        let open = |station: &Station| matches!(station, Station::Attempt(_));
-        self.idle.push(!stations.iter().any(open));
-        self.leaves.push(false);
         match self.found.situations.keep(&situation, 0) {
             Ok(Kept::New(number)) => {
                 self.found.first_hall.push(index);
@@ -172,39 +171,38 @@ impl Search<'_> {
         Ok(Ok(()))
     }
 
-    fn situation(&self, hall: Index) -> Option<Index> {
-        self.situation_of.get(place(hall)).copied()
-    }
-
-    /// A hall leaves its situation also by way of others that have it. An end
-    /// is a situation that its hall without attempts does not leave.
+    /// What halls never leave: one situation is an end, several are a round.
     fn find_ends(&mut self) {
-        let mut changed = true;
-        while changed {
-            changed = false;
-            for (from, to) in self.inside.iter().rev() {
-                let leaves = self.leaves.get(place(*to)).copied().unwrap_or(false);
-                if let Some(also @ false) = self.leaves.get_mut(place(*from)) {
-                    *also = leaves;
-                    changed |= leaves;
-                }
+        let mut sets: Vec<Vec<Index>> = Vec::new();
+        for halls in bottom_components(&self.edges) {
+            let mut set = Vec::new();
+            for hall in halls {
+                let situation = self.situation_of.get(hall).copied().unwrap_or(0);
+                let hall = Index::try_from(hall).unwrap_or(0);
+                let first = self.found.last_halls.entry(situation).or_insert(hall);
+                *first = hall.min(*first);
+                set.push(situation);
+            }
+            set.sort_unstable();
+            set.dedup();
+            sets.push(set);
+        }
+        sets.sort_unstable();
+        sets.dedup();
+        for set in sets {
+            match set.as_slice() {
+                [end] => self.found.ends.push(*end),
+                _ => self.found.rounds.push(set),
             }
         }
-        let rests = self.idle.iter().zip(&self.leaves).zip(&self.situation_of);
-        self.found.ends = rests
-            .filter(|((idle, leaves), _)| **idle && !**leaves)
-            .map(|(_, situation)| *situation)
-            .collect();
-        self.found.ends.sort_unstable();
-        self.found.ends.dedup();
     }
 
     fn memory(&self) -> usize {
         self.found.halls.memory()
             + self.found.situations.memory()
             + self.found.first_hall.len() * 4
-            + self.situation_of.len() * 6
-            + self.inside.len() * 8
+            + self.situation_of.len() * 4
+            + self.edges.memory()
     }
 }
 
@@ -282,8 +280,4 @@ fn without_zeros(hall: &Hall) -> &[u8] {
         .rposition(|byte| *byte != 0)
         .map_or(0, |at| at + 1);
     bytes.get(..used).unwrap_or(bytes)
-}
-
-fn place(index: Index) -> usize {
-    usize::try_from(index).unwrap_or(usize::MAX)
 }

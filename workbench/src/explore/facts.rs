@@ -2,6 +2,7 @@
 
 use std::collections::HashMap;
 
+use crate::stations::Station;
 use crate::table::Table;
 use crate::text::tree::Program;
 use crate::ways::action_words;
@@ -10,11 +11,13 @@ use super::endless::{endless, Allowed, Endless};
 use super::investigate::Explored;
 use super::labels::Labels;
 use super::model::Kind;
+use super::question::Question;
 use super::replay::{replay, Contradiction, Replay, Witness};
-use super::search::{Barred, Limits, Questions};
+use super::rounds::Codes;
+use super::search::{Barred, Cut, Limits, Questions};
 use super::steps::Limit;
 use super::store::Index;
-use super::waiting::{left, Left};
+use super::waiting::{left, InRound, Left};
 
 /// All that is reported of an exploration.
 #[derive(Clone, Debug)]
@@ -23,6 +26,13 @@ pub struct Facts {
     pub ends: Vec<End>,
     /// How many sorts of ends there are; some may be left out of `ends`.
     pub sorts: usize,
+    /// Why not all ends that were wanted are told.
+    pub ends_cut: Option<Cut>,
+    /// The rounds that are never left, those in which trays have the same taken
+    /// together, the nearest first; none where they are not known.
+    pub rounds: Option<Vec<LastRound>>,
+    /// Why not all rounds that were wanted are told.
+    pub rounds_cut: Option<Cut>,
     /// For each tray in use its name, and the least and the most it ever has.
     pub trays: Vec<(String, u8, u8)>,
     /// Stations that stand in some situation and act in none.
@@ -44,6 +54,19 @@ pub struct Facts {
     pub answers: Vec<Answer>,
 }
 
+/// Ends that are told, how many sorts there are, and why not all are told.
+struct Ends {
+    told: Vec<End>,
+    sorts: usize,
+    cut: Option<Cut>,
+}
+
+/// So many sorts of ends are told whatever the limits are.
+const ALWAYS_TOLD: usize = 12;
+
+/// So many ends are sorted between two looks at the limits.
+const BETWEEN_LOOKS: usize = 1 << 12;
+
 /// Ends with the same counts.
 #[derive(Clone, Debug)]
 pub struct End {
@@ -55,6 +78,21 @@ pub struct End {
     pub witness: Witness,
     /// Who is left there.
     pub left: Vec<Left>,
+}
+
+/// Rounds that are never left, and in which trays have the same.
+#[derive(Clone, Debug)]
+pub struct LastRound {
+    /// For each tray in use the least and the most that it has there.
+    pub extremes: Vec<(u8, u8)>,
+    /// How many rounds.
+    pub rounds: usize,
+    /// How many situations the nearest of them has.
+    pub situations: u64,
+    /// The shortest way into it.
+    pub witness: Witness,
+    /// Who goes on in it, and who does not.
+    pub who: InRound,
 }
 
 /// Whether a run can go on for ever.
@@ -86,8 +124,8 @@ pub struct Answer {
     pub question: String,
     /// What was found.
     pub verdict: Verdict,
-    /// Whether it is about ends, and there is none.
-    pub no_end: bool,
+    /// Where it is broken in a round that is never left: who goes on there.
+    pub round: Option<InRound>,
 }
 
 /// What was found.
@@ -126,7 +164,9 @@ impl Collector<'_> {
     ///
     /// Where the engine does not go one of the ways found.
     pub fn collect(&self) -> Result<Facts, Contradiction> {
-        let (ends, sorts) = self.ends()?;
+        let answers = self.answers()?;
+        let ends = self.ends()?;
+        let (rounds, rounds_cut) = self.rounds()?;
         let labels = Labels::of(self.table, self.program, &self.explored.model);
         let (never_act, never_open) = self.never_act(&labels);
         let marks = &self.explored.found.marks;
@@ -137,8 +177,11 @@ impl Collector<'_> {
             _ => self.for_ever(Allowed::Any)?,
         };
         Ok(Facts {
-            ends,
-            sorts,
+            ends: ends.told,
+            sorts: ends.sorts,
+            ends_cut: ends.cut,
+            rounds,
+            rounds_cut,
             trays: self.trays(),
             never_act,
             never_open,
@@ -147,7 +190,7 @@ impl Collector<'_> {
             for_ever_no_commit,
             full_hall: self.barred(marks.full_hall, Limit::Stations)?,
             full_tray: self.barred(marks.full_tray, Limit::Tray)?,
-            answers: self.answers()?,
+            answers,
         })
     }
 
@@ -166,36 +209,119 @@ impl Collector<'_> {
     }
 
     /// The ends are found in the order of their distance, so the first of a
-    /// sort is the nearest.
-    fn ends(&self) -> Result<(Vec<End>, usize), Contradiction> {
+    /// sort is the nearest. The nearest few are told whatever the limits are.
+    fn ends(&self) -> Result<Ends, Contradiction> {
+        let (sorts, cut) = self.sorts_of_ends();
+        let memory = sorts.len() * self.memory_of_a_sort();
+        let (told, met) = self.within_limits(&sorts, memory, |(index, situations)| {
+            let end = self.end(*index, *situations)?;
+            let memory = end.witness.memory();
+            Ok((end, memory))
+        })?;
+        Ok(Ends {
+            told,
+            sorts: sorts.len(),
+            cut: met.or(cut),
+        })
+    }
+
+    /// Tells one after the other, as many as are wanted and as the limits allow;
+    /// and which limit was met.
+    fn within_limits<S, T>(
+        &self,
+        sorts: &[S],
+        mut memory: usize,
+        tell: impl Fn(&S) -> Result<(T, usize), Contradiction>,
+    ) -> Result<(Vec<T>, Option<Cut>), Contradiction> {
+        let mut told = Vec::new();
+        for sort in sorts.iter().take(self.most_ends) {
+            if told.len() >= ALWAYS_TOLD {
+                if let Some(cut) = self.met(memory) {
+                    return Ok((told, Some(cut)));
+                }
+            }
+            let (one, more) = tell(sort)?;
+            memory += more;
+            told.push(one);
+        }
+        Ok((told, None))
+    }
+
+    fn end(&self, index: Index, situations: usize) -> Result<End, Contradiction> {
+        let Explored { model, found, .. } = self.explored;
+        let witness = self.way_to(index)?;
+        let situation = found.store.get(index);
+        let (counts, _) = model.split(&situation);
+        Ok(End {
+            counts: counts.to_vec(),
+            situations,
+            left: self.left_at(&witness),
+            witness,
+        })
+    }
+
+    /// For each sort of ends its first one, and how many there are; and why not
+    /// all ends were looked at.
+    fn sorts_of_ends(&self) -> (Vec<(Index, usize)>, Option<Cut>) {
         let Explored { model, found, .. } = self.explored;
         let mut sorts: Vec<(Index, usize)> = Vec::new();
         let mut of_counts: HashMap<Vec<u8>, usize> = HashMap::new();
-        for index in &found.ends {
-            let situation = found.store.get(*index);
-            let (counts, _) = model.split(&situation);
-            let sort = *of_counts.entry(counts.to_vec()).or_insert(sorts.len());
-            match sorts.get_mut(sort) {
-                Some((_, situations)) => *situations += 1,
-                None => sorts.push((*index, 1)),
+        let mut situation = Vec::new();
+        for ends in found.ends.chunks(BETWEEN_LOOKS) {
+            for index in ends {
+                found.store.read(*index, &mut situation);
+                let (counts, _) = model.split(&situation);
+                let known = of_counts.get(counts).copied();
+                if let Some((_, situations)) = known.and_then(|sort| sorts.get_mut(sort)) {
+                    *situations += 1;
+                } else {
+                    of_counts.insert(counts.to_vec(), sorts.len());
+                    sorts.push((*index, 1));
+                }
+            }
+            if let Some(cut) = self.met(sorts.len() * self.memory_of_a_sort()) {
+                return (sorts, Some(cut));
             }
         }
-        let told: Result<Vec<End>, Contradiction> = sorts
-            .iter()
-            .take(self.most_ends)
-            .map(|(index, situations)| {
-                let witness = self.way_to(*index)?;
-                let situation = found.store.get(*index);
-                let (counts, _) = model.split(&situation);
-                Ok(End {
-                    counts: counts.to_vec(),
-                    situations: *situations,
-                    left: self.left_at(&witness),
-                    witness,
-                })
-            })
-            .collect();
-        Ok((told?, sorts.len()))
+        (sorts, None)
+    }
+
+    /// As of ends, the nearest are told first.
+    fn rounds(&self) -> Result<(Option<Vec<LastRound>>, Option<Cut>), Contradiction> {
+        let Some(rounds) = &self.explored.rounds else {
+            return Ok((None, None));
+        };
+        let (told, cut) = self.within_limits(&rounds.sorts, 0, |sort| {
+            let witness = self.way_to(sort.first)?;
+            let memory = witness.memory();
+            let round = LastRound {
+                extremes: sort.extremes.clone(),
+                rounds: sort.rounds,
+                situations: sort.situations,
+                who: self.in_round(&witness, sort.acting),
+                witness,
+            };
+            Ok((round, memory))
+        })?;
+        Ok((Some(told), cut))
+    }
+
+    fn in_round(&self, witness: &Witness, acting: Codes) -> InRound {
+        let acts = |station: &Station| {
+            let code = self.explored.model.code(station);
+            code.is_some_and(|code| acting.contains(code))
+        };
+        InRound::of(&witness.last, acts)
+    }
+
+    /// Which limit is met with so many bytes more than the exploration uses.
+    fn met(&self, more: usize) -> Option<Cut> {
+        self.limits.met(self.explored.found.memory() + more)
+    }
+
+    fn memory_of_a_sort(&self) -> usize {
+        // Its counts stand apart, and not all room for entries is taken.
+        self.explored.model.trays().len() + 80
     }
 
     fn trays(&self) -> Vec<(String, u8, u8)> {
@@ -310,62 +436,79 @@ impl Collector<'_> {
     /// Where the engine does not go one of the ways found.
     pub fn answers(&self) -> Result<Vec<Answer>, Contradiction> {
         let found = &self.explored.found;
-        let never = self.questions.never.iter().zip(&found.never);
-        let ends = self.questions.ends.iter().zip(&found.broken_ends);
-        let never = never.map(|it| (Asked::Never, it));
-        never
-            .chain(ends.map(|it| (Asked::Ends, it)))
-            .map(|(asked, (question, broken))| {
-                Ok(Answer {
-                    asked,
-                    question: question.text.clone(),
-                    verdict: self.verdict(asked, *broken)?,
-                    no_end: asked == Asked::Ends && found.ends.is_empty(),
-                })
-            })
-            .collect()
+        let mut answers = Vec::new();
+        for (question, broken) in self.questions.never.iter().zip(&found.never) {
+            let verdict = match broken {
+                Some(index) => Verdict::Broken(Box::new(self.way_to(*index)?), Vec::new()),
+                None if self.explored.complete() => Verdict::Holds,
+                None => Verdict::Open,
+            };
+            answers.push(Answer::of(Asked::Never, question, verdict));
+        }
+        for (number, question) in self.questions.ends.iter().enumerate() {
+            answers.push(self.at_ends(number, question)?);
+        }
+        Ok(answers)
     }
 
-    fn verdict(&self, asked: Asked, broken: Option<Index>) -> Result<Verdict, Contradiction> {
-        match broken {
+    /// Ends and rounds are asked alike; the nearest that breaks it is told.
+    fn at_ends(&self, number: usize, question: &Question) -> Result<Answer, Contradiction> {
+        let Explored { found, rounds, .. } = self.explored;
+        let end = found.broken_ends.get(number).copied().flatten();
+        let rounds = rounds.as_ref().and_then(|rounds| rounds.broken.get(number));
+        let round = rounds.copied().flatten();
+        let round = round.filter(|(at, _)| end.map_or(true, |end| *at < end));
+        if let Some((at, acting)) = round {
+            let witness = self.way_to(at)?;
+            let who = self.in_round(&witness, acting);
+            let verdict = Verdict::Broken(Box::new(witness), Vec::new());
+            return Ok(Answer {
+                round: Some(who),
+                ..Answer::of(Asked::Ends, question, verdict)
+            });
+        }
+        let verdict = match end {
             Some(index) => {
                 let witness = self.way_to(index)?;
-                let left = match asked {
-                    Asked::Never => Vec::new(),
-                    Asked::Ends => self.left_at(&witness),
-                };
-                Ok(Verdict::Broken(Box::new(witness), left))
+                let left = self.left_at(&witness);
+                Verdict::Broken(Box::new(witness), left)
             }
-            None if self.explored.complete() => Ok(Verdict::Holds),
-            None => Ok(Verdict::Open),
-        }
+            None if self.explored.ends_known() => Verdict::Holds,
+            None => Verdict::Open,
+        };
+        Ok(Answer::of(Asked::Ends, question, verdict))
     }
 }
 
 impl Answer {
+    /// An answer that no round is in the way of.
+    #[must_use]
+    pub fn of(asked: Asked, question: &Question, verdict: Verdict) -> Answer {
+        Answer {
+            asked,
+            question: question.text.clone(),
+            verdict,
+            round: None,
+        }
+    }
+
     /// The question as it is told.
     #[must_use]
     pub fn told(&self) -> String {
-        match self.asked {
-            Asked::Never => format!("never {}", self.question),
-            Asked::Ends => format!("every end has {}", self.question),
-        }
-    }
-}
-
-impl Answer {
-    /// How it is told that it holds.
-    #[must_use]
-    pub fn holds(&self) -> &'static str {
-        if self.no_end {
-            "holds, since there is no end"
-        } else {
-            "holds"
-        }
+        self.asked.told(&self.question)
     }
 }
 
 impl Asked {
+    /// A question as it is told.
+    #[must_use]
+    pub fn told(self, question: &str) -> String {
+        match self {
+            Asked::Never => format!("never {question}"),
+            Asked::Ends => format!("every end has {question}"),
+        }
+    }
+
     /// The word for it.
     #[must_use]
     pub fn word(self) -> &'static str {

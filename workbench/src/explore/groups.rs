@@ -241,6 +241,7 @@ fn asked_of(questions: &Questions, program: &Program, table: &Table) -> Option<Q
     Some(Questions {
         never: again(&questions.never)?,
         ends: again(&questions.ends)?,
+        only_first: questions.only_first,
     })
 }
 

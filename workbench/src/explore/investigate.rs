@@ -10,6 +10,7 @@
 use crate::table::Table;
 
 use super::model::Model;
+use super::round_sorts::{rounds, Rounds};
 use super::search::{search, Cut, Found, Limits, Progress, Questions};
 
 /// Whether the situations found are those of the hall, all of them and no
@@ -54,6 +55,8 @@ pub struct Explored {
     pub found: Found,
     /// Whether that is all.
     pub exact: Exact,
+    /// The rounds that are never left; none where they are not known.
+    pub rounds: Option<Rounds>,
 }
 
 impl Explored {
@@ -63,10 +66,32 @@ impl Explored {
     pub fn complete(&self) -> bool {
         self.exact.yes() && self.found.cut.is_none()
     }
+
+    /// Whether all ends and all rounds that are never left are known too.
+    #[must_use]
+    pub fn ends_known(&self) -> bool {
+        self.complete() && self.rounds.is_some()
+    }
 }
 
-/// Explores a hall, with notes where they are needed.
+/// Explores a hall, with notes where they are needed, and looks for the rounds
+/// that are never left.
 pub fn investigate(
+    table: &Table,
+    questions: &Questions,
+    limits: Limits,
+    progress: &mut Progress<'_>,
+) -> Explored {
+    let mut explored = all_situations(table, questions, limits, progress);
+    if explored.complete() {
+        let Explored { model, found, .. } = &mut explored;
+        found.take_in_stuck(model, &questions.ends);
+        explored.rounds = rounds(model, found, &questions.ends, limits).ok();
+    }
+    explored
+}
+
+fn all_situations(
     table: &Table,
     questions: &Questions,
     limits: Limits,
@@ -84,6 +109,7 @@ pub fn investigate(
         model,
         found,
         exact,
+        rounds: None,
     };
     if exact != Exact::No(Doubt::TooManyNotes) {
         return plain;
@@ -113,6 +139,7 @@ fn again(
             model,
             found,
             exact: Exact::WithNotes,
+            rounds: None,
         };
     };
     plain.exact = Exact::No(Doubt::NotesCut(cut));
@@ -123,5 +150,6 @@ fn again(
         model,
         found,
         exact: plain.exact,
+        rounds: None,
     }
 }

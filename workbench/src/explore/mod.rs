@@ -14,12 +14,14 @@
 //! | [`search`] | all of them, breadth first |
 //! | [`investigate`] | whether that was exact; once more with notes where not |
 //! | [`endless`] | runs that never end |
+//! | [`rounds`], [`round_sorts`] | rounds that are never left; what is kept of them |
 //! | [`replay`] | a way to a situation, made on the library |
 //! | [`labels`] | what the stations of a code are called |
 //! | [`waiting`] | who is left at an end, and why |
 //! | [`groups`], [`start_line`] | every group of stations, and the line that opens it |
-//! | [`engine`] | all halls by the library's own steps |
+//! | [`engine`], [`components`] | all halls by the library's own steps, and the sets never left |
 
+pub mod components;
 pub mod dot;
 pub mod endless;
 pub mod engine;
@@ -32,6 +34,8 @@ pub mod objects;
 pub mod question;
 pub mod replay;
 pub mod report;
+pub mod round_sorts;
+pub mod rounds;
 pub mod search;
 pub mod situations;
 pub mod start_line;

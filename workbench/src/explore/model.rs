@@ -159,6 +159,27 @@ impl Model {
             .map_or(true, |code| usize::from(*code) < self.first_noted)
     }
 
+    /// The same situation with every attempt read as a block not begun.
+    #[must_use]
+    pub fn read_without_notes(&self, situation: &[u8]) -> Vec<u8> {
+        let (counts, stations) = self.split(situation);
+        let mut codes: Vec<u8> = stations
+            .iter()
+            .map(|code| self.without_note(*code))
+            .collect();
+        codes.sort_unstable();
+        counts.iter().copied().chain(codes).collect()
+    }
+
+    /// The code of the block, of one with a note; any other code itself.
+    #[must_use]
+    pub fn without_note(&self, code: u8) -> u8 {
+        match self.kind(code) {
+            Some(Kind::Noted { block, .. }) => *block,
+            _ => code,
+        }
+    }
+
     /// The first code of a block with a note; all from there on are such.
     #[must_use]
     pub fn first_noted(&self) -> usize {

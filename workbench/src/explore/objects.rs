@@ -3,11 +3,12 @@
 use crate::json::{list, string, Object};
 use crate::text::tree::Program;
 
-use super::facts::{Answer, End, Facts, ForEver, Verdict};
+use super::facts::{Answer, End, Facts, ForEver, LastRound, Verdict};
 use super::investigate::Explored;
 use super::replay::Witness;
-use super::report::exact_words;
-use super::waiting::Left;
+use super::report::{cut_words, exact_words};
+use super::search::Cut;
+use super::waiting::{InRound, Left};
 
 /// The object of an exploration.
 #[must_use]
@@ -34,6 +35,7 @@ pub fn object(program: &Program, explored: &Explored, facts: &Facts, seconds: f6
         .count("memory", found.memory())
         .count("end_situations", found.ends.len())
         .count("end_sorts", facts.sorts)
+        .raw("ends_cut_by", option(facts.ends_cut))
         .raw(
             "ends",
             list(
@@ -43,6 +45,9 @@ pub fn object(program: &Program, explored: &Explored, facts: &Facts, seconds: f6
                     .map(|end| end_object(program, explored, end)),
             ),
         )
+        .raw("rounds", rounds(program, explored, facts))
+        .raw("round_sorts", round_sorts(explored))
+        .raw("rounds_cut_by", option(facts.rounds_cut))
         .raw("trays", trays.written())
         .raw("never_act", strings(&facts.never_act))
         .raw("never_open", strings(&facts.never_open))
@@ -56,6 +61,19 @@ pub fn object(program: &Program, explored: &Explored, facts: &Facts, seconds: f6
         .raw("met_20", witness_or_null(facts.full_tray.as_ref()))
         .raw("answers", list(facts.answers.iter().map(answer)))
         .written()
+}
+
+/// Null where they are not known.
+fn rounds(program: &Program, explored: &Explored, facts: &Facts) -> String {
+    facts.rounds.as_ref().map_or("null".to_owned(), |rounds| {
+        let rounds = rounds.iter();
+        list(rounds.map(|round| round_object(program, explored, round)))
+    })
+}
+
+fn round_sorts(explored: &Explored) -> String {
+    let rounds = explored.rounds.as_ref();
+    rounds.map_or("null".to_owned(), |rounds| rounds.sorts.len().to_string())
 }
 
 fn end_object(program: &Program, explored: &Explored, end: &End) -> String {
@@ -73,6 +91,29 @@ fn end_object(program: &Program, explored: &Explored, end: &End) -> String {
     .written()
 }
 
+fn round_object(program: &Program, explored: &Explored, round: &LastRound) -> String {
+    let extremes = explored.model.trays().iter().zip(&round.extremes);
+    let trays = extremes.fold(Object::new(), |trays, (tray, (least, most))| {
+        trays.raw(&program.tray_name(*tray), format!("[{least}, {most}]"))
+    });
+    with_witness(
+        Object::new()
+            .raw("trays", trays.written())
+            .count("rounds", round.rounds)
+            .number("situations", round.situations)
+            .raw("who", in_round(&round.who)),
+        &round.witness,
+    )
+    .written()
+}
+
+fn in_round(who: &InRound) -> String {
+    Object::new()
+        .raw("go_on", strings(&who.go_on))
+        .raw("never_again", strings(&who.never_again))
+        .written()
+}
+
 fn left(left: &Left) -> String {
     Object::new()
         .string("station", &left.name)
@@ -88,13 +129,16 @@ pub fn answer(answer: &Answer) -> String {
         .string("asked", answer.asked.word())
         .string("question", &answer.question);
     match &answer.verdict {
-        Verdict::Holds if answer.no_end => object.string("verdict", "holds").truth("no_end", true),
         Verdict::Holds => object.string("verdict", "holds"),
         Verdict::Open => object.string("verdict", "not known"),
         Verdict::Broken(witness, stations) => with_witness(
             object
                 .string("verdict", "broken")
-                .raw("left", list(stations.iter().map(left))),
+                .raw("left", list(stations.iter().map(left)))
+                .raw(
+                    "round",
+                    answer.round.as_ref().map_or("null".to_owned(), in_round),
+                ),
             witness,
         ),
     }
@@ -128,6 +172,11 @@ fn for_ever(for_ever: &ForEver) -> String {
             with_witness(Object::new().count("round_from", *before), witness).written()
         }
     }
+}
+
+/// The option that cut something short.
+fn option(cut: Option<Cut>) -> String {
+    cut.map_or("null".to_owned(), |cut| string(cut_words(cut)))
 }
 
 fn strings(words: &[String]) -> String {

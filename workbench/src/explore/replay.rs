@@ -5,6 +5,8 @@
 //! and acted on, and after each step the engine's hall has to be the situation
 //! that was foretold.
 
+use std::mem::size_of;
+
 use ruonfidd::{Choice, Moved};
 
 use crate::rehearsal::{Moment, Rehearsal};
@@ -56,6 +58,16 @@ impl Witness {
         made.chain(self.refused.as_deref())
     }
 
+    /// About what it takes until it is told: its lines and the stations at its
+    /// end, and the words for them, several times over while an object is put
+    /// together.
+    #[must_use]
+    pub fn memory(&self) -> usize {
+        let of_line = |line: &Line| size_of::<Line>() + 4 * (line.words.len() + 8);
+        let stations = self.last.stations.len() * 600;
+        500 + stations + self.lines.iter().map(of_line).sum::<usize>()
+    }
+
     /// The choices as bytes.
     #[must_use]
     pub fn bytes(&self) -> Vec<u8> {
@@ -90,6 +102,7 @@ pub fn rehearse(
 #[derive(Clone, Debug)]
 pub struct Replay<'a> {
     model: &'a Model,
+    stepper: Stepper<'a>,
     rehearsal: Rehearsal<'a>,
     lines: Vec<Line>,
     refused: Option<String>,
@@ -128,6 +141,7 @@ impl<'a> Replay<'a> {
             .map_err(|unmade| contradiction(format!("the hall does not open: {unmade:?}")))?;
         let replay = Replay {
             model,
+            stepper: Stepper::new(model),
             rehearsal,
             lines: Vec::new(),
             refused: None,
@@ -194,7 +208,7 @@ impl<'a> Replay<'a> {
     }
 
     fn step(&mut self, from: &[u8], to: &[u8]) -> Result<(), Contradiction> {
-        let step = step_between(self.model, from, to)
+        let step = step_between(&mut self.stepper, from, to)
             .ok_or_else(|| contradiction("two situations that no step joins".to_owned()))?;
         self.make(step)?;
         self.steps += 1;
@@ -210,6 +224,7 @@ impl<'a> Replay<'a> {
             Deed::Take => self.act(position, Moved::IN),
             Deed::Repeat => self.act(position, Moved::REP),
             Deed::Note(_) => self.attempt(position),
+            Deed::Drop => self.act(position, Moved::ATFAIL),
             Deed::Commit(_) => {
                 if matches!(self.model.kind(step.code), Some(Kind::Block { .. })) {
                     self.attempt(position)?;
@@ -325,9 +340,9 @@ fn words(names: &crate::names::Names, choice: Choice) -> String {
 
 /// A step that leads from one situation to the other.
 #[must_use]
-pub fn step_between(model: &Model, from: &[u8], to: &[u8]) -> Option<Step> {
+fn step_between(stepper: &mut Stepper<'_>, from: &[u8], to: &[u8]) -> Option<Step> {
     let mut between = None;
-    Stepper::new(model).each(from, |step, tried| {
+    stepper.each(from, |step, tried| {
         if between.is_none() && tried == Tried::To(to) {
             between = Some(step);
         }

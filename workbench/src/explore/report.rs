@@ -5,7 +5,7 @@ use std::fmt::Write as _;
 use crate::style::{wrapped, Style, WIDTH};
 use crate::text::tree::Program;
 
-use super::facts::{Answer, End, Facts, ForEver, Verdict};
+use super::facts::{Answer, End, Facts, ForEver, LastRound, Verdict};
 use super::investigate::{Doubt, Exact, Explored};
 use super::replay::Witness;
 use super::search::Cut;
@@ -112,12 +112,78 @@ impl Report<'_> {
         for (number, end) in (1..).zip(&self.facts.ends) {
             lines.extend(self.end(number, end));
         }
-        let more = self.facts.sorts - self.facts.ends.len().min(self.facts.sorts);
-        if more > 0 {
-            let more = u64::try_from(more).unwrap_or(0);
-            lines.push(format!("  and {} more (--all tells them)", grouped(more)));
-        }
+        let Facts { ends, ends_cut, .. } = self.facts;
+        lines.extend(not_told(self.facts.sorts, ends.len(), *ends_cut));
+        lines.extend(self.rounds());
         lines
+    }
+
+    /// The rounds that are never left.
+    fn rounds(&self) -> Vec<String> {
+        let (rounds, told) = match (&self.explored.rounds, &self.facts.rounds) {
+            (Some(rounds), Some(told)) => (rounds, told),
+            _ if self.complete() => {
+                return vec!["Whether there are rounds that are never left is not known.".to_owned()]
+            }
+            _ => return Vec::new(),
+        };
+        let number = |count: usize| u64::try_from(count).unwrap_or(u64::MAX);
+        let head = match rounds.number {
+            0 => return Vec::new(),
+            1 => "1 round that is never left:".to_owned(),
+            many => format!(
+                "{} rounds that are never left, of {} by what the trays have:",
+                grouped(number(many)),
+                counted(number(rounds.sorts.len()), "sort")
+            ),
+        };
+        let mut lines = vec![String::new(), head];
+        for (number, round) in (1..).zip(told) {
+            lines.extend(self.round(number, round));
+        }
+        let cut = self.facts.rounds_cut;
+        lines.extend(not_told(rounds.sorts.len(), told.len(), cut));
+        lines
+    }
+
+    fn round(&self, number: usize, round: &LastRound) -> Vec<String> {
+        let many = match round.rounds {
+            1 => String::new(),
+            many => format!("; {many} rounds, the nearest"),
+        };
+        let mut lines = wrapped(
+            &format!("{number:>3}  "),
+            &format!(
+                "{}{many} {}, {}",
+                self.style.bold(&self.extremes(&round.extremes)),
+                when(&round.witness),
+                counted(round.situations, "situation")
+            ),
+        );
+        lines.extend(wrapped("     ", &round.who.told()));
+        lines.extend(choices(&round.witness, 5));
+        lines
+    }
+
+    /// The trays that ever have something in a round.
+    fn extremes(&self, extremes: &[(u8, u8)]) -> String {
+        let trays = self.explored.model.trays().iter().zip(extremes);
+        let words: Vec<String> = trays
+            .filter(|(_, (_, most))| *most > 0)
+            .map(|(tray, (least, most))| {
+                let name = self.program.tray_name(*tray);
+                if least == most {
+                    format!("{name} {least}")
+                } else {
+                    format!("{name} {least} to {most}")
+                }
+            })
+            .collect();
+        if words.is_empty() {
+            "all trays empty".to_owned()
+        } else {
+            words.join(", ")
+        }
     }
 
     fn end(&self, number: usize, end: &End) -> Vec<String> {
@@ -260,7 +326,7 @@ impl Report<'_> {
 
     fn answer(&self, answer: &Answer) -> Vec<String> {
         let (verdict, witness, left) = match &answer.verdict {
-            Verdict::Holds => (self.style.good(answer.holds()), None, None),
+            Verdict::Holds => (self.style.good("holds"), None, None),
             Verdict::Open => (
                 "not known; nothing that was seen breaks it".to_owned(),
                 None,
@@ -282,6 +348,10 @@ impl Report<'_> {
             }
         };
         let mut lines = wrapped("", &format!("{}: {verdict}", answer.told()));
+        if let Some(who) = &answer.round {
+            let words = format!("in a round that is never left: {}", who.told());
+            lines.extend(wrapped("     ", &words));
+        }
         for line in left.map(|left| waiting::told(left)).unwrap_or_default() {
             lines.extend(wrapped("     ", &line));
         }
@@ -289,6 +359,19 @@ impl Report<'_> {
             lines.extend(choices(witness, 5));
         }
         lines
+    }
+}
+
+/// How many sorts are not told, and why.
+fn not_told(sorts: usize, told: usize, cut: Option<Cut>) -> Option<String> {
+    let more = grouped(u64::try_from(sorts.saturating_sub(told)).unwrap_or(0));
+    match cut {
+        Some(cut) => Some(format!(
+            "  and {more} more at least: the telling was cut short by {}",
+            cut_words(cut)
+        )),
+        None if sorts > told => Some(format!("  and {more} more (--all tells them)")),
+        None => None,
     }
 }
 
@@ -318,10 +401,13 @@ pub fn exact_words(exact: Exact) -> String {
     }
 }
 
-fn cut_words(cut: Cut) -> &'static str {
+/// The option that cut something short.
+#[must_use]
+pub fn cut_words(cut: Cut) -> &'static str {
     match cut {
         Cut::Time => "--seconds",
         Cut::Memory => "--memory",
+        Cut::Fault => "--first",
     }
 }
 

@@ -1,7 +1,9 @@
 //! Every situation that a hall can come to, breadth first.
 
+use std::collections::HashSet;
 use std::time::Instant;
 
+use super::endless::{feeds_nothing_round, Allowed};
 use super::model::{Kind, Model};
 use super::question::Question;
 use super::situations::{Glance, Situations};
@@ -45,6 +47,8 @@ pub enum Cut {
     Time,
     /// The memory was used up.
     Memory,
+    /// A fault was found, and no more than the first was wanted.
+    Fault,
 }
 
 /// What is asked beside all that is reported anyway.
@@ -54,6 +58,8 @@ pub struct Questions {
     pub never: Vec<Question>,
     /// What must be so at every end.
     pub ends: Vec<Question>,
+    /// Whether to stop where the first of them is broken.
+    pub only_first: bool,
 }
 
 impl Questions {
@@ -105,7 +111,7 @@ impl Marks {
         self.steps += 1;
         let code = usize::from(step.code);
         // To open an attempt is not to act: it may come to nothing.
-        let acts = !matches!(step.deed, Deed::Note(_));
+        let acts = step.deed.has_effect();
         if let Some(acted) = self.acted.get_mut(code) {
             *acted |= acts;
         }
@@ -121,7 +127,7 @@ impl Marks {
                     *taken |= 1 << way;
                 }
             }
-            Deed::Put | Deed::Take | Deed::Note(_) => {}
+            Deed::Put | Deed::Take | Deed::Note(_) | Deed::Drop => {}
         }
     }
 
@@ -145,6 +151,8 @@ pub struct Found {
     /// The situations from which no step is left, in the order in which they
     /// were found.
     pub ends: Vec<Index>,
+    /// Those with notes from which none is left.
+    pub stuck: Vec<Index>,
     /// For each slot the least and the most that its tray ever has.
     pub extremes: Vec<(u8, u8)>,
     /// What the steps between them showed.
@@ -157,9 +165,18 @@ pub struct Found {
     pub cut: Option<Cut>,
 }
 
-/// Told now and then how many situations there are and how many of them are
-/// done with.
-pub type Progress<'a> = dyn FnMut(usize, usize) + 'a;
+/// What was found so far.
+#[derive(Clone, Copy, Debug)]
+pub struct SoFar<'a> {
+    /// The stations' codes.
+    pub model: &'a Model,
+    /// What was found.
+    pub found: &'a Found,
+}
+
+/// Shown now and then what was found so far, and how many situations are done
+/// with.
+pub type Progress<'a> = dyn FnMut(SoFar<'_>, usize) + 'a;
 
 /// So many situations, or a few more, are looked up at once.
 const BATCH: usize = 256;
@@ -179,6 +196,10 @@ pub fn search(
         questions,
         found: Found::of_opening(model, questions),
     };
+    // Where every run ends there is no round to be looked for afterwards.
+    if !feeds_nothing_round(model, Allowed::Any) {
+        search.found.store.keep_least();
+    }
     let mut opening = Batch::default();
     search.found.store.add(&mut opening, model.opening(), 0);
     search.keep(&mut opening);
@@ -201,7 +222,11 @@ impl Search<'_> {
         while done < self.found.store.len() && self.found.cut.is_none() {
             if batches % BETWEEN_LOOKS == 0 {
                 self.found.cut = limits.met(self.found.memory());
-                progress(self.found.store.len(), done);
+                let so_far = SoFar {
+                    model: self.model,
+                    found: &self.found,
+                };
+                progress(so_far, done);
             }
             batches = batches.wrapping_add(1);
             batch.clear();
@@ -215,6 +240,9 @@ impl Search<'_> {
                 return;
             }
             self.keep(&mut batch);
+            if self.questions.only_first && self.found.breaks_something() {
+                self.found.cut = Some(Cut::Fault);
+            }
         }
     }
 
@@ -232,6 +260,7 @@ impl Search<'_> {
             store,
             marks,
             ends,
+            stuck,
             broken_ends,
             ..
         } = found;
@@ -244,7 +273,11 @@ impl Search<'_> {
             Some(limit) => marks.meet(limit, index, step.code),
         };
         store.go_on(stepper, index, batch, show, |situation| {
-            if !ended.get() || situation.noted {
+            if !ended.get() {
+                return;
+            }
+            if situation.noted {
+                stuck.push(index);
                 return;
             }
             ends.push(index);
@@ -302,6 +335,7 @@ impl Found {
             store: Situations::of(model),
             situations: 0,
             ends: Vec::new(),
+            stuck: Vec::new(),
             extremes: counts.iter().map(|count| (*count, *count)).collect(),
             marks: Marks::of(model.kinds().len()),
             never: vec![None; questions.never.len()],
@@ -310,14 +344,45 @@ impl Found {
         }
     }
 
+    /// Takes those ends in at which an attempt is stuck: finished by a way whose
+    /// puts have no room among 64 stations, though a new attempt would go
+    /// another way. Read without notes such a situation is no end by itself, and
+    /// it is one end whatever the notes are.
+    pub fn take_in_stuck(&mut self, model: &Model, questions: &[Question]) {
+        let mut plain: HashSet<Index> = self.ends.iter().copied().collect();
+        let mut taken = Vec::new();
+        for index in &self.stuck {
+            let read = model.read_without_notes(&self.store.get(*index));
+            if self
+                .store
+                .find(&read)
+                .is_some_and(|read| plain.insert(read))
+            {
+                taken.push(*index);
+            }
+        }
+        for index in &taken {
+            self.store.glance(*index, |glance| {
+                for (first, question) in self.broken_ends.iter_mut().zip(questions) {
+                    let before = first.is_some_and(|first| first < *index);
+                    if !before && !question.holds(glance.counts, glance.stations) {
+                        *first = Some(*index);
+                    }
+                }
+            });
+        }
+        self.ends.extend(taken);
+        self.ends.sort_unstable();
+    }
+
     /// The memory in use.
     #[must_use]
     pub fn memory(&self) -> usize {
-        self.store.memory() + 4 * self.ends.len()
+        self.store.memory() + 4 * (self.ends.len() + self.stuck.len())
     }
 
     fn memory_with(&self, more: usize) -> usize {
-        self.store.memory_with(more) + 4 * self.ends.len()
+        self.store.memory_with(more) + 4 * (self.ends.len() + self.stuck.len())
     }
 
     /// Whether a question was found broken.

@@ -92,6 +92,28 @@ impl Situations {
         self.store.memory_with(more)
     }
 
+    /// From now on keeps for each situation the least one that it leads to.
+    pub fn keep_least(&mut self) {
+        self.store.keep_least();
+    }
+
+    /// Hands out for each situation the least one that it leads to; they are not
+    /// kept any longer.
+    pub fn take_least(&mut self) -> Option<Vec<Index>> {
+        self.store.take_least()
+    }
+
+    /// Shows for each situation of a batch its number, where it is kept.
+    pub fn find_batch(&self, batch: &mut Batch, show: impl FnMut(Index)) {
+        self.store.find_batch(batch, show);
+    }
+
+    /// Gives a glance at a situation.
+    pub fn glance(&self, index: Index, show: impl FnOnce(Glance<'_>)) {
+        let packed = self.store.get(index);
+        self.packing.glance(packed, self.first_noted, show);
+    }
+
     /// All numbers, in order.
     pub fn indexes(&self) -> impl Iterator<Item = Index> {
         self.store.indexes()

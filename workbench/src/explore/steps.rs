@@ -2,8 +2,9 @@
 //!
 //! A step is a put, a take, a repeated take, or a block that commits, by the
 //! first way that is readable now. With notes a block may also note that way
-//! and commit by it later. An attempt that will be abandoned changes nothing
-//! and is left out.
+//! and commit by it later; once the noted way is not readable any more, the
+//! note is dropped. Any other attempt that will be abandoned changes nothing and
+//! is left out.
 
 use super::model::{Kind, Model, Way, MOST_STATIONS};
 
@@ -21,6 +22,16 @@ pub enum Deed {
     /// It opened an attempt, for which the way of this index is the first
     /// readable one.
     Note(usize),
+    /// Its attempt failed, and its block waits again.
+    Drop,
+}
+
+impl Deed {
+    /// Whether it changed what the trays have or who stands there.
+    #[must_use]
+    pub fn has_effect(self) -> bool {
+        !matches!(self, Deed::Note(_) | Deed::Drop)
+    }
 }
 
 /// A station of a code, and what it did.
@@ -143,9 +154,11 @@ impl Try {
                 }
                 tries
             }
-            Some(Kind::Noted { way, .. }) => {
+            Some(Kind::Noted { block, way }) => {
                 let ways = model.ways(code).iter().enumerate();
-                ways.skip(*way).take(1).map(commit).collect()
+                let mut tries: Vec<Try> = ways.skip(*way).take(1).map(commit).collect();
+                tries.push(Try::of(code, Deed::Drop, &[], &[*block]));
+                tries
             }
         }
     }

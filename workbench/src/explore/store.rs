@@ -123,8 +123,14 @@ pub struct Store {
     /// The numbers of the records from which on the upper part is one more.
     higher: Vec<Index>,
     parents: Vec<Index>,
+    /// For each record the least one that it was seen to lead to, where that is
+    /// wanted.
+    least: Option<Vec<Index>>,
     slots: Vec<Slot>,
 }
+
+/// In the place of a record that another one leads to: there is none.
+pub const NOWHERE: Index = Index::MAX;
 
 impl Store {
     /// No record yet.
@@ -135,8 +141,21 @@ impl Store {
             ends: Vec::new(),
             higher: Vec::new(),
             parents: Vec::new(),
+            least: None,
             slots: vec![FREE; FEWEST_SLOTS],
         }
+    }
+
+    /// From now on keeps for each record the least one that a batch shows it to
+    /// lead to.
+    pub fn keep_least(&mut self) {
+        self.least = Some(vec![NOWHERE; self.len()]);
+    }
+
+    /// Hands out for each record the least one that it leads to, [`NOWHERE`]
+    /// where there is none; they are not kept any longer.
+    pub fn take_least(&mut self) -> Option<Vec<Index>> {
+        self.least.take()
     }
 
     /// How many records there are.
@@ -154,8 +173,9 @@ impl Store {
     /// The memory in use.
     #[must_use]
     pub fn memory(&self) -> usize {
+        let least = self.least.as_ref().map_or(0, Vec::len);
         self.bytes.len()
-            + 4 * (self.ends.len() + self.parents.len())
+            + 4 * (self.ends.len() + self.parents.len() + least)
             + size_of::<Slot>() * self.slots.len()
     }
 
@@ -234,12 +254,30 @@ impl Store {
         }
         self.touch(batch);
         for (item, record) in batch.records() {
-            if let Err(slot) = self.look_up(record, item.hash, item.from) {
-                let index = self.append(record, item.parent, item.hash, slot)?;
-                show(index, record);
+            let index = match self.look_up(record, item.hash, item.from) {
+                Ok(index) => index,
+                Err(slot) => {
+                    let index = self.append(record, item.parent, item.hash, slot)?;
+                    show(index, record);
+                    index
+                }
+            };
+            let least = self.least.as_mut();
+            if let Some(least) = least.and_then(|least| least.get_mut(place(item.parent))) {
+                *least = index.min(*least);
             }
         }
         Ok(())
+    }
+
+    /// Shows for each record of a batch its number, where it is kept.
+    pub fn find_batch(&self, batch: &mut Batch, mut show: impl FnMut(Index)) {
+        self.touch(batch);
+        for (item, record) in batch.records() {
+            if let Ok(index) = self.look_up(record, item.hash, item.from) {
+                show(index);
+            }
+        }
     }
 
     /// Reads what the records of a batch will be compared with, for all of them
@@ -300,6 +338,10 @@ impl Store {
             .and_then(|()| self.ends.try_reserve(1))
             .and_then(|()| self.parents.try_reserve(1))
             .map_err(|_| NoRoom)?;
+        if let Some(least) = &mut self.least {
+            least.try_reserve(1).map_err(|_| NoRoom)?;
+            least.push(NOWHERE);
+        }
         let upper = self.bytes.len() >> LOW_BITS;
         self.bytes.extend_from_slice(record);
         if self.bytes.len() >> LOW_BITS != upper {

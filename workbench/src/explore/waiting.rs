@@ -82,6 +82,94 @@ pub fn told(left: &[Left]) -> Vec<String> {
         .collect()
 }
 
+/// Who goes on in a round that is never left, and who does not.
+#[derive(Clone, Debug, PartialEq, Eq)]
+pub struct InRound {
+    /// Those that act in it again and again, those whom they open left out.
+    pub go_on: Vec<String>,
+    /// Those that never act again.
+    pub never_again: Vec<String>,
+}
+
+impl InRound {
+    /// The stations of a hall in the round, told apart by whether they act there.
+    #[must_use]
+    pub fn of(now: &Moment, acts: impl Fn(&Station) -> bool) -> InRound {
+        let mut who = InRound {
+            go_on: Vec::new(),
+            never_again: Vec::new(),
+        };
+        for (position, station) in (0..).zip(&now.stations) {
+            if !acts(station) {
+                who.never_again.push(now.names.name_and_origin(position));
+                continue;
+            }
+            let origin = now.names.origin(position).map(str::to_owned);
+            let name = origin.unwrap_or_else(|| now.names.name(position));
+            if !who.go_on.contains(&name) {
+                who.go_on.push(name);
+            }
+        }
+        who
+    }
+
+    /// In words.
+    #[must_use]
+    pub fn told(&self) -> String {
+        let go_on = folded(&self.go_on);
+        let verb = if self.go_on.len() == 1 { "goes" } else { "go" };
+        if self.never_again.is_empty() {
+            return format!("{go_on} {verb} on, and nobody else is there");
+        }
+        format!(
+            "{go_on} {verb} on; {} can never act again",
+            folded(&self.never_again)
+        )
+    }
+}
+
+/// Names in a row, those numbered one after the other as `desk 1 .. desk 5`; of
+/// many the first few and how many more.
+fn folded(names: &[String]) -> String {
+    let mut rows: Vec<(&str, &str)> = Vec::new();
+    let mut ranges: Vec<usize> = Vec::new();
+    for name in names {
+        match (rows.last_mut(), ranges.last_mut()) {
+            (Some((_, last)), Some(length)) if follows(last, name) => {
+                *last = name;
+                *length += 1;
+            }
+            _ => {
+                rows.push((name, name));
+                ranges.push(1);
+            }
+        }
+    }
+    let told: Vec<String> = rows
+        .iter()
+        .zip(ranges)
+        .map(|((first, last), length)| match length {
+            1 => (*first).to_owned(),
+            2 => format!("{first}, {last}"),
+            _ => format!("{first} .. {last}"),
+        })
+        .collect();
+    some_of(&told.iter().map(String::as_str).collect::<Vec<_>>())
+}
+
+/// Whether a name differs from the one before by a number that is one more.
+fn follows(before: &str, name: &str) -> bool {
+    let parts = |name: &str| {
+        let stem = name.trim_end_matches(|letter: char| letter.is_ascii_digit());
+        let number = name.get(stem.len()..)?.parse::<u32>().ok()?;
+        Some((stem.to_owned(), number))
+    };
+    match (parts(before), parts(name)) {
+        (Some((stem, number)), Some((other, next))) => stem == other && number + 1 == next,
+        _ => false,
+    }
+}
+
 /// Names in a row; of many the first few and how many more.
 fn some_of(names: &[&str]) -> String {
     match names.get(..FEW) {
@@ -100,7 +188,12 @@ fn state_of(table: &Table, program: &Program, now: &Moment, station: &Station) -
             return (State::Barred, words);
         }
         Station::Waiting(term) => *term,
-        Station::Attempt(attempt) => attempt.block,
+        // At an end an attempt is open only where it is finished and stuck.
+        Station::Attempt(_) => {
+            let words = "is stuck: its attempt is finished, and what it puts has no room among 64 \
+                stations (19)";
+            return (State::Barred, words.to_owned());
+        }
     };
     match table.term(term) {
         Term::Take { tray, .. } if count_of(&now.counts, tray) == 0 => (

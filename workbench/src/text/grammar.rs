@@ -174,7 +174,7 @@ impl Reader<'_> {
         match token.kind {
             Kind::Word => {
                 let problem = Problem::error(token.span, format!("'{text}' begins nothing here"));
-                match words::instead_of(text).filter(|word| words::begins_item(word)) {
+                match words::item_meant(text) {
                     Some(word) => problem.label(format!("write '{word}'")),
                     None => problem.label("a text is made of tray, rule, plan, start and choices"),
                 }
@@ -201,6 +201,7 @@ impl Reader<'_> {
                 Problem::error(token.span, "'or else' parts the ways of a block")
                     .label("stations have no 'or else': use block ( ... or else ... )")
             }
+            Kind::Word if self.on_new_line() && words::item_meant(text).is_some() => self.no_item(),
             Kind::Word if words::instead_of(text).is_some() => {
                 let instead = words::instead_of(text).unwrap_or_default();
                 Problem::error(

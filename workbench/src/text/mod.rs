@@ -90,7 +90,7 @@ fn of_rules(program: Program) -> Result<Understood, Misunderstood> {
         ));
     }
     Ok(Understood {
-        notes: unused(&program),
+        notes: notes(&program, &table),
         table,
         terms: assembled.terms,
         exact: false,
@@ -134,13 +134,21 @@ fn accepted(
     })
 }
 
+/// What is written and comes to nothing, in the order of the text.
+fn notes(program: &Program, table: &Table) -> Vec<Problem> {
+    let mut notes: Vec<Problem> = unused_definitions(program).collect();
+    notes.extend(unused_trays(program, table));
+    notes.sort_by_key(|note| note.span.start);
+    notes.truncate(problems::MOST_PROBLEMS);
+    notes
+}
+
 /// Rules and plans that the start does not use make no record.
-fn unused(program: &Program) -> Vec<Problem> {
+fn unused_definitions(program: &Program) -> impl Iterator<Item = Problem> + '_ {
     let used = assembly::used_definitions(program);
     let definitions = program.definitions.iter().zip(used);
     definitions
         .filter(|(_, used)| !used)
-        .take(problems::MOST_PROBLEMS)
         .map(|(definition, _)| {
             let class = definition.class.word();
             Problem::note(
@@ -149,5 +157,17 @@ fn unused(program: &Program) -> Vec<Problem> {
             )
             .label("it makes no record, and its size is not checked")
         })
-        .collect()
+}
+
+/// Trays that no station takes from or puts into.
+fn unused_trays<'a>(program: &'a Program, table: &'a Table) -> impl Iterator<Item = Problem> + 'a {
+    let is_used = |number: u8| table.terms().iter().any(|term| term.tray() == Some(number));
+    let unused = program
+        .trays
+        .iter()
+        .filter(move |tray| !is_used(tray.number));
+    unused.map(|tray| {
+        Problem::note(tray.span, format!("tray '{}' is used by nobody", tray.name))
+            .label("no station takes from it or puts into it")
+    })
 }

@@ -42,9 +42,21 @@ pub fn reserved(word: &str) -> bool {
 }
 
 /// Words with which an item of a text begins.
+const ITEMS: [&str; 5] = ["tray", "rule", "plan", "start", "choices"];
+
+/// Whether an item of a text begins with this word.
 #[must_use]
 pub fn begins_item(word: &str) -> bool {
-    matches!(word, "tray" | "rule" | "plan" | "start" | "choices")
+    ITEMS.contains(&word)
+}
+
+/// The word that begins an item and was probably meant by this one: with other
+/// letters, with capitals, or taken from elsewhere.
+#[must_use]
+pub fn item_meant(word: &str) -> Option<&'static str> {
+    let small = word.to_lowercase();
+    let foreign = || instead_of(word).filter(|instead| begins_item(instead));
+    nearest(&small, ITEMS).or_else(foreign)
 }
 
 /// Words with which a line of a lesson begins.

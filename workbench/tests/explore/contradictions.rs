@@ -25,6 +25,7 @@ fn facts(foretold: &[u8], made: &[u8]) -> Result<(), Contradiction> {
             model,
             found,
             exact: Exact::NeverFull,
+            rounds: None,
         },
         questions: &questions,
         limits,

@@ -1,6 +1,8 @@
 //! Explorations that cannot be exact say so, and say of nothing that it holds;
 //! and those that are exact by their notes.
 
+use std::time::Instant;
+
 use reference::build::Builder;
 use reference::generator::Random;
 use workbench::explore::facts::{Collector, Facts, ForEver, Verdict};
@@ -11,7 +13,9 @@ use workbench::explore::report::Report;
 use workbench::explore::search::{search, Cut, Limits, Questions};
 use workbench::style::Style;
 use workbench::table::Table;
+use workbench::text::source::Source;
 use workbench::text::tree::Program;
+use workbench::text::understand;
 
 use crate::common::{all_replay, explore};
 use crate::halls::tight;
@@ -24,6 +28,7 @@ fn asked(table: &Table, memory: usize) -> (Explored, Facts, String) {
     let questions = Questions {
         never: question("stations > 64"),
         ends: question("stations >= 0"),
+        ..Questions::default()
     };
     let limits = Limits::memory(memory);
     let explored = investigate(table, &questions, limits, &mut |_, _| {});
@@ -249,7 +254,7 @@ fn a_fault_that_only_notes_show() {
     assert_eq!(all_replay(text, &out), 4, "{out}");
     let (_, out, _) = explore(text, &["--engine", "--never", "c > 1"]);
     assert!(
-        out.contains("the same situations and the same ends"),
+        out.contains("the same situations, the same ends and the same rounds"),
         "{out}"
     );
     assert!(out.contains("never c > 1: broken"), "{out}");
@@ -270,4 +275,108 @@ fn a_fault_that_only_notes_show() {
         out.contains("the limit of 64 stations was never met"),
         "{out}"
     );
+}
+
+/// So many stations take one of the letters each, and every way that they are
+/// parted among is an end.
+fn many_ends() -> String {
+    let mut text = String::from("tray a has 4\n");
+    let rules: Vec<String> = (0..10).map(|number| format!("r{number}")).collect();
+    for rule in &rules {
+        text += &format!("tray o{rule}\nrule {rule} is 4 of (take a then put o{rule})\n");
+    }
+    text + "start " + &rules.join(" beside ") + "\n"
+}
+
+/// The nearest ends are told whatever the limits are, all others within them.
+#[test]
+fn limits_bound_the_telling_too() {
+    let text = many_ends();
+    let numbered = |out: &str| {
+        out.lines()
+            .filter(|line| line.contains(" after 8 steps"))
+            .count()
+    };
+    let (code, out, _) = explore(&text, &["--all"]);
+    assert_eq!((code, numbered(&out)), (0, 715));
+    assert!(!out.contains("cut short"), "{out}");
+    let (code, out, _) = explore(&text, &["--all", "--memory", "4"]);
+    let told = numbered(&out);
+    assert!(code == 0 && told > 12 && told < 600, "{told}");
+    let words = format!(
+        "\n  and {} more at least: the telling was cut short by --memory\n",
+        715 - told
+    );
+    assert!(out.contains(&words), "{out}");
+    assert!(out.contains("all of them seen"), "{out}");
+    let (_, out, _) = explore(&text, &["--all", "--memory", "4", "--json"]);
+    assert!(
+        out.contains("\"end_sorts\": 715, \"ends_cut_by\": \"--memory\""),
+        "{out}"
+    );
+    // What is asked is answered all the same.
+    let (code, out, _) = explore(&text, &["--memory", "4", "--all", "--ends", "a = 0"]);
+    assert!(
+        code == 0 && out.contains("every end has a = 0: holds"),
+        "{out}"
+    );
+}
+
+/// The time may be over when all was seen: then the nearest ends are told.
+#[test]
+fn the_time_is_over_before_the_telling() {
+    let source = Source::new("", many_ends());
+    let understood = understand(&source).unwrap();
+    let (table, program) = (&understood.table, &understood.program);
+    let questions = Questions::default();
+    let large = Limits::memory(100_000_000);
+    let explored = investigate(table, &questions, large, &mut |_, _| {});
+    let over = Limits {
+        until: Some(Instant::now()),
+        ..large
+    };
+    for (limits, cut) in [
+        (over, Cut::Time),
+        (Limits::memory(explored.found.memory()), Cut::Memory),
+    ] {
+        let facts = Collector {
+            table,
+            program,
+            explored: &explored,
+            questions: &questions,
+            limits,
+            most_ends: usize::MAX,
+        };
+        let facts = facts.collect().unwrap();
+        assert_eq!((facts.ends.len(), facts.sorts), (12, 715));
+        assert_eq!(facts.ends_cut, Some(cut));
+    }
+}
+
+/// There is room for all situations and none to look for rounds: then nothing is
+/// said to hold at every end, though no end breaks it.
+#[test]
+fn rounds_that_are_not_looked_for() {
+    let text = "tray a has 3\ntray b\nrule there is repeatedly take a then put b\n\
+        rule back is repeatedly take b then put a\nstart there beside back\n";
+    let understood = understand(&Source::new("", text)).unwrap();
+    let table = &understood.table;
+    let model = Model::of(table);
+    let all = search(
+        &model,
+        &Questions::default(),
+        Limits::memory(100_000_000),
+        &mut |_, _| {},
+    );
+    let (explored, facts, text) = asked(table, all.memory());
+    assert!(explored.complete() && !explored.ends_known());
+    let verdicts = facts.answers.iter().map(|answer| &answer.verdict);
+    let verdicts: Vec<bool> = verdicts.map(|it| matches!(it, Verdict::Holds)).collect();
+    assert_eq!(verdicts, [true, false], "{text}");
+    assert!(!facts.all_hold());
+    let words = "\nWhether there are rounds that are never left is not known.\n";
+    assert!(text.contains(words), "{text}");
+    let (explored, facts, text) = asked(table, 100_000_000);
+    assert!(explored.ends_known() && facts.all_hold(), "{text}");
+    assert_eq!(facts.rounds.map(|rounds| rounds.len()), Some(1));
 }

@@ -88,6 +88,91 @@ pub(crate) fn tight(random: &mut Random) -> Vec<u8> {
     table.start(all)
 }
 
+/// Halls in which an attempt can be stuck near 64 stations: what it saw before a
+/// put has no room afterwards. Some have a clock, so that this is no end but a
+/// round.
+pub(crate) fn stuck(random: &mut Random) -> Vec<u8> {
+    let mut table = Builder::new();
+    let nothing = table.nil();
+    let idle = table.take(3, nothing);
+    let put = table.put(0);
+    let end = table.end();
+    let mut first = end;
+    for _ in 0..random.between(0, 1) {
+        first = table.wt(random.byte_below(3), first);
+    }
+    let first = table.rd(0, first);
+    let mut body = end;
+    for _ in 0..random.between(2, 4) {
+        body = table.wt(random.byte_between(1, 2), body);
+    }
+    if random.percent(30) {
+        body = table.rd(1, body);
+    }
+    if random.percent(30) {
+        let other = way(random, &mut table);
+        body = table.or_else(other, body);
+    }
+    let body = table.or_else(first, body);
+    let block = table.atom(body);
+    let mut parts = vec![put, block];
+    if random.percent(40) {
+        parts.push(active_station(random, &mut table));
+    }
+    if random.percent(40) {
+        let tick = table.put(4);
+        parts.push(table.repeated_take(4, tick));
+        table.tokens(4, 1);
+    }
+    let crowd = 64 - parts.len() - usize::from(random.percent(30));
+    let mut all = crowd_of(&mut table, idle, crowd);
+    for part in parts {
+        all = table.side_by_side(all, part);
+    }
+    if random.percent(50) {
+        table.tokens(1, random.byte_between(1, 2));
+    }
+    table.start(all)
+}
+
+/// Small halls in which tokens go round, beside stations that may come to a
+/// standstill.
+pub(crate) fn going_round(random: &mut Random) -> Vec<u8> {
+    let mut table = Builder::new();
+    let mut all = table.nil();
+    for _ in 0..random.between(1, 3) {
+        let from = random.byte_below(3);
+        let mut then = table.put(random.byte_below(3));
+        match random.below(6) {
+            0 => {
+                let more = table.put(random.byte_below(4));
+                then = table.side_by_side(then, more);
+            }
+            1 => {
+                let end = table.end();
+                let put = table.wt(random.byte_below(3), end);
+                let both = table.rd(random.byte_below(3), put);
+                let otherwise = table.or_else(both, put);
+                then = table.atom(otherwise);
+            }
+            2 => then = table.take(random.byte_below(3), then),
+            _ => {}
+        }
+        let around = table.repeated_take(from, then);
+        all = table.side_by_side(around, all);
+    }
+    for _ in 0..random.between(0, 2) {
+        let part = active_station(random, &mut table);
+        all = table.side_by_side(all, part);
+    }
+    for tray in 0..3 {
+        if random.percent(60) {
+            table.tokens(tray, random.byte_between(1, 2));
+        }
+    }
+    table.start(all)
+}
+
 fn active_station(random: &mut Random, table: &mut Builder) -> u8 {
     let tray = random.byte_below(3);
     match random.below(10) {

@@ -1,15 +1,16 @@
 //! Explorations against the library's own steps, on random small halls.
 use std::collections::BTreeSet;
 
-use crate::halls::{near_the_limits, tight};
+use crate::halls::{going_round, near_the_limits, stuck, tight};
 use reference::generator::{accepted_table, contended_table, Random, Shape};
 use ruonfidd::Hall;
 use workbench::explore::engine::{engine_search, EngineFound};
-use workbench::explore::facts::{Asked, Collector, ForEver, Verdict};
+use workbench::explore::facts::{Asked, Collector, Facts, ForEver, Verdict};
 use workbench::explore::investigate::{investigate, Exact, Explored};
 use workbench::explore::model::Model;
 use workbench::explore::question::Question;
 use workbench::explore::replay::{Line, Witness};
+use workbench::explore::rounds::{last_rounds, Members};
 use workbench::explore::search::{search, Limits, Questions};
 use workbench::stations::{counts, stations};
 use workbench::table::Table;
@@ -36,7 +37,8 @@ fn sets(explored: &Explored) -> [BTreeSet<Vec<u8>>; 2] {
         .map(|index| store.get(index))
         .filter(|situation| explored.model.without_notes(situation));
     let ends = explored.found.ends.iter();
-    [all.collect(), ends.map(|end| store.get(*end)).collect()]
+    let read = |end: &u32| explored.model.read_without_notes(&store.get(*end));
+    [all.collect(), ends.map(read).collect()]
 }
 
 fn engine_sets(found: &EngineFound) -> [BTreeSet<Vec<u8>>; 2] {
@@ -49,6 +51,37 @@ fn engine_sets(found: &EngineFound) -> [BTreeSet<Vec<u8>>; 2] {
     ]
 }
 
+/// The rounds that are never left, each a set of situations, notes left out.
+fn round_sets(table: &Table, with_notes: bool) -> BTreeSet<BTreeSet<Vec<u8>>> {
+    let model = if with_notes {
+        Model::with_notes(table).unwrap()
+    } else {
+        Model::of(table)
+    };
+    let limits = Limits::memory(100_000_000);
+    let mut found = search(&model, &Questions::default(), limits, &mut |_, _| {});
+    let mut rounds = BTreeSet::new();
+    last_rounds(&model, &mut found, limits, |found, round| {
+        let members: Vec<u32> = match round.members {
+            Members::All => found.store.indexes().collect(),
+            Members::Some(members) => members.to_vec(),
+        };
+        assert!(members.windows(2).all(|pair| pair[0] < pair[1]));
+        let read = |index: &u32| model.read_without_notes(&found.store.get(*index));
+        rounds.insert(members.iter().map(read).collect());
+    })
+    .unwrap();
+    rounds
+}
+
+fn engine_rounds(found: &EngineFound) -> BTreeSet<BTreeSet<Vec<u8>>> {
+    let situation = |index: &u32| found.situations.get(*index).to_vec();
+    let rounds = found.rounds.iter();
+    rounds
+        .map(|round| round.iter().map(situation).collect())
+        .collect()
+}
+
 /// What would be found if notes were never taken.
 fn without_notes(table: &Table) -> [BTreeSet<Vec<u8>>; 2] {
     let model = Model::of(table);
@@ -59,6 +92,7 @@ fn without_notes(table: &Table) -> [BTreeSet<Vec<u8>>; 2] {
         model,
         found,
         exact: Exact::NeverFull,
+        rounds: None,
     })
 }
 
@@ -101,6 +135,9 @@ struct Met {
     broken: usize,
     ends: usize,
     rounds: usize,
+    last_rounds: usize,
+    stuck_beside: usize,
+    stuck: usize,
     kept_as_numbers: usize,
 }
 
@@ -117,6 +154,7 @@ fn questions(program: &Program, model: &Model, random: &mut Random) -> Questions
     Questions {
         never: ask(">"),
         ends: ask("<="),
+        ..Questions::default()
     }
 }
 
@@ -130,6 +168,7 @@ impl Met {
         explored: &Explored,
         questions: &Questions,
         [all, ends]: &[BTreeSet<Vec<u8>>; 2],
+        rounds: &BTreeSet<BTreeSet<Vec<u8>>>,
     ) {
         let facts = Collector {
             table,
@@ -148,7 +187,10 @@ impl Met {
         for answer in &facts.answers {
             let holds = match answer.asked {
                 Asked::Never => !all.iter().any(|it| is_so(&questions.never[0], it)),
-                Asked::Ends => ends.iter().all(|it| is_so(&questions.ends[0], it)),
+                Asked::Ends => {
+                    let mut last = ends.iter().chain(rounds.iter().flatten());
+                    last.all(|it| is_so(&questions.ends[0], it))
+                }
             };
             match &answer.verdict {
                 Verdict::Holds => assert!(holds),
@@ -166,12 +208,50 @@ impl Met {
             runs(table, &end.witness);
             self.ends += 1;
         }
+        self.last_rounds(table, explored, &facts, rounds);
         if let ForEver::Yes(witness, before) = &facts.for_ever {
             comes_round(table, witness, *before);
             self.rounds += 1;
         }
         for witness in facts.full_hall.iter().chain(&facts.full_tray) {
             runs(table, witness);
+        }
+    }
+
+    /// Each told round is entered by its way, which is a shortest one: it leads
+    /// to a situation of a round with these trays.
+    fn last_rounds(
+        &mut self,
+        table: &Table,
+        explored: &Explored,
+        facts: &Facts,
+        rounds: &BTreeSet<BTreeSet<Vec<u8>>>,
+    ) {
+        let model = Model::of(table);
+        let told = facts.rounds.as_ref().unwrap();
+        assert_eq!(told.is_empty(), rounds.is_empty());
+        for round in told {
+            let hall = runs(table, &round.witness);
+            let situation = model.situation(&counts(&hall), &stations(&hall).unwrap());
+            let entered = rounds
+                .iter()
+                .filter(|set| set.contains(situation.as_ref().unwrap()));
+            let entered: Vec<_> = entered.collect();
+            // Notes are steps too, and no situation of the set is nearer.
+            let store = &explored.found.store;
+            let steps = |it: &Vec<u8>| store.find(it).map(|at| store.way_to(at).len() - 1);
+            for set in entered
+                .iter()
+                .filter(|_| explored.exact != Exact::WithNotes)
+            {
+                let nearest = set.iter().filter_map(steps).min();
+                assert_eq!(nearest, Some(round.witness.steps));
+            }
+            let sizes: Vec<u64> = entered.iter().map(|set| set.len() as u64).collect();
+            assert!(sizes.contains(&round.situations), "{sizes:?}");
+            assert!(!round.who.go_on.is_empty());
+            self.last_rounds += 1;
+            self.stuck_beside += usize::from(!round.who.never_again.is_empty());
         }
     }
 
@@ -189,7 +269,10 @@ impl Met {
         let sets = sets(&explored);
         assert_eq!(sets, engine_sets(&engine), "{what}: {bytes:?}");
         assert_eq!(explored.found.situations, sets[0].len() as u64, "{what}");
-        self.replay(&table, &program, &explored, &questions, &sets);
+        let rounds = engine_rounds(&engine);
+        let with_notes = explored.exact == Exact::WithNotes;
+        assert_eq!(round_sets(&table, with_notes), rounds, "{what}: {bytes:?}");
+        self.replay(&table, &program, &explored, &questions, &sets, &rounds);
         self.halls += 1;
         self.kept_as_numbers += usize::from(explored.found.store.are_numbers());
         self.full_hall += usize::from(engine.full_hall);
@@ -197,6 +280,12 @@ impl Met {
         match explored.exact {
             Exact::WithNotes => {
                 self.with_notes += 1;
+                let noted = |end: &&u32| {
+                    !explored
+                        .model
+                        .without_notes(&explored.found.store.get(**end))
+                };
+                self.stuck += explored.found.ends.iter().filter(noted).count();
                 self.notes_mattered += usize::from(without_notes(&table) != sets);
             }
             Exact::NoAlternatives => self.without_alternatives += 1,
@@ -255,4 +344,26 @@ fn halls_where_notes_matter() {
         met.compare(&table, &format!("tight {seed}"));
     }
     assert!(met.with_notes > 50 && met.notes_mattered > 10, "{met:?}");
+}
+
+#[test]
+fn halls_with_stuck_attempts() {
+    let mut met = Met::default();
+    for seed in 0..400 {
+        let table = stuck(&mut Random::new(seed));
+        met.compare(&table, &format!("stuck {seed}"));
+    }
+    assert!(met.halls > 200 && met.stuck > 50, "{met:?}");
+    assert!(met.stuck_beside > 50, "{met:?}");
+}
+
+#[test]
+fn halls_that_go_round() {
+    let mut met = Met::default();
+    for seed in 0..1_500 {
+        let table = going_round(&mut Random::new(seed));
+        met.compare(&table, &format!("round {seed}"));
+    }
+    assert!(met.halls > 500 && met.last_rounds > 200, "{met:?}");
+    assert!(met.stuck_beside > 50, "{met:?}");
 }

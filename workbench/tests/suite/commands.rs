@@ -584,3 +584,200 @@ fn streams_that_fail() {
         (Some(3), "hall: cannot read: Is a directory (os error 21)\n")
     );
 }
+
+/// Where what is written goes when it has a link, a mode or no file at all.
+#[cfg(unix)]
+mod written {
+    use std::fs::{self, Permissions};
+    use std::os::unix::fs::{symlink, FileTypeExt as _, MetadataExt as _, PermissionsExt as _};
+    use std::path::Path;
+    use std::process::{Command, Stdio};
+
+    use super::{folder, is, TABLE};
+    use crate::common::hall_in;
+
+    fn build(folder: &Path, to: &str) {
+        is(
+            &hall_in(folder, &["build", "a.hall", "-o", to], b""),
+            0,
+            "",
+            "",
+        );
+    }
+
+    fn mode(path: &Path) -> u32 {
+        fs::symlink_metadata(path).unwrap().permissions().mode() & 0o7777
+    }
+
+    /// No other file is left in the folder.
+    fn only(folder: &Path, names: &[&str]) {
+        let mut there: Vec<String> = fs::read_dir(folder)
+            .unwrap()
+            .map(|entry| entry.unwrap().file_name().into_string().unwrap())
+            .collect();
+        there.sort();
+        assert_eq!(there, names);
+    }
+
+    #[test]
+    fn a_link_stays_one_and_its_file_is_written() {
+        let folder = folder("written-links");
+        fs::create_dir(folder.join("deep")).unwrap();
+        symlink("deep/second", folder.join("first")).unwrap();
+        symlink("../target", folder.join("deep/second")).unwrap();
+        // At first the links lead to nothing, then to a file.
+        for before in [None, Some("old")] {
+            if let Some(before) = before {
+                fs::write(folder.join("target"), before).unwrap();
+            }
+            build(&folder, "first");
+            assert!(fs::symlink_metadata(folder.join("first"))
+                .unwrap()
+                .is_symlink());
+            assert!(fs::symlink_metadata(folder.join("deep/second"))
+                .unwrap()
+                .is_symlink());
+            assert!(fs::symlink_metadata(folder.join("target"))
+                .unwrap()
+                .is_file());
+            assert_eq!(fs::read(folder.join("target")).unwrap(), TABLE);
+        }
+        only(&folder, &["a.hall", "a.table", "deep", "first", "target"]);
+        only(&folder.join("deep"), &["second"]);
+    }
+
+    #[test]
+    fn links_without_an_end() {
+        let folder = folder("written-round");
+        symlink("two", folder.join("one")).unwrap();
+        symlink("one", folder.join("two")).unwrap();
+        let answer = hall_in(&folder, &["build", "a.hall", "-o", "one"], b"");
+        assert_eq!((answer.code, answer.out.as_str()), (Some(3), ""));
+        let words = "hall: cannot write one: ";
+        assert!(answer.err.starts_with(words), "{}", answer.err);
+        only(&folder, &["a.hall", "a.table", "one", "two"]);
+    }
+
+    #[test]
+    fn a_file_keeps_its_mode_and_is_another_file() {
+        let folder = folder("written-modes");
+        let file = folder.join("kept");
+        for mode_before in [0o600, 0o640, 0o444, 0o755] {
+            fs::write(&file, "old").unwrap();
+            fs::set_permissions(&file, Permissions::from_mode(mode_before)).unwrap();
+            let before = fs::metadata(&file).unwrap();
+            build(&folder, "kept");
+            let after = fs::metadata(&file).unwrap();
+            assert_eq!(mode(&file), mode_before);
+            assert_eq!((after.uid(), after.gid()), (before.uid(), before.gid()));
+            assert_ne!(after.ino(), before.ino(), "it is put in place whole");
+            assert_eq!(fs::read(&file).unwrap(), TABLE);
+            fs::remove_file(&file).unwrap();
+        }
+        // What play saves and explore draws goes the same way.
+        for (name, arguments, input) in [
+            ("lesson", &["play", "a.hall"][..], "1\nsave lesson\nq\n"),
+            ("picture", &["explore", "a.hall", "--dot", "picture"], ""),
+            (
+                "way-end-1.choices",
+                &["explore", "a.hall", "--save", "way"],
+                "",
+            ),
+        ] {
+            let file = folder.join(name);
+            fs::write(&file, "old").unwrap();
+            fs::set_permissions(&file, Permissions::from_mode(0o600)).unwrap();
+            let answer = hall_in(&folder, arguments, input.as_bytes());
+            assert_eq!(answer.code, Some(0), "{answer:?}");
+            assert_eq!(mode(&file), 0o600, "{name}");
+            assert_ne!(fs::read(&file).unwrap(), b"old", "{name}");
+        }
+    }
+
+    #[test]
+    fn a_device_stays_one() {
+        let folder = folder("written-devices");
+        symlink("/dev/null", folder.join("nowhere")).unwrap();
+        build(&folder, "nowhere");
+        build(&folder, "/dev/null");
+        for null in [Path::new("/dev/null"), &folder.join("nowhere")] {
+            assert!(fs::metadata(null).unwrap().file_type().is_char_device());
+        }
+        let answer = hall_in(&folder, &["build", "a.hall", "-o", "/dev/full"], b"");
+        assert_eq!(answer.code, Some(3));
+        assert!(
+            answer.err.starts_with("hall: cannot write /dev/full: "),
+            "{}",
+            answer.err
+        );
+        only(&folder, &["a.hall", "a.table", "nowhere"]);
+        // A folder is no place for bytes.
+        fs::create_dir(folder.join("there")).unwrap();
+        let answer = hall_in(&folder, &["build", "a.hall", "-o", "there"], b"");
+        assert_eq!(answer.code, Some(3));
+        only(&folder, &["a.hall", "a.table", "nowhere", "there"]);
+    }
+
+    #[test]
+    fn a_pipe_is_written_into() {
+        let folder = folder("written-pipes");
+        let output = Command::new(env!("CARGO_BIN_EXE_hall"))
+            .args(["build", "a.hall", "-o", "/dev/stdout"])
+            .current_dir(&folder)
+            .stdout(Stdio::piped())
+            .output()
+            .unwrap();
+        assert_eq!(output.stdout, TABLE);
+        only(&folder, &["a.hall", "a.table"]);
+    }
+}
+
+/// A hall of some million situations, and a fault near its opening.
+fn large_hall() -> String {
+    let trays = "tray t0 has 8\ntray t1\ntray t2\ntray t3\ntray t4\ntray t5\n".to_owned();
+    let rules = (0..6).map(|from| {
+        let to = (from + 1) % 6;
+        format!(
+            "rule r{from} is repeatedly take t{from} then put t{to}\n\
+             rule b{from} is block (take t{from}, put t{to}, end)\n"
+        )
+    });
+    let start: Vec<String> = (0..6)
+        .map(|from| format!("r{from} beside 2 of b{from}"))
+        .collect();
+    let rules: String = rules.collect();
+    trays + &rules + "start " + &start.join(" beside ") + "\n"
+}
+
+/// Whoever ends the program has seen the fault by then.
+#[test]
+fn a_fault_is_told_when_it_is_found() {
+    let folder = scratch("fault-at-once");
+    fs::write(folder.join("large.hall"), large_hall()).unwrap();
+    for (option, on_error) in [("--all", false), ("--json", true)] {
+        let mut child = Command::new(env!("CARGO_BIN_EXE_hall"))
+            .args(["explore", "large.hall", "--never", "t3 = 2", option])
+            .current_dir(&folder)
+            .stdout(Stdio::piped())
+            .stderr(Stdio::piped())
+            .spawn()
+            .unwrap();
+        let mut told = [0; 200];
+        if on_error {
+            child.stderr.take().unwrap().read_exact(&mut told).unwrap();
+        } else {
+            child.stdout.take().unwrap().read_exact(&mut told).unwrap();
+        }
+        // It has far to go yet.
+        assert_eq!(child.try_wait().unwrap(), None);
+        child.kill().unwrap();
+        child.wait().unwrap();
+        let told = String::from_utf8_lossy(&told);
+        assert!(told.starts_with("never t3 = 2: broken after "), "{told}");
+        assert!(told.contains(" steps, found among "), "{told}");
+        assert!(
+            told.contains("; the search goes on\n  choices\n    act "),
+            "{told}"
+        );
+    }
+}

@@ -20,7 +20,8 @@ const AT_ODDS: [&str; 27] = [
     "an accepted table cannot be read",
     "an accepted table opens no hall",
     "an accepted table opens no hall that can be read",
-    "by its own steps the engine comes to {} and {}, by the rules there are {} and {}",
+    "by its own steps the engine comes to {} and {}, by the rules there are {} and {}; rounds that \
+     are never left are {}",
     "names and stations do not fit together",
     "no station can make {step:?}",
     "no station of code {code} stands",
@@ -43,7 +44,7 @@ const AT_ODDS: [&str; 27] = [
 
 /// Compared whole by a test in code, since it takes a terminal, a full disk, a
 /// name in other letters or a certain moment: the sentence and the test.
-const IN_CODE: [(&str, &str); 11] = [
+const IN_CODE: [(&str, &str); 14] = [
     (
         "build: bytes do not belong on a terminal: add -o FILE",
         "tests/suite/commands.rs",
@@ -55,6 +56,14 @@ const IN_CODE: [(&str, &str); 11] = [
     ),
     ("hall: cannot write: {error} ", "tests/suite/commands.rs"),
     ("cannot read: {error}", "tests/suite/commands.rs"),
+    (
+        "{}: {} {}, found among {}; the search goes on",
+        "tests/suite/commands.rs",
+    ),
+    (
+        " and {more} more at least: the telling was cut short by {}",
+        "tests/explore/doubts.rs",
+    ),
     (
         "hall: this program is at odds with itself: {words}. Nothing it printed counts. ",
         "src/commands/mod.rs",
@@ -74,6 +83,10 @@ const IN_CODE: [(&str, &str); 11] = [
     (
         "{} situations, {} still to go on from, {} s",
         "src/commands/explore/progress.rs",
+    ),
+    (
+        "Whether there are rounds that are never left is not known.",
+        "tests/explore/doubts.rs",
     ),
     (
         "whether without a commit is not known",

@@ -1,5 +1,7 @@
 //! `hall explore --engine`
 
+use std::collections::BTreeSet;
+
 use super::progress::Progress;
 use super::{exit, wrong, Job};
 use crate::commands::load::Loaded;
@@ -35,13 +37,21 @@ pub(super) fn by_engine(job: &Job<'_>, args: &Args, streams: &mut Streams<'_>) -
     {
         return Err(wrong("--dot and --save are not for --engine"));
     }
+    if job.questions.only_first {
+        return Err(wrong("--first is not for --engine"));
+    }
     let table = &job.loaded.table;
     let mut progress = Progress::new();
     let mut tell = |seen, done| progress.tell(seen, done);
     let found = engine_search(table, job.limits, &mut tell)?;
-    let by_steps = investigate(table, &Questions::default(), job.limits, &mut tell);
+    let by_steps = investigate(
+        table,
+        &Questions::default(),
+        job.limits,
+        &mut |so_far, done| tell(so_far.found.store.len(), done),
+    );
     drop(progress);
-    let compared = found.cut.is_none() && by_steps.complete();
+    let compared = found.cut.is_none() && by_steps.ends_known();
     if compared {
         compare(&found, &by_steps)?;
     }
@@ -69,17 +79,46 @@ fn compare(found: &EngineFound, by_steps: &Explored) -> Result<(), Failure> {
         .all(|index| foretold(index).is_some());
     let mut ends: Vec<Option<Index>> = found.ends.iter().map(|end| foretold(*end)).collect();
     ends.sort_unstable();
-    let by_rules: Vec<Option<Index>> = by_steps.found.ends.iter().copied().map(Some).collect();
-    if known && situations == by_steps.found.situations && ends == by_rules {
+    let by_rules = by_steps.found.ends.iter();
+    let mut by_rules: Vec<Option<Index>> = by_rules
+        .map(|end| store.find(&by_steps.model.read_without_notes(&store.get(*end))))
+        .collect();
+    by_rules.sort_unstable();
+    let rounds = by_steps.rounds.as_ref().map(|rounds| &rounds.sorts);
+    let rounds = rounds.into_iter().flatten();
+    let rounds: BTreeSet<Extremes> = rounds.map(|sort| sort.extremes.clone()).collect();
+    let same_rounds = rounds == sorts_of_rounds(&by_steps.model, found);
+    if known && situations == by_steps.found.situations && ends == by_rules && same_rounds {
         return Ok(());
     }
     Err(Failure::Contradiction(format!(
-        "by its own steps the engine comes to {} and {}, by the rules there are {} and {}",
+        "by its own steps the engine comes to {} and {}, by the rules there are {} and {}; rounds \
+         that are never left are {}",
         counted(situations, "situation"),
         counted(u64::try_from(ends.len()).unwrap_or(u64::MAX), "end"),
         counted(by_steps.found.situations, "situation"),
         counted(u64::try_from(by_rules.len()).unwrap_or(u64::MAX), "end"),
+        if same_rounds { "alike" } else { "others" },
     )))
+}
+
+/// For each tray the least and the most.
+type Extremes = Vec<(u8, u8)>;
+
+/// What trays have in the rounds that the engine's halls never leave.
+fn sorts_of_rounds(model: &Model, found: &EngineFound) -> BTreeSet<Extremes> {
+    let extremes = |round: &Vec<Index>| {
+        let mut extremes: Extremes = vec![(u8::MAX, 0); model.trays().len()];
+        for situation in round {
+            let (counts, _) = model.split(found.situations.get(*situation));
+            for ((least, most), count) in extremes.iter_mut().zip(counts) {
+                *least = (*least).min(*count);
+                *most = (*most).max(*count);
+            }
+        }
+        extremes
+    };
+    found.rounds.iter().map(extremes).collect()
 }
 
 fn answers(job: &Job<'_>, found: &EngineFound) -> Result<Vec<Answer>, Failure> {
@@ -95,8 +134,8 @@ fn answers(job: &Job<'_>, found: &EngineFound) -> Result<Vec<Answer>, Failure> {
         answers.push(answer(job, found, Asked::Never, question, broken)?);
     }
     for question in &job.questions.ends {
-        let mut ends = found.ends.iter().copied();
-        let broken = ends.find(|index| !is_so(question, *index));
+        let ends = found.ends.iter().chain(found.rounds.iter().flatten());
+        let broken = ends.copied().filter(|index| !is_so(question, *index)).min();
         answers.push(answer(job, found, Asked::Ends, question, broken)?);
     }
     Ok(answers)
@@ -112,8 +151,10 @@ fn answer(
     let Loaded { table, program, .. } = job.loaded;
     let verdict = match broken {
         Some(situation) => {
-            let place = usize::try_from(situation).unwrap_or(usize::MAX);
-            let hall = found.first_hall.get(place).copied().unwrap_or(0);
+            let hall = match asked {
+                Asked::Never => first_hall(found, situation),
+                Asked::Ends => found.last_halls.get(&situation).copied().unwrap_or(0),
+            };
             let choices = found.choices_to(table, hall)?;
             let witness = rehearse(table, program, &Model::of(table), &choices)?;
             Verdict::Broken(Box::new(witness), Vec::new())
@@ -121,12 +162,12 @@ fn answer(
         None if found.cut.is_none() => Verdict::Holds,
         None => Verdict::Open,
     };
-    Ok(Answer {
-        asked,
-        question: question.text.clone(),
-        verdict,
-        no_end: asked == Asked::Ends && found.ends.is_empty(),
-    })
+    Ok(Answer::of(asked, question, verdict))
+}
+
+fn first_hall(found: &EngineFound, situation: Index) -> Index {
+    let place = usize::try_from(situation).unwrap_or(usize::MAX);
+    found.first_hall.get(place).copied().unwrap_or(0)
 }
 
 fn object(found: &EngineFound, compared: bool, answers: &[Answer]) -> String {
@@ -135,6 +176,7 @@ fn object(found: &EngineFound, compared: bool, answers: &[Answer]) -> String {
         .number("steps", found.steps)
         .count("situations", found.situations.len())
         .count("ends", found.ends.len())
+        .count("rounds", found.rounds.len())
         .truth("complete", found.cut.is_none())
         .truth("compared", compared)
         .truth("met_19", found.full_hall)
@@ -154,12 +196,13 @@ fn text(
     let mut lines = wrapped(
         "",
         &format!(
-            "{}: by the engine's own steps {}, {} between them, {} and {}; {}.",
+            "{}: by the engine's own steps {}, {} between them, {}, {} and {} never left; {}.",
             style.bold(job.name),
             counted(number(found.halls.len()), "hall"),
             counted(found.steps, "step"),
             counted(number(found.situations.len()), "situation"),
             counted(number(found.ends.len()), "end"),
+            counted(number(found.rounds.len()), "round"),
             if found.cut.is_none() {
                 "all of them seen"
             } else {
@@ -169,7 +212,7 @@ fn text(
     );
     lines.push(
         if compared {
-            "compared with the rules: the same situations and the same ends"
+            "compared with the rules: the same situations, the same ends and the same rounds"
         } else {
             "not compared with the rules: not all is known"
         }
@@ -201,7 +244,7 @@ fn text(
 fn answer_lines(answer: &Answer, style: Style) -> Vec<String> {
     let question = answer.told();
     match &answer.verdict {
-        Verdict::Holds => vec![format!("{question}: {}", style.good(answer.holds()))],
+        Verdict::Holds => vec![format!("{question}: {}", style.good("holds"))],
         Verdict::Open => vec![format!("{question}: not known")],
         Verdict::Broken(witness, _) => {
             let words: Vec<&str> = witness.words().collect();

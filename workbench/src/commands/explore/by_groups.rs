@@ -43,7 +43,7 @@ pub(super) fn by_groups(job: &Job<'_>, args: &Args, streams: &mut Streams<'_>) -
         program,
         &job.questions,
         job.limits,
-        &mut |seen, done| progress.tell(seen, done),
+        &mut |so_far, done| progress.tell(so_far.found.store.len(), done),
     );
     drop(progress);
     let told = Told {
@@ -255,7 +255,7 @@ fn group_lines(group: &Group, style: Style) -> Vec<String> {
         .iter()
         .map(|answer| {
             let verdict = match answer.verdict {
-                Verdict::Holds => style.good(answer.holds()),
+                Verdict::Holds => style.good("holds"),
                 Verdict::Broken(..) => style.bad("broken"),
                 Verdict::Open => "not known".to_owned(),
             };

@@ -2,12 +2,13 @@
 
 mod by_engine;
 mod by_groups;
+mod faults;
 mod progress;
 
 use std::time::{Duration, Instant};
 
-use super::build::{not_over, write_whole};
 use super::check::refused;
+use super::files::{not_over, write_whole};
 use super::load::{self, Loaded};
 use super::{Args, Exit, Failure, Outcome, Streams};
 use crate::explore::dot::{picture, MOST_DRAWN};
@@ -20,6 +21,7 @@ use crate::explore::question::{Mistake, Question};
 use crate::explore::replay::{Contradiction, Witness};
 use crate::explore::report::{choice_lines, Report};
 use crate::explore::search::{Limits, Questions};
+use faults::Faults;
 use progress::Progress;
 
 /// Megabytes that are used where nothing else is said.
@@ -76,8 +78,22 @@ pub(super) fn explore(args: &Args, streams: &mut Streams<'_>) -> Outcome {
 fn by_steps(job: &Job<'_>, args: &Args, streams: &mut Streams<'_>) -> Outcome {
     let Loaded { table, program, .. } = job.loaded;
     let mut progress = Progress::new();
-    let explored = investigate(table, &job.questions, job.limits, &mut |seen, done| {
-        progress.tell(seen, done);
+    let mut faults = Faults::new(table, program, &job.questions);
+    let explored = investigate(table, &job.questions, job.limits, &mut |so_far, done| {
+        for words in faults.found(so_far, streams.style) {
+            progress.wipe();
+            // For programs standard output has one object and nothing else.
+            let stream = if job.json {
+                &mut *streams.err
+            } else {
+                &mut *streams.out
+            };
+            // Where it can't be written, that shows at the end too.
+            let _ = stream
+                .write_all(words.as_bytes())
+                .and_then(|()| stream.flush());
+        }
+        progress.tell(so_far.found.store.len(), done);
     });
     drop(progress);
     let most_ends = match (args.has("--all"), job.json) {
@@ -149,6 +165,7 @@ fn questions(args: &Args, loaded: &Loaded) -> Result<Questions, Failure> {
     Ok(Questions {
         never: read("--never")?,
         ends: read("--ends")?,
+        only_first: args.has("--first"),
     })
 }
 
@@ -206,6 +223,9 @@ fn saved<'a>(prefix: &str, facts: &'a Facts) -> Vec<Saved<'a>> {
     let mut ways: Vec<(String, &Witness)> = Vec::new();
     for (number, end) in (1..).zip(&facts.ends) {
         ways.push((format!("end-{number}"), &end.witness));
+    }
+    for (number, round) in (1..).zip(facts.rounds.iter().flatten()) {
+        ways.push((format!("round-{number}"), &round.witness));
     }
     for (what, for_ever) in [
         ("for-ever", &facts.for_ever),

@@ -45,11 +45,19 @@ impl Progress {
     }
 }
 
-impl Drop for Progress {
-    fn drop(&mut self) {
+impl Progress {
+    /// Wipes its line away, if there is one.
+    pub(super) fn wipe(&mut self) {
         if self.told {
             line("");
+            self.told = false;
         }
+    }
+}
+
+impl Drop for Progress {
+    fn drop(&mut self) {
+        self.wipe();
     }
 }
 

@@ -1,0 +1,174 @@
+//! What is kept of last rounds: sorts of them, and which questions they break.
+
+use std::collections::{HashMap, HashSet};
+
+use super::model::Model;
+use super::question::Question;
+use super::rounds::{last_rounds, Codes, Members, Round};
+use super::search::{Cut, Found, Limits};
+use super::situations::Glance;
+use super::store::Index;
+
+/// All last rounds of a hall.
+#[derive(Clone, Debug, Default, PartialEq, Eq)]
+pub struct Rounds {
+    /// How many there are.
+    pub number: usize,
+    /// Those in which each tray has the same least and most taken together, the
+    /// nearest first.
+    pub sorts: Vec<RoundSort>,
+    /// For each question about ends the first situation of a round at which it
+    /// is not so, and who acts in that round.
+    pub broken: Vec<Option<(Index, Codes)>>,
+}
+
+/// Rounds in which each tray has the same least and most.
+#[derive(Clone, Debug, PartialEq, Eq)]
+pub struct RoundSort {
+    /// For each slot the least and the most that its tray has in the round.
+    pub extremes: Vec<(u8, u8)>,
+    /// How many rounds.
+    pub rounds: usize,
+    /// The first situation of the nearest of them.
+    pub first: Index,
+    /// How many situations that one has.
+    pub situations: u64,
+    /// Who acts in it.
+    pub acting: Codes,
+}
+
+/// Collects the last rounds of a hall all of whose situations were found.
+///
+/// # Errors
+///
+/// The limit that was met before all were found.
+pub fn rounds(
+    model: &Model,
+    found: &mut Found,
+    questions: &[Question],
+    limits: Limits,
+) -> Result<Rounds, Cut> {
+    let mut rounds = Collected {
+        questions,
+        rounds: Rounds {
+            broken: vec![None; questions.len()],
+            ..Rounds::default()
+        },
+        of_extremes: HashMap::new(),
+    };
+    last_rounds(model, found, limits, |found, round| {
+        rounds.take_in(model, found, round);
+    })?;
+    let mut rounds = rounds.rounds;
+    rounds.sorts.sort_by_key(|sort| sort.first);
+    Ok(rounds)
+}
+
+struct Collected<'a> {
+    questions: &'a [Question],
+    rounds: Rounds,
+    of_extremes: HashMap<Vec<(u8, u8)>, usize>,
+}
+
+impl Collected<'_> {
+    fn take_in(&mut self, model: &Model, found: &Found, round: Round<'_>) {
+        self.rounds.number += 1;
+        let (seen, situations) = match round.members {
+            Members::All => {
+                let seen = self.look_at(found, found.store.indexes());
+                (seen, found.situations)
+            }
+            Members::Some(members) => {
+                let seen = self.look_at(found, members.iter().copied());
+                let situations = if seen.noted {
+                    readings(model, found, members)
+                } else {
+                    members.len()
+                };
+                (seen, u64::try_from(situations).unwrap_or(u64::MAX))
+            }
+        };
+        for (broken, at) in self.rounds.broken.iter_mut().zip(seen.broken) {
+            let Some(at) = at else { continue };
+            if broken.map_or(true, |(before, _)| at < before) {
+                *broken = Some((at, round.acting));
+            }
+        }
+        let sort = RoundSort {
+            extremes: seen.extremes,
+            rounds: 1,
+            first: seen.first,
+            situations,
+            acting: round.acting,
+        };
+        self.sort(sort);
+    }
+
+    /// What the situations of a round have, all of them taken together.
+    fn look_at(&self, found: &Found, members: impl Iterator<Item = Index>) -> Seen {
+        let mut seen = Seen {
+            first: Index::MAX,
+            noted: false,
+            extremes: Vec::new(),
+            broken: vec![None; self.questions.len()],
+        };
+        for index in members {
+            found.store.glance(index, |glance| {
+                seen.take_in(index, glance, self.questions);
+            });
+        }
+        seen
+    }
+
+    fn sort(&mut self, sort: RoundSort) {
+        let known = self.of_extremes.get(&sort.extremes).copied();
+        let Some(nearest) = known.and_then(|at| self.rounds.sorts.get_mut(at)) else {
+            self.of_extremes
+                .insert(sort.extremes.clone(), self.rounds.sorts.len());
+            self.rounds.sorts.push(sort);
+            return;
+        };
+        let rounds = nearest.rounds + 1;
+        if sort.first < nearest.first {
+            *nearest = sort;
+        }
+        nearest.rounds = rounds;
+    }
+}
+
+/// How many situations these are once notes are left out.
+fn readings(model: &Model, found: &Found, members: &[Index]) -> usize {
+    let read = |index: &Index| model.read_without_notes(&found.store.get(*index));
+    members.iter().map(read).collect::<HashSet<_>>().len()
+}
+
+struct Seen {
+    first: Index,
+    /// Whether one of them has a note.
+    noted: bool,
+    extremes: Vec<(u8, u8)>,
+    broken: Vec<Option<Index>>,
+}
+
+impl Seen {
+    /// Situations come in their order, so the first one is the nearest.
+    fn take_in(&mut self, index: Index, glance: Glance<'_>, questions: &[Question]) {
+        let Glance {
+            counts, stations, ..
+        } = glance;
+        self.first = self.first.min(index);
+        self.noted |= glance.noted;
+        if self.extremes.is_empty() {
+            self.extremes = counts.iter().map(|count| (*count, *count)).collect();
+        }
+        for ((least, most), count) in self.extremes.iter_mut().zip(counts) {
+            *least = (*least).min(*count);
+            *most = (*most).max(*count);
+        }
+        for (broken, question) in self.broken.iter_mut().zip(questions) {
+            if broken.is_none() && !question.holds(counts, stations) {
+                *broken = Some(index);
+            }
+        }
+    }
+}
