@@ -12,33 +12,20 @@ use lib.IntN.{ℤ, pos, negsuc}
 use borrow.Author.Tests.{ltb-true, ltb-false, lt-ltb, le-ltb, eqb-true, eqb-false, eq-eqb, ne-eqb}
 use Rattle.calculus.specs.Syntax.{State}
 use Rattle.calculus.specs.Reduction.{Rule}
-use Rattle.semantics.specs.Definitions.Basics.{All}
-use Rattle.semantics.specs.Definitions.Terms.{Term}
+use Rattle.semantics.specs.Definitions.Basics.{All, Bytes}
 use Rattle.semantics.specs.Definitions.Table.{Table, accepted, refusedAt, readTable}
 use Rattle.semantics.specs.Definitions.Configuration.{taking, repeating, block, output, Component, idle, transaction, Configuration, opening, nodes, preorder}
-use Rattle.semantics.specs.Definitions.Stored.{ByteCounts, ComponentOk, WellFormed}
-use Rattle.semantics.specs.Definitions.Run.{Counters, freshCounters, saturatingSuc, countedAt, counted, schedule, entries, RunAnswer, net, Step, steps, run}
-use Rattle.semantics.specs.Definitions.Moves.{act, inside, ruleNumber}
+use Rattle.semantics.specs.Definitions.Run.{freshCounters, RunAnswer, net, run}
 use Rattle.semantics.specs.Definitions.Report.{signed, line, runLine, countersLine, channelLine, channelLines, componentLine, lines, report, printedRun}
-use Rattle.semantics.specs.Checks.AcceptedTables.{GoodTable}
 use Rattle.semantics.specs.Claims.Correspondence.{AcceptsTable}
-use Rattle.semantics.specs.Checks.Conditions.{TableRefused, TableNumbers, RunNumbers, Stops, at-end, kind-neither, act-short, inside-short, node-short, act-refused, inside-refused}
+use Rattle.semantics.specs.Checks.Fuels.{lineNumbers, PrintedNumbersFit}
 use Rattle.semantics.specs.Checks.Decimals.{TwentyDigits, SignedOf, SignedAsStated}
 use Rattle.semantics.specs.Checks.PrintedRun.{TablePart, up-to-start, all-of-it}
 use Rattle.semantics.specs.Checks.PrintedLines.{Numbers, newline, space, Line, begins, NetOf, gained, lost, TrayLines, no-more, passed-over, told}
 use Rattle.semantics.specs.Checks.PrintedLines.{StationLine, puts, takes, repeats, waits, attempts, StationLines, no-station, station, RunPrinted, RefusedAsStated, RunAsStated}
-use Rattle.theorems.proofs.Lists.{found-below, all-weaken}
-use Rattle.theorems.proofs.Reading.{by-cases}
-use Rattle.theorems.proofs.GoodTable.{accepted-is-good}
-use Rattle.theorems.proofs.RoundTrip.{opening-is-well-formed}
-use Rattle.theorems.proofs.WellFormedKept.{well-formed-step}
-use Rattle.theorems.proofs.Completeness.{few-nodes}
-use Rattle.theorems.proofs.Runs.{runs-keep, tallied}
-use Rattle.theorems.proofs.CallsAsOne.{run-tells}
+use Rattle.theorems.proofs.Lists.{all-weaken}
+use Rattle.theorems.proofs.Fuels.{printed-numbers-fit}
 use Rattle.theorems.proofs.Walk.{length-preorder}
-use Rattle.theorems.proofs.TableConditions.{condition-number, refused-within, table-numbers}
-use Rattle.theorems.proofs.RunConditions.{run-numbers}
-use Rattle.theorems.proofs.CallConditions.{choice-range}
 use Rattle.theorems.proofs.PrintedRun.{split-text}
 use Rattle.theorems.proofs.Decimals.{signed-as-stated}
 
@@ -222,85 +209,35 @@ lines-are first a text s x =
 
 -- ---- the numbers of a printed run
 
--- at most the refusals' last number
-stop-number : (h : Configuration) (n : ℕ) (bs : List ℕ) → Stops h n bs → n ≤ 20
-stop-number h n bs at-end = omega arith
-stop-number h n bs (kind-neither one two) = omega arith
-stop-number h n bs act-short = omega arith
-stop-number h n bs inside-short = omega arith
-stop-number h n bs node-short = omega arith
-stop-number h n bs (act-refused {p = p} f) = choice-range h n (act p) (f .0) .1
-stop-number h n bs (inside-refused {p = p} {k = k} f) = choice-range h n (inside p k) (f .0) .1
+station-short : (c : Component) → Bytes (lineNumbers c) → ShortStation c
+station-short (idle (taking n a P)) h = let b = h .0 in omega arith
+station-short (idle (repeating n a P)) h = let b = h .0 in omega arith
+station-short (idle (block n M)) h = let b = h .0 in omega arith
+station-short (idle (output a)) h = let b = h .0 in omega arith
+station-short (transaction n M s t) h =
+    let b = h .0 in let m = h .1 .0 in let k = length-preorder t in (omega arith, omega arith)
 
--- the entries of a schedule are fewer than its bytes
-entries-few : (bs : List ℕ) → length (entries (schedule bs)) ≤ length bs
-unfolding entries schedule
-entries-few [] = omega arith
-entries-few (zero ∷ bs) = omega arith
-entries-few (suc zero ∷ []) = omega arith
-entries-few (suc zero ∷ p ∷ bs) = let h = entries-few bs in omega arith
-entries-few (suc (suc zero) ∷ []) = omega arith
-entries-few (suc (suc zero) ∷ p ∷ []) = omega arith
-entries-few (suc (suc zero) ∷ p ∷ k ∷ bs) = let h = entries-few bs in omega arith
-entries-few (suc (suc (suc k)) ∷ bs) = omega arith
-
--- no counter passes its top
-abbrev Topped : Counters → Type 0
-Topped c = (c .commits ≤ 4294967295) × (c .failed ≤ 4294967295) × (c .retries ≤ 4294967295)
-
-counter-topped : (n r k : ℕ) → k ≤ 4294967295 → countedAt n r k ≤ 4294967295
-unfolding countedAt saturatingSuc
-counter-topped n r k h = by-cases (λ m. m ≤ 4294967295) (eqb r n) _ k (λ e. omega arith) (λ e. h)
-
-tally-topped : (c : Counters) (ss : List Step) → Topped c → Topped (tallied c ss)
-unfolding tallied counted
-tally-topped c [] h = h
-tally-topped c (s ∷ ss) h =
-    tally-topped (counted (s .rule) c) ss (
-      counter-topped 7 (ruleNumber (s .rule)) (c .commits) (h .0),
-      counter-topped 6 (ruleNumber (s .rule)) (c .failed) (h .1),
-      counter-topped 5 (ruleNumber (s .rule)) (c .retries) (h .2),
-    )
-
-station-short : (ts : List Term) → GoodTable ts → (c : Component) → ComponentOk ts c → ShortStation c
-unfolding ComponentOk
-station-short ts g (idle (taking n a P)) ok = let h = found-below ts n _ ok in let f = g .few in omega arith
-station-short ts g (idle (repeating n a P)) ok = let h = found-below ts n _ ok in let f = g .few in omega arith
-station-short ts g (idle (block n M)) ok = let h = found-below ts n _ ok in let f = g .few in omega arith
-station-short ts g (idle (output a)) ok = omega arith
-station-short ts g (transaction n M s t) ok =
-    let h = found-below ts n _ (ok .0) in
-    let f = g .few in
-    let k = length-preorder t in
-    let m = few-nodes t in
-    let b = ok .3 in (omega arith, omega arith)
-
-counts-short : (σ : State) → ByteCounts σ → (length σ ≡ 16) × All Short σ
+counts-short : (σ : State) → (length σ ≡ 16) × Bytes σ → (length σ ≡ 16) × All Short σ
 counts-short σ h = (h .0, all-weaken _ _ (λ c l. omega arith) σ (h .1))
 
 run-short : (table : List ℕ) (t : Table) → AcceptsTable table t → (choices : List ℕ) → length choices ≤ 16384 →
     ShortNumbers (opening t) (run (opening t) freshCounters choices)
-unfolding RunNumbers freshCounters
+unfolding PrintedNumbersFit
 run-short table t accepts choices h =
-    let good = accepted-is-good table t (accepts .1) in
-    let first = opening-is-well-formed table t (accepts .0) (accepts .1) in
     let a = run (opening t) freshCounters choices in
-    let stops = run-numbers table t accepts (opening t) first freshCounters choices in
-    let number = stop-number (a .configuration) (a .number) (drop (a .place) choices) (stops .reason) in
-    let place = stops .inside-bytes in
-    let done = stops .as-many in
-    let few = entries-few choices in
-    let tells = run-tells (opening t) freshCounters choices in
-    let last =
-    runs-keep (WellFormed (t .terms)) (λ h e r g w q. well-formed-step e good w q) (tells .0) first in
-    let topped : Topped (a .counters) =
-    rw (tells .1) (tally-topped freshCounters (steps (opening t) (take (a .done) (entries (schedule choices)))) (omega arith)) in
+    let fit = printed-numbers-fit .1 table choices t accepts h in
+    let number = fit .number in
+    let place = fit .place in
+    let done = fit .done in
+    let commits = fit .counters .0 in
+    let failed = fit .counters .1 in
+    let retries = fit .counters .2 in
     record {
       answer = (omega arith, (omega arith, (omega arith, tt)));
       tally = (omega arith, (omega arith, (omega arith, tt)));
-      before = counts-short ((opening t) .counts) (first .channelCounts);
-      behind = counts-short (a .configuration .counts) (last .channelCounts);
-      each = all-weaken _ _ (station-short (t .terms) good) (a .configuration .components) (last .each);
+      before = counts-short ((opening t) .counts) (fit .first-counts);
+      behind = counts-short (a .configuration .counts) (fit .last-counts);
+      each = all-weaken _ _ station-short (a .configuration .components) (fit .each);
     }
 
 -- ---- the claims
@@ -310,17 +247,13 @@ part-within : (bs table : List ℕ) → TablePart bs table → length table ≤ 
 part-within bs table (up-to-start n x) = let h = length-take n bs in omega arith
 part-within bs table (all-of-it none-ends) = omega arith
 
-refused-number : (table : List ℕ) (n p : ℕ) → TableRefused table n p → n ≤ 9
-unfolding TableRefused
-refused-number table n p (at, r, o, reached, c, before, e) = condition-number r n o (drop at table) c .1
-
 pub refused-as-stated : RefusedAsStated
-unfolding RefusedAsStated TableNumbers report runLine signed
+unfolding RefusedAsStated PrintedNumbersFit report runLine signed
 refused-as-stated bs h table part n p e text =
-    let refused = (table-numbers table .0 n p) .0 e in
-    let number = refused-number table n p refused in
-    let place = refused-within table n p refused in
     let within = part-within bs table part in
+    let fit = printed-numbers-fit .0 table n p (omega arith) e in
+    let number = fit .0 in
+    let place = fit .1 in
     let prints = split-text bs table part h ∙ ap (report (drop (length table) bs)) e in
     let short : All TwentyDigits (pos n ∷ pos p ∷ pos 0 ∷ []) = (omega arith, (omega arith, (omega arith, tt))) in (
       λ x. subst (Line 82 (pos n ∷ pos p ∷ pos 0 ∷ [])) (sym prints ∙ x) (line-told 82 (pos n ∷ pos p ∷ pos 0 ∷ []) short),

@@ -20,7 +20,6 @@ use Rattle.semantics.specs.Definitions.Basics.{firstOf}
 use Rattle.semantics.specs.Definitions.Terms.{Program, Term, process, expression, width, branches, pathLength}
 use Rattle.semantics.specs.Definitions.Table.{Kind, kindByNumber, Field, channelF, programF, expressionF, amountF, fields, Reading, Table, TableAnswer, accepted, refusedAt, isProgram, isExpression, Content, termRecord, tokensRecord, startRecord, recordContent, anyField, tooManyTerms, channelOutOfRange, forwardReference, classMismatch, overLimit, badTokens, Test, tests, RecordAnswer, stop, more, tableEnd, recordPassed, recordTested, recordOfKind, readRecord, thenRead, readFrom, emptyReading, readTable}
 use Rattle.semantics.specs.Checks.Conditions.{Body, BodyByte, RecordAsStated, start13, ReadAsStated, TableCondition, kind-unknown, body-short, terms-many, channel-over, forward-reference, class-expression, class-process, width-over, paths-over, tokens-none, tokens-again, byte-follows, start-missing, NoCondition, Reached, at-first, after-term, after-tokens, TableRefused, TableAccepted, TableNumbers, MissingAtLength}
-use Rattle.theorems.proofs.Reading.{by-cases}
 use Rattle.theorems.proofs.Lists.{none-found, found-below, none-past}
 use Rattle.semantics.specs.Checks.AcceptedTables.{kindByte}
 use Rattle.theorems.proofs.RecordShapes.{kind-number, kind-within, kind-positive, kind-without, ContentReason, said-reason, body-of, body-is, read-as-stated, Fits, no-field, a-channel, a-program, an-expression, an-amount, printed-as-read}
@@ -73,11 +72,6 @@ condition-number r n o bs start-missing = omega arith
 offsetOf : ℕ → List ℕ → ℕ
 offsetOf n [] = 0
 offsetOf n (k ∷ bs) = cond (eqb n 9) 2 0
-
-offset-few : (n : ℕ) (bs : List ℕ) → offsetOf n bs ≤ 2
-unfolding offsetOf
-offset-few n [] = omega arith
-offset-few n (k ∷ bs) = by-cases (λ o. o ≤ 2) (eqb n 9) 2 0 (λ e. omega arith) (λ e. omega arith)
 
 condition-offset : (r : Reading) (n o : ℕ) (bs : List ℕ) → TableCondition r n o bs → o ≡ offsetOf n bs
 unfolding offsetOf
@@ -683,14 +677,6 @@ module _ (bs : List ℕ) where
       further p w r (termRecord t) passes prints (reached-within p r reached)
   reached-within q s (after-tokens {p} {w} {r} {a} {n} reached passes prints) =
       further p w r (tokensRecord a n) passes prints (reached-within p r reached)
-
-  -- and no refusal's place is further behind the table than two bytes
-  pub refused-within : (n q : ℕ) → TableRefused bs n q → q ≤ length bs + 2
-  unfolding TableRefused offsetOf
-  refused-within n q (p, r, o, reached, c, before, e) =
-      let a = reached-within p r reached in
-      let b = condition-offset r n o (drop p bs) c in
-      let few = offset-few n (drop p bs) in omega arith
 
 pub missing-at-length : MissingAtLength
 unfolding MissingAtLength
