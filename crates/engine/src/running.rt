@@ -6,7 +6,7 @@ use stored::INDEX_SIZE;
 use terms::DECODED;
 ghost use mathlib.Core.Path.{_≡_};
 ghost use Rattle.semantics.specs.Definitions.Calls.{runCall};
-ghost use Rattle.semantics.specs.Promises.{Promised, OnRuns};
+ghost use Rattle.semantics.specs.Promises.{Promised, OnRuns, Demands};
 ghost use Rattle.runs.specs.Answers.{runCallOf, RunCaseDecided};
 ghost use Rattle.engine.specs.Answers.{buffersOf};
 
@@ -17,6 +17,7 @@ pub fn run(table: &[u8], hall: &mut [u8], choices: &[u8], counters: Counters) ->
         ≡ runCall (now (table .entry)) (buffersOf (now (hall .entry)) counters) (now (choices .entry)) ⌝ }
     ensures decided { λ r. ⌜ RunCaseDecided r ⌝ }
     ensures promised { λ _. ⌜ Promised OnRuns ⌝ }
+    ensures demands { λ _. ⌜ Promised Demands ⌝ }
 {
     let mut decoded = [0u8; DECODED];
     let mut starts = [0usize; INDEX_SIZE];

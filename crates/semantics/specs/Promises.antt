@@ -1,27 +1,36 @@
 -- What is proved of the definitions, by the call that a reader meets it at: every claim of Claims/ and every check of
--- Checks/, and the calculus's own, is a field of one of these records. Their proofs: theorems/proofs/Promises. The
+-- Checks/, and the calculus's own, is a field of one of these records. Their proofs: theorems/proofs/Theorems. The
 -- contract of each public call cites the record of its subject, so that a call with a claim unproved is not proved
 -- either; .ci/claims holds that none is left out here.
 -- Assumes nothing.
-use Prim.Native.Nat.{ℕ}
+use Prim.Native.Nat.{ℕ, _≤_}
 use mathlib.Core.Path.{_≡_}
-use mathlib.Core.Logic.{_⊎_}
-use mathlib.Core.List.{List}
-use lib.ListN.{length}
-use Rattle.calculus.specs.Syntax.{State, Process}
-use Rattle.calculus.specs.Reduction.{Label, Reduces, LogOrder}
+use mathlib.Core.Logic.{_⊎_, _↔_}
+use mathlib.Core.Bool.{false}
+use mathlib.Core.Option.{some}
+use mathlib.Core.List.{List, map}
+use lib.ListN.{length, drop, getElem?}
+use Rattle.calculus.specs.Syntax.{Name, Log, State, Process}
+use Rattle.calculus.specs.Reduction.{Rule, OUT, ATOK, by, COM, Reduces, AnyOrder, LogOrder}
 use Rattle.calculus.specs.Checks.Notation.{NotationRows}
 use Rattle.calculus.specs.Checks.Table2.{Table2Rows}
 use Rattle.calculus.specs.Checks.Table3.{Table3Rows}
-use Rattle.semantics.specs.Definitions.Basics.{Bytes}
-use Rattle.semantics.specs.Definitions.Table.{Table}
-use Rattle.semantics.specs.Definitions.Configuration.{Configuration}
-use Rattle.semantics.specs.Definitions.Run.{Counters}
-use Rattle.semantics.specs.Definitions.Calls.{Call}
+use Rattle.semantics.specs.Definitions.Basics.{All, Bytes}
+use Rattle.semantics.specs.Definitions.Terms.{Expression}
+use Rattle.semantics.specs.Definitions.Table.{Table, accepted, readTable}
+use Rattle.semantics.specs.Definitions.Logs.{firstReadable}
+use Rattle.semantics.specs.Definitions.Configuration.{Configuration, opening}
+use Rattle.semantics.specs.Definitions.Stored.{WellFormed, bytesOf, configurationOf}
+use Rattle.semantics.specs.Definitions.Moves.{Entry, moved, answerTo}
+use Rattle.semantics.specs.Definitions.Run.{Counters, InBytes, Quiescent, entryBytes, scheduleBytes, run, Step, steps, finalConfiguration}
+use Rattle.semantics.specs.Definitions.AtomicRun.{atomicStart, atomicRun}
+use Rattle.semantics.specs.Definitions.Calls.{admission, admitted, openHall, Buffers, runCall, Call}
+use Rattle.semantics.specs.Definitions.Suggestion.{suggested, still, suggestCall}
 use Rattle.semantics.specs.Claims.Denotation.{Denotes, WithinLimits}
-use Rattle.semantics.specs.Claims.Correspondence.{AcceptsTable, EveryHall, EveryMove, OneReduction, HasChoices}
-use Rattle.semantics.specs.Claims.Atomicity as CallsAtomic
-use Rattle.semantics.specs.Checks.Conditions.{TableAccepted, TableRefused, HallAccepted, HallCondition}
+use Rattle.semantics.specs.Claims.NumberedRun.{aborts, effects}
+use Rattle.semantics.specs.Claims.ConverseRuns.{PlainState, plainStart, ConverseSteps, idleConfiguration}
+use Rattle.semantics.specs.Claims.Atomicity.{rolledBack, AttemptBegun, finalBuffers, allDone, doneWithoutAborted}
+use Rattle.semantics.specs.Checks.Conditions.{TableAccepted, TableRefused, HallCondition, Stops}
 use Rattle.semantics.specs.Claims.Accounts.{RunAccounts, CallsAccounts}
 use Rattle.semantics.specs.Claims.Atomicity.{AtomicityOfCalls}
 use Rattle.semantics.specs.Claims.Correspondence.{Soundness, RunSoundness, EveryHallDenotes, AcceptedIsWithinLimits, Completeness, CompletenessAnyOrder, StillIsStill, KeepsWellFormed, OpeningDenotes, OneOrder, Located, LogOrderAsStated, HandoverIsCOM}
@@ -80,8 +89,6 @@ pub record OnTables : Type 0 where
   pub branches-and-paths : BranchesAndPaths
   pub longest-branch : LongestBranch
   pub measure-examples : MeasureExamples
-  pub answers-reported : AnswersReported
-  pub zero-is-accepted : ZeroIsAccepted
 
 -- ---- a stored hall (engine::check_hall)
 
@@ -135,7 +142,7 @@ pub record OnMoves : Type 0 where
   pub moves-settle-first-path : MovesSettleFirstPath
   pub first-readable-is-leftmost : FirstReadableIsLeftmost
 
-pub record Demand2 : Type 0 where
+pub record OnDemand2 : Type 0 where
   pub opening-denotes : OpeningDenotes
   pub every-hall-denotes : EveryHallDenotes
   pub one-order : OneOrder
@@ -155,7 +162,7 @@ pub record Demand2 : Type 0 where
   pub table2-rows : Table2Rows
   pub table3-rows : Table3Rows
 
-pub record Demand3 : Type 0 where
+pub record OnDemand3 : Type 0 where
   pub atomicity-of-calls : AtomicityOfCalls
   pub notes-at-blocks : NotesAtBlocks
   pub numbered-is-atomic : NumberedIsAtomic
@@ -171,10 +178,17 @@ pub record Demand3 : Type 0 where
   pub run-rows : RunRows
   pub converse-examples : ConverseExamples
 
+-- what a caller is told, whatever the call
+pub record OnAnswers : Type 0 where
+  pub answers-reported : AnswersReported
+  pub answers-differ : AnswersDiffer
+  pub zero-is-accepted : ZeroIsAccepted
+
 pub record OnRuns : Type 0 where
   pub moves : OnMoves
-  pub demand2 : Demand2
-  pub demand3 : Demand3
+  pub demand2 : OnDemand2
+  pub demand3 : OnDemand3
+  pub answers : OnAnswers
   pub run-numbers : RunNumbers
   pub one-reason : OneReason
   pub run-call-numbers : RunCallNumbers
@@ -213,7 +227,6 @@ pub record OnSuggestions : Type 0 where
   pub still-is-quiescent : StillIsQuiescent
   pub still-runs-none : StillRunsNone
   pub refused-as-checked : RefusedAsChecked
-  pub answers-differ : AnswersDiffer
   pub suggestion-examples : SuggestionExamples
 
 -- ---- a sentence (sentences::sentence)
@@ -262,21 +275,72 @@ pub record EveryClaim : Type 0 where
   pub on-sentences : OnSentences
   pub on-printed-runs : OnPrintedRuns
 
--- ---- the demands at their plainest, as what these records give: a record without one of them, or a claim that says
--- nothing, does not give it
-pub record DemandsFollow : Type 0 where
-  -- demand 1: every table is accepted, or refused with a number and a place, for a reason; so is every hall
-  pub every-table-answered : EveryClaim → (table : List ℕ) →
+-- ---- the demands at their plainest, said with the definitions and the calculus and without the names of the claims: a
+-- claim that says nothing does not give them (proofs/Promises). engine::run cites them too
+pub record Demands : Type 0 where
+  -- demand 1: every table is accepted, or refused with a number and a place, for a reason; so is every hall, and every
+  -- list of choices on one
+  pub every-table-answered : (table : List ℕ) →
       ((t : Table) × TableAccepted table t) ⊎ ((n : ℕ) × (p : ℕ) × TableRefused table n p)
-  pub every-hall-answered : EveryClaim → (table hall : List ℕ) → Bytes table → Bytes hall →
-      ((t : Table) × (h : Configuration) × HallAccepted table hall t h)
+  pub every-hall-answered : (table hall : List ℕ) → Bytes table → Bytes hall →
+      ((t : Table) × (h : Configuration) × TableAccepted table t × WellFormed (t .terms) h × (bytesOf h ≡ hall))
       ⊎ ((n : ℕ) × (p : ℕ) × HallCondition table hall n p)
-  -- demand 2: an accepted choice does one reduction, and a reduction within the limits has its choices
-  pub choices-reduce : EveryClaim → EveryMove (λ t h e r g. OneReduction h r g)
-  pub reductions-chosen : EveryClaim → EveryHall (λ t h.
-      (P : Process) → Denotes P (h .components) → (l : Label) (P′ : Process) (σ′ : State) →
-      Reduces LogOrder l P (h .counts) P′ σ′ → WithinLimits l (h .counts) P′ σ′ → HasChoices l h P′ σ′)
-  -- demand 3: every list of calls, from every opening
-  pub calls-atomic : EveryClaim → (table : List ℕ) (t : Table) → AcceptsTable table t →
+  pub every-list-answered : (table : List ℕ) (t : Table) → Bytes table → readTable table ≡ accepted t →
+      (h : Configuration) → WellFormed (t .terms) h → (c : Counters) (choices : List ℕ) →
+      let a = run h c choices in
+      (a .place ≤ length choices) × Stops (a .configuration) (a .number) (drop (a .place) choices)
+  -- demand 2: an accepted choice does one reduction, Table 2 as printed
+  pub choices-reduce : (table : List ℕ) (t : Table) → Bytes table → readTable table ≡ accepted t →
+      (h : Configuration) → WellFormed (t .terms) h →
+      (e : Entry) (r : Rule) (g : Configuration) → answerTo h e ≡ moved r g →
+      (P : Process) → Denotes P (h .components) →
+      (P′ : Process) × Reduces AnyOrder (by r) P (h .counts) P′ (g .counts) × Denotes P′ (g .components)
+  -- a reduction within the limits has its choice, and a COM its two
+  pub reductions-chosen : (table : List ℕ) (t : Table) → Bytes table → readTable table ≡ accepted t →
+      (h : Configuration) → WellFormed (t .terms) h → (P : Process) → Denotes P (h .components) →
+      (r : Rule) (P′ : Process) (σ′ : State) → Reduces LogOrder (by r) P (h .counts) P′ σ′ →
+      WithinLimits (by r) (h .counts) P′ σ′ →
+      (e : Entry) × (g : Configuration) × InBytes e × (answerTo h e ≡ moved r g) × (g .counts ≡ σ′) ×
+      Denotes P′ (g .components)
+  pub handovers-chosen : (table : List ℕ) (t : Table) → Bytes table → readTable table ≡ accepted t →
+      (h : Configuration) → WellFormed (t .terms) h → (P : Process) → Denotes P (h .components) →
+      (a : Name) (P′ : Process) (σ′ : State) → Reduces LogOrder (COM a) P (h .counts) P′ σ′ →
+      WithinLimits (COM a) (h .counts) P′ σ′ →
+      (e : Entry) × (f : Configuration) × (d : Entry) × (r : Rule) × (g : Configuration) × InBytes e × InBytes d ×
+      (answerTo h e ≡ moved (OUT a) f) × (answerTo f d ≡ moved r g) × (g .counts ≡ σ′) × Denotes P′ (g .components)
+  -- what is suggested is done by a run, and still is said exactly where no choice is accepted
+  pub suggestions-run : (table : List ℕ) (l : Buffers) (e : Entry) → suggestCall table (l .hall) ≡ suggested e →
+      (runCall table l (entryBytes e)) .done ≡ 1
+  pub still-is-said : (table hall : List ℕ) →
+      (suggestCall table hall ≡ still) ↔
+      ((t : Table) × (h : Configuration) × (admission table hall ≡ admitted t h) × Quiescent h)
+  -- demand 3: every list of calls, from every opening, by its sentences. The hall is that of a one-step run of the choices
+  -- done
+  pub calls-as-one-step-run : (table : List ℕ) (t : Table) → Bytes table → readTable table ≡ accepted t →
       (buffer : List ℕ) → length buffer ≡ 11344 → (first : Counters) (cs : List Call) →
-      CallsAtomic.Demand3 table t buffer first cs
+      let left = finalBuffers table t buffer first cs in
+      let one = atomicRun (atomicStart t first) (allDone table t buffer first cs) in
+      (h : Configuration) × (configurationOf (t .terms) (left .hall) ≡ some h) × (h .counts ≡ one .counts) ×
+      (map rolledBack (h .components) ≡ map (λ x. x .station) (one .stations)) × (left .counters ≡ one .counters)
+  -- without the choices of abandoned attempts the hall is the same, and no attempt is abandoned
+  pub abandoned-leave-no-trace : (table : List ℕ) (t : Table) → Bytes table → readTable table ≡ accepted t →
+      (buffer : List ℕ) → length buffer ≡ 11344 → (first : Counters) (cs : List Call) →
+      let kept = steps (opening t) (doneWithoutAborted table t buffer first cs) in
+      (length kept ≡ length (doneWithoutAborted table t buffer first cs)) ×
+      (bytesOf (finalConfiguration (opening t) kept) ≡ (finalBuffers table t buffer first cs) .hall) ×
+      (effects kept ≡ effects (steps (opening t) (allDone table t buffer first cs))) ×
+      All (λ u. aborts (u .rule) ≡ false) kept
+  -- a committed block has taken its first path readable at its opening
+  pub first-path-taken : (table : List ℕ) (t : Table) → Bytes table → readTable table ≡ accepted t →
+      (buffer : List ℕ) → length buffer ≡ 11344 → (first : Counters) (cs : List Call) →
+      let done = allDone table t buffer first cs in
+      (j : ℕ) (s : Step) (δ : Log) → getElem? (steps (opening t) done) j ≡ some s → s .rule ≡ ATOK δ →
+      (p : ℕ) × (n : ℕ) × (M : Expression) × (o : AttemptBegun t first done j p n M) ×
+      (firstReadable (o .step .before .counts) M ≡ some δ)
+  -- and conversely: what one-step steps lead to, a list of choices leads to
+  pub one-step-runs-chosen : (table : List ℕ) (t : Table) → Bytes table → readTable table ≡ accepted t →
+      (buffer : List ℕ) → length buffer ≡ 11344 → (first : Counters) →
+      (s : PlainState) → ConverseSteps (plainStart t) s →
+      let l : Buffers = record { hall = (openHall table buffer) .hall; counters = first } in
+      (es : List Entry) × Bytes (scheduleBytes es) × ((runCall table l (scheduleBytes es)) .number ≡ 0) ×
+      ((runCall table l (scheduleBytes es)) .buffers .hall ≡ bytesOf (idleConfiguration s))

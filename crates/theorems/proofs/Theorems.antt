@@ -1,7 +1,7 @@
 -- The claims of specs/Promises, each proved: a field is the theorem of its name. The contracts of the public calls cite
 -- these records, so that none of them is proved without all of its claims.
 -- Assumes nothing.
-use Rattle.semantics.specs.Promises.{Promised, OnTables, OnHalls, OnOpenings, OnTurns, OnMoves, Demand2, Demand3, OnRuns, OnSteps, OnSuggestions, OnSentences, OnPrintedRuns, EveryClaim}
+use Rattle.semantics.specs.Promises.{Promised, OnTables, OnHalls, OnOpenings, OnTurns, OnMoves, OnDemand2, OnDemand3, OnAnswers, OnRuns, OnSteps, OnSuggestions, OnSentences, OnPrintedRuns, EveryClaim, Demands}
 use Rattle.theorems.proofs.Accounts as Accounts
 use Rattle.theorems.proofs.AnyOrder as AnyOrder
 use Rattle.theorems.proofs.Atomicity as Atomicity
@@ -50,6 +50,7 @@ use Rattle.semantics.proofs.GainExamples as RowsGainExamples
 use Rattle.semantics.proofs.LineExamples as RowsLineExamples
 use Rattle.semantics.proofs.MeasureExamples as RowsMeasureExamples
 use Rattle.semantics.proofs.MovesWorked as RowsMovesWorked
+use Rattle.semantics.proofs.Promises as RowsPromises
 use Rattle.semantics.proofs.Sentences as RowsSentences
 use Rattle.semantics.proofs.ShortageExamples as RowsShortageExamples
 use Rattle.semantics.proofs.StepExamples as RowsStepExamples
@@ -75,8 +76,6 @@ on-tables = record {
   branches-and-paths = Branches.branches-and-paths;
   longest-branch = Branches.longest-branch;
   measure-examples = RowsMeasureExamples.measure-examples;
-  answers-reported = RowsAnswers.answers-reported;
-  zero-is-accepted = ZeroNumbers.zero-is-accepted;
 }
 
 pub on-halls : OnHalls
@@ -133,8 +132,8 @@ on-moves = record {
   first-readable-is-leftmost = Branches.first-readable-is-leftmost;
 }
 
-pub demand2 : Demand2
-demand2 = record {
+pub on-demand2 : OnDemand2
+on-demand2 = record {
   opening-denotes = Soundness.opening-denotes;
   every-hall-denotes = Limits.every-hall-denotes;
   one-order = RowsDenotation.one-order;
@@ -155,8 +154,8 @@ demand2 = record {
   table3-rows = RowsTable3.table3-rows;
 }
 
-pub demand3 : Demand3
-demand3 = record {
+pub on-demand3 : OnDemand3
+on-demand3 = record {
   atomicity-of-calls = Atomicity.atomicity-of-calls;
   notes-at-blocks = Notes.notes-at-blocks;
   numbered-is-atomic = Simulation.numbered-is-atomic;
@@ -173,11 +172,19 @@ demand3 = record {
   converse-examples = RowsConverseExamples.converse-examples;
 }
 
+pub on-answers : OnAnswers
+on-answers = record {
+  answers-reported = RowsAnswers.answers-reported;
+  answers-differ = RowsAnswers.answers-differ;
+  zero-is-accepted = ZeroNumbers.zero-is-accepted;
+}
+
 pub on-runs : OnRuns
 on-runs = record {
   moves = on-moves;
-  demand2 = demand2;
-  demand3 = demand3;
+  demand2 = on-demand2;
+  demand3 = on-demand3;
+  answers = on-answers;
   run-numbers = RunConditions.run-numbers;
   one-reason = RunConditions.one-reason;
   run-call-numbers = CallConditions.run-call-numbers;
@@ -216,7 +223,6 @@ on-suggestions = record {
   still-is-quiescent = Suggestions.still-is-quiescent;
   still-runs-none = Suggestions.still-runs-none;
   refused-as-checked = Suggestions.refused-as-checked;
-  answers-differ = RowsAnswers.answers-differ;
   suggestion-examples = RowsSuggestionExamples.suggestion-examples;
 }
 
@@ -265,3 +271,6 @@ every-claim = record {
   on-sentences = on-sentences;
   on-printed-runs = on-printed-runs;
 }
+
+pub demands : Demands
+demands = RowsPromises.demands-follow every-claim

@@ -37,9 +37,9 @@ stepRow = toldRow enough
 -- an attempt at rd 0.end whose snapshot has no token, and one that has read 5, 3 and 3 and come to its end; no tray has a
 -- token. The read fails and tells its tray; a further step at that leaf, which is refused, and one of an unknown kind tell
 -- none; the commit, with a node that counts for nothing, fails and tells the lower of its trays
-unfoldable pub Told : Type 0
+unfoldable pub StepsTold : Type 0
 unfolding numbers trays hallOf attempt leafOf stepsInTurn toldRow stepRow tally
-Told =
+StepsTold =
     stepsInTurn (numbers "7 9 0 0 6 1 13 2")
     (record { hall = hallOf (trays "") (attempt 2 "" (leafOf 1 0 "") ++ ended); counters = tally 3 4 5 })
     ((2, 0, 0) ∷ (2, 0, 0) ∷ (3, 1, 0) ∷ (1, 1, 9) ∷ [])
@@ -60,5 +60,5 @@ Written =
     ≡ numbers "0" ∷ numbers "1 4" ∷ numbers "2 4 5" ∷ numbers "7" ∷ []
 
 pub record StepExamples : Type 0 where
-  pub told : Told
+  pub told : StepsTold
   pub written : Written

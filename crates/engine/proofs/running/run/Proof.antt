@@ -1,6 +1,6 @@
 -- `run` meets its contract: what is held is run, or the call is turned down. Assumes nothing.
 use Rattle.engine.proofs.Calls.{number-told, run-turned-down, held-running, run-said}
-use Rattle.theorems.proofs.Theorems.{promised, on-runs}
+use Rattle.theorems.proofs.Theorems.{promised, on-runs, demands}
 use borrow.Author.Needs.{needs}
 use Rattle.engine.proofs.running.run.Statement.{statement}
 use Rattle.engine.proofs.running.run.Tie as tie
@@ -21,13 +21,13 @@ same-length : tie.Need-same-length
 same-length c = search needs
 
 returns : tie.Need-returns
-returns c = (search run-said, (search needs, promised on-runs))
+returns c = (search run-said, (search needs, (promised on-runs, promised demands)))
 
 same-length-2 : tie.Need-same-length-2
 same-length-2 c = search needs
 
 returns-2 : tie.Need-returns-2
-returns-2 c = (search run-turned-down, (search number-told, promised on-runs))
+returns-2 c = (search run-turned-down, (search number-told, (promised on-runs, promised demands)))
 
 pub run-spec : {M : Type 1} → statement M
 run-spec =
