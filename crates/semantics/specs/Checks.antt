@@ -1,5 +1,6 @@
--- The definitions compared with documents 01 and 02, piece by piece: tables, moves, refusals, answers, stored form,
--- printed run, shortages, turns of an opening, sentences and worked examples. Assumes nothing.
+-- The definitions compared with documents 01 and 02, piece by piece: tables, measures and paths, moves, handovers, refusals,
+-- answers, stored form and bytes, printed run and its lines, shortages, turns of an opening, sentences and worked examples;
+-- and that no definition runs out of its turns. Assumes nothing.
 pub mod StatedMoves
 pub mod AcceptedTables
 pub mod StoredForm

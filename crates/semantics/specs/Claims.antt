@@ -1,5 +1,5 @@
--- What is claimed of those definitions: demand 2, demand 3, the shortages, the turns of an
--- opening, the accounts, the sentences. Assumes nothing.
+-- What is claimed of those definitions: suggestions, demand 2, demand 3, the moves inside an attempt, the shortages, the
+-- turns of an opening, the accounts, the sentences. Assumes nothing.
 pub mod Suggestions
 pub mod Denotation
 pub mod Correspondence

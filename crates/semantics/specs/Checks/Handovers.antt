@@ -1,5 +1,5 @@
 -- A direct handover, COM, as its two moves: the process between them, and the limits there (document 01, "Choices and
--- moves", on handovers).
+-- moves", on handovers). Proved in theorems/proofs/Handover.
 -- Assumes nothing.
 use Prim.Native.Nat.{suc, _≤_}
 use mathlib.Core.Path.{_≡_}
