@@ -8,7 +8,7 @@ use mathlib.Core.List.{List, []}
 use lib.ListN.{getElem?}
 use Rattle.semantics.specs.Definitions.Terms.{Term, process, expression}
 pub use Rattle.semantics.specs.Checks.AcceptedTables.{kindByte}
-use Rattle.semantics.specs.Definitions.Table.{Kind, startK, kindByNumber, Field, channelF, programF, expressionF, amountF, fields, Content, termRecord, tokensRecord, startRecord, recordContent}
+use Rattle.semantics.specs.Definitions.Table.{Kind, startK, kindByNumber, Field, channelF, programF, expressionF, amountF, fields, adds}
 use Rattle.records.specs.declared.Shape.{Shape}
 
 -- no byte past it is a kind
@@ -52,28 +52,21 @@ abbrev pub termClass : Term → Field
 termClass (process P) = programF
 termClass (expression M) = expressionF
 
--- by what a record says: the number of its term's class, 0 where it is no term
-abbrev pub contentClass : Content → ℕ
-contentClass (termRecord t) = fieldNumber (termClass t)
-contentClass (tokensRecord a n) = 0
-contentClass (startRecord P) = 0
+-- the number of a field, 0 for none
+abbrev pub numberOf : Option Field → ℕ
+numberOf none = 0
+numberOf (some f) = fieldNumber f
 
--- by the byte of its kind: what its records say is of one class, whatever their bodies
+-- by the byte of its kind: the number of the class of the term that it adds, 0 where it adds none
 unfoldable pub classOfKind : Option Kind → ℕ
-unfolding recordContent
 classOfKind none = 0
-classOfKind (some K) = contentClass (recordContent [] [] K)
+classOfKind (some K) = numberOf (adds K)
 
 unfoldable pub classOf : ℕ → ℕ
 unfolding kindByNumber classOfKind
 classOf k = classOfKind (kindByNumber k)
 
 -- ---- all of it
-
--- the number of a field, 0 for none
-abbrev pub numberOf : Option Field → ℕ
-numberOf none = 0
-numberOf (some f) = fieldNumber f
 
 -- by the byte of a kind: its class, and the numbers of its fields
 unfoldable pub shapeOf : ℕ → Shape

@@ -5,24 +5,24 @@ use native.Mathlib.Omega.{arith}
 use mathlib.Core.Path.{_≡_, refl, sym, _∙_}
 use mathlib.Core.Bool.{Bool, true, false, not, cond, _||_}
 use mathlib.Core.List.{List, [], _∷_}
-use mathlib.Core.Option.{some}
+use mathlib.Core.Option.{Option, none, some}
 use lib.ListN.{length, getD, getElem?}
 use lib.Seq.{getD-take}
 use lib.Dec.{leb, eqb}
 use borrow.Author.Tests.{leb-false, ne-eqb}
 use Rattle.semantics.specs.Definitions.Layout.{channels, maxTerms}
 use Rattle.semantics.specs.Definitions.Terms.{Term, process, expression}
-use Rattle.semantics.specs.Definitions.Table.{Field, programF, amountF, fields, Content, termRecord, tokensRecord, startRecord, isProgram, isExpression, anyField, tooManyTerms, channelOutOfRange, forwardReference, classMismatch, badTokens}
+use Rattle.semantics.specs.Definitions.Table.{Field, channelF, programF, expressionF, amountF, fields, adds, tokensRecord, isProgram, isExpression, anyField, tooManyTerms, channelOutOfRange, forwardReference, classMismatch, badTokens}
 use Rattle.theorems.proofs.Lists.{found-at}
 use Rattle.records.specs.declared.Record.{Record}
 use Rattle.records.specs.declared.Shape.{Shape}
-use Rattle.records.specs.Shapes.{fieldNumber, fieldFrom, failsAt, termClass, contentClass, classOf, shapeOf}
+use Rattle.records.specs.Shapes.{fieldNumber, fieldFrom, failsAt, termClass, numberOf, classOf, shapeOf}
 use Rattle.records.proofs.Shapes.{shape-class}
-use Rattle.records.proofs.Classes.{class-of-content}
+use Rattle.records.proofs.Classes.{class-of-kind}
 use Rattle.records.proofs.FieldTests.{both-fields}
 use Rattle.terms.specs.Decoded.{tokensIn, kindAt, Decoded}
 use Rattle.terms.proofs.TermKinds.{record-class}
-use Rattle.tablelaws.specs.Refusals.{KindAt, content, fieldRefusal}
+use Rattle.tablelaws.specs.Refusals.{KindAt, fieldRefusal}
 use Rattle.table.specs.RecordTests.{DecodedSoFar, TermLimitTested, EarlierReference, ClassTested, FieldsTested}
 
 -- ---- 3
@@ -33,20 +33,20 @@ module _ (n c : ℕ) where
   unfolding tooManyTerms
   other-room h = record { found = go }
     where
-      go : (ts : List Term) (x : Content) → length ts ≡ n → c ≡ contentClass x → false ≡ tooManyTerms ts x
-      go ts (termRecord (process P)) count s = absurd (omega arith)
-      go ts (termRecord (expression M)) count s = absurd (omega arith)
-      go ts (tokensRecord a m) count s = refl
-      go ts (startRecord P) count s = refl
+      go : (ts : List Term) (x : Option Field) → length ts ≡ n → c ≡ numberOf x → false ≡ tooManyTerms ts x
+      go ts none count s = refl
+      go ts (some channelF) count s = absurd (omega arith)
+      go ts (some programF) count s = absurd (omega arith)
+      go ts (some expressionF) count s = absurd (omega arith)
+      go ts (some amountF) count s = absurd (omega arith)
 
   pub term-room : (c ≡ 0 → ⊥) → TermLimitTested c n (leb maxTerms n)
   unfolding tooManyTerms
   term-room h = record { found = go }
     where
-      go : (ts : List Term) (x : Content) → length ts ≡ n → c ≡ contentClass x → leb maxTerms n ≡ tooManyTerms ts x
-      go ts (termRecord t) count s = rw (← count)
-      go ts (tokensRecord a m) count s = absurd (h s)
-      go ts (startRecord P) count s = absurd (h s)
+      go : (ts : List Term) (x : Option Field) → length ts ≡ n → c ≡ numberOf x → leb maxTerms n ≡ tooManyTerms ts x
+      go ts none count s = absurd (h s)
+      go ts (some F) count s = rw (← count)
 
 -- ---- 6
 
@@ -135,8 +135,8 @@ module _ (d : List ℕ) (n : ℕ) (x : Record) (k : ℕ) (same : x .kind ≡ k) 
       anyField fails (fields (K .kind)) (x .first ∷ x .second ∷ []) ≡ (first-fails fails || second-fails fails)
   on-both fails K = both-fields fails (x .first) (x .second) (x .kind) (K .kind) (K .named) y shape
 
-  class : (K : KindAt (x .kind)) (ts : List Term) → y .0 ≡ contentClass (content ts (K .kind) (x .first) (x .second))
-  class K ts = shape-class (x .kind) y shape ∙ rw (← (K .byte)) at (class-of-content ts (x .first ∷ x .second ∷ []) (K .kind))
+  class : (K : KindAt (x .kind)) → y .0 ≡ numberOf (adds (K .kind))
+  class K = shape-class (x .kind) y shape ∙ class-of-kind (x .kind) (K .kind) (K .named)
 
   module _ (b3 : Bool) (e3 : TermLimitTested (y .0) n b3) where
     in-order : (ts : List Term) (K : KindAt (x .kind)) → length ts ≡ n →
@@ -146,7 +146,7 @@ module _ (d : List ℕ) (n : ℕ) (x : Record) (k : ℕ) (same : x .kind ≡ k) 
         (cond (first-fails (forwardReference ts) || second-fails (forwardReference ts)) 5
         (cond (first-fails (classMismatch ts) || second-fails (classMismatch ts)) 6 0)))
     unfolding fieldRefusal
-    in-order ts K count = rw (← (e3 .found ts (content ts (K .kind) (x .first) (x .second)) count (class K ts)), on-both channelOutOfRange K, on-both (forwardReference ts) K, on-both (classMismatch ts) K)
+    in-order ts K count = rw (← (e3 .found ts (adds (K .kind)) count (class K)), on-both channelOutOfRange K, on-both (forwardReference ts) K, on-both (classMismatch ts) K)
 
     pub refused-3 : b3 ≡ true → FieldsTested d n x 3
     refused-3 h3 = record { found = λ ts K z count. rw (in-order ts K count, h3) }

@@ -3,12 +3,13 @@
 use Prim.Native.Nat.{ℕ}
 use mathlib.Core.Path.{_≡_}
 use mathlib.Core.Bool.{Bool, false}
+use mathlib.Core.Option.{Option}
 use mathlib.Core.List.{List}
 use lib.ListN.{length}
 use Rattle.semantics.specs.Definitions.Terms.{Term}
-use Rattle.semantics.specs.Definitions.Table.{Content, tooManyTerms, forwardReference, classMismatch}
+use Rattle.semantics.specs.Definitions.Table.{Field, tooManyTerms, forwardReference, classMismatch}
 use Rattle.records.specs.declared.Record.{Record}
-use Rattle.records.specs.Shapes.{fieldFrom, failsAt, contentClass}
+use Rattle.records.specs.Shapes.{fieldFrom, failsAt, numberOf}
 use Rattle.terms.specs.Decoded.{Decoded}
 use Rattle.tablelaws.specs.Refusals.{KindAt, fieldRefusal}
 
@@ -20,7 +21,7 @@ pub record DecodedSoFar (d : List ℕ) (n : ℕ) : Type 0 where
 
 -- 3, of a record of class c after n terms
 pub record TermLimitTested (c n : ℕ) (b : Bool) : Type 0 where
-  pub found : (ts : List Term) (x : Content) → length ts ≡ n → c ≡ contentClass x → b ≡ tooManyTerms ts x
+  pub found : (ts : List Term) (x : Option Field) → length ts ≡ n → c ≡ numberOf x → b ≡ tooManyTerms ts x
 
 -- a field that is no reference, or one to an earlier term
 pub record EarlierReference (d : List ℕ) (f byte : ℕ) : Type 0 where

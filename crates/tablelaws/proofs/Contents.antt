@@ -14,9 +14,9 @@ use Rattle.calculus.specs.Syntax.{State}
 use Rattle.semantics.specs.Definitions.Layout.{channels}
 use Rattle.semantics.specs.Definitions.Terms.{Program, Term, process, expression}
 use Rattle.semantics.specs.Checks.AcceptedTables.{programNumber, termNumber, GoodTable}
-use Rattle.semantics.specs.Definitions.Table.{Kind, nilK, putK, takeK, repeatK, parK, atomK, endK, retryK, rdK, wtK, orElseK, tokensK, startK, Field, fields, Content, termRecord, tokensRecord, startRecord, recordContent, programIn, expressionIn, isProgram, isExpression, asProgram, asExpression, anyField, tooManyTerms, channelOutOfRange, forwardReference, classMismatch}
+use Rattle.semantics.specs.Definitions.Table.{Kind, nilK, putK, takeK, repeatK, parK, atomK, endK, retryK, rdK, wtK, orElseK, tokensK, startK, Field, fields, adds, Content, termRecord, tokensRecord, startRecord, nothing, recordContent, isProgram, isExpression, anyField, tooManyTerms, channelOutOfRange, forwardReference, classMismatch}
 use Rattle.theorems.proofs.Lists.{found-below, all-every}
-use Rattle.theorems.proofs.GoodTable.{a-program, an-expression, NextTerm, Sound, sound, first-fails, second-fails, channel-below}
+use Rattle.theorems.proofs.GoodTable.{of-a-program, of-an-expression, NextTerm, Sound, sound, first-fails, second-fails, channel-below}
 use Rattle.records.specs.Shapes.{kindByte, classOf}
 use Rattle.terms.specs.Decoded.{RecordOf}
 use Rattle.terms.proofs.TermKinds.{record-class}
@@ -42,7 +42,7 @@ none-refused false false false false q z e = (refl, refl, refl, refl)
 
 module _ (ts : List Term) (K : Kind) (l r : ℕ) where
   abbrev many : Bool
-  many = tooManyTerms ts (content ts K l r)
+  many = tooManyTerms ts (adds K)
 
   abbrev some-field : (Field → ℕ → Bool) → Bool
   some-field fails = anyField fails (fields K) (l ∷ r ∷ [])
@@ -80,12 +80,6 @@ module _ (ts : List Term) (g : GoodTable ts) where
   refers : (b : ℕ) (t : Term) → getElem? ts b ≡ some t → Reference b t
   refers b t e = record { at = e; number = sym (g .numbered b t e); below = found-below ts b t e }
 
-  program-ref : (b : ℕ) → not (isProgram (getElem? ts b)) ≡ false → Reference b (process (asProgram (getElem? ts b)))
-  program-ref b e = refers b _ (a-program (getElem? ts b) e)
-
-  expression-ref : (b : ℕ) → not (isExpression (getElem? ts b)) ≡ false → Reference b (expression (asExpression (getElem? ts b)))
-  expression-ref b e = refers b _ (an-expression (getElem? ts b) e)
-
 -- ---- what the record describes
 
 module _ (ts : List Term) (k l r : ℕ) where
@@ -108,6 +102,7 @@ module _ (ts : List Term) (k l r : ℕ) where
   Describes (termRecord u) = NewTerm u
   Describes (tokensRecord a n) = NewTokens a n
   Describes (startRecord P) = NewStart P
+  Describes nothing = ⊥
 
   no-term : (u : Term) → NewTerm u → classOf k ≡ 0 → ⊥
   no-term (process P) z h = omega (arith, record-class (length ts) k l r (process P) (z .fields))
@@ -118,46 +113,66 @@ module _ (ts : List Term) (k l r : ℕ) where
   as-term (termRecord u) z h g = (u, refl, z)
   as-term (tokensRecord a n) z h g = absurd (g (z .kind))
   as-term (startRecord P) z h g = absurd (h (z .kind))
+  as-term nothing z h g = absurd z
 
   pub as-tokens : (c : Content) → Describes c → k ≡ kindByte tokensK → (c ≡ tokensRecord l r) × (l < channels)
   unfolding classOf
   as-tokens (termRecord u) z h = absurd (no-term u z (rw h))
   as-tokens (tokensRecord a n) z h = (rw (z .channel, z .amount), z .below)
   as-tokens (startRecord P) z h = absurd (omega (arith, z .kind))
+  as-tokens nothing z h = absurd z
 
   pub as-start : (c : Content) → Describes c → k ≡ kindByte startK → (P : Program) × (c ≡ startRecord P) × NewStart P
   unfolding classOf
   as-start (termRecord u) z h = absurd (no-term u z (rw h))
   as-start (tokensRecord a n) z h = absurd (omega (arith, z .kind))
   as-start (startRecord P) z h = (P, refl, z)
+  as-start nothing z h = absurd z
 
 module _ (ts : List Term) (g : GoodTable ts) (l r : ℕ) where
-  by-kind : (K : Kind) → FieldsPass ts K l r → Sound (λ n. Unit {0}) ts (content ts K l r) → Describes ts (kindByte K) l r (content ts K l r)
-  unfolding Sound recordContent programIn expressionIn termNumber fields anyField channelOutOfRange classMismatch
-  by-kind nilK h s = record { next = s; fields = refl }
-  by-kind putK h s = record { next = s; fields = (refl, refl) }
-  by-kind takeK h s =
-      let y = program-ref ts g r (first-fails _ _ (h .classes)) in record { next = s; fields = (refl, refl, y .number, y .below) }
-  by-kind repeatK h s =
-      let y = program-ref ts g r (first-fails _ _ (h .classes)) in record { next = s; fields = (refl, refl, y .number, y .below) }
-  by-kind parK h s =
-      let x = program-ref ts g l (first-fails _ _ (h .classes)) in
-      let y = program-ref ts g r (second-fails (not (isProgram (getElem? ts l))) _ false (h .classes)) in
-      record { next = s; fields = (refl, x .number, x .below, y .number, y .below) }
-  by-kind atomK h s =
-      let x = expression-ref ts g l (first-fails _ _ (h .classes)) in record { next = s; fields = (refl, x .number, x .below) }
-  by-kind endK h s = record { next = s; fields = refl }
-  by-kind retryK h s = record { next = s; fields = refl }
-  by-kind rdK h s =
-      let y = expression-ref ts g r (first-fails _ _ (h .classes)) in record { next = s; fields = (refl, refl, y .number, y .below) }
-  by-kind wtK h s =
-      let y = expression-ref ts g r (first-fails _ _ (h .classes)) in record { next = s; fields = (refl, refl, y .number, y .below) }
-  by-kind orElseK h s =
-      let x = expression-ref ts g l (first-fails _ _ (h .classes)) in
-      let y = expression-ref ts g r (second-fails (not (isExpression (getElem? ts l))) _ false (h .classes)) in
-      record { next = s; fields = (refl, x .number, x .below, y .number, y .below) }
-  by-kind tokensK h s = record { kind = refl; channel = refl; amount = refl; below = channel-below l _ (h .channels) }
-  by-kind startK h s = let x = program-ref ts g l (first-fails _ _ (h .classes)) in record { kind = refl; at = x .at; number = x .number }
+  -- sound, it describes what it says
+  abbrev Described : Kind → Content → Type 0
+  Described K c = Sound (λ n. Unit {0}) ts c → Describes ts (kindByte K) l r c
+
+  by-kind : (K : Kind) → FieldsPass ts K l r → Described K (content ts K l r)
+  unfolding Sound recordContent termNumber fields anyField channelOutOfRange classMismatch
+  by-kind nilK h = λ s. record { next = s; fields = refl }
+  by-kind putK h = λ s. record { next = s; fields = (refl, refl) }
+  by-kind takeK h =
+      of-a-program (Described takeK) (getElem? ts r) _ (first-fails _ _ (h .classes))
+      (λ P e s. let y = refers ts g r (process P) e in record { next = s; fields = (refl, refl, y .number, y .below) })
+  by-kind repeatK h =
+      of-a-program (Described repeatK) (getElem? ts r) _ (first-fails _ _ (h .classes))
+      (λ P e s. let y = refers ts g r (process P) e in record { next = s; fields = (refl, refl, y .number, y .below) })
+  by-kind parK h =
+      of-a-program (Described parK) (getElem? ts l) _ (first-fails _ _ (h .classes))
+      (λ P e. of-a-program (Described parK) (getElem? ts r) _ (second-fails (not (isProgram (getElem? ts l))) _ false (h .classes))
+      (λ Q f s.
+      let x = refers ts g l (process P) e in
+      let y = refers ts g r (process Q) f in
+      record { next = s; fields = (refl, x .number, x .below, y .number, y .below) }))
+  by-kind atomK h =
+      of-an-expression (Described atomK) (getElem? ts l) _ (first-fails _ _ (h .classes))
+      (λ M e s. let x = refers ts g l (expression M) e in record { next = s; fields = (refl, x .number, x .below) })
+  by-kind endK h = λ s. record { next = s; fields = refl }
+  by-kind retryK h = λ s. record { next = s; fields = refl }
+  by-kind rdK h =
+      of-an-expression (Described rdK) (getElem? ts r) _ (first-fails _ _ (h .classes))
+      (λ M e s. let y = refers ts g r (expression M) e in record { next = s; fields = (refl, refl, y .number, y .below) })
+  by-kind wtK h =
+      of-an-expression (Described wtK) (getElem? ts r) _ (first-fails _ _ (h .classes))
+      (λ M e s. let y = refers ts g r (expression M) e in record { next = s; fields = (refl, refl, y .number, y .below) })
+  by-kind orElseK h =
+      of-an-expression (Described orElseK) (getElem? ts l) _ (first-fails _ _ (h .classes))
+      (λ M e. of-an-expression (Described orElseK) (getElem? ts r) _ (second-fails (not (isExpression (getElem? ts l))) _ false (h .classes))
+      (λ N f s.
+      let x = refers ts g l (expression M) e in
+      let y = refers ts g r (expression N) f in
+      record { next = s; fields = (refl, x .number, x .below, y .number, y .below) }))
+  by-kind tokensK h = λ s. record { kind = refl; channel = refl; amount = refl; below = channel-below l _ (h .channels) }
+  by-kind startK h =
+      of-a-program (Described startK) (getElem? ts l) _ (first-fails _ _ (h .classes))
+      (λ P e s. let x = refers ts g l (process P) e in record { kind = refl; at = x .at; number = x .number })
 
   pub describes : (σ : State) (k : ℕ) (K : Kind) → k ≡ kindByte K → length (fields K) ≤ 2 → FieldsPass ts K l r →
       Describes ts k l r (content ts K l r)

@@ -13,7 +13,7 @@ use lib.Dec.{ltb}
 use borrow.Author.Tests.{lt-ltb, le-ltb}
 use Rattle.semantics.specs.Definitions.Basics.{firstOf}
 use Rattle.semantics.specs.Definitions.Terms.{Term}
-use Rattle.semantics.specs.Definitions.Table.{Kind, nilK, putK, takeK, repeatK, parK, atomK, endK, retryK, rdK, wtK, orElseK, tokensK, startK, kindByNumber, Field, fields, Reading, refusedAt, Content, recordContent, programIn, expressionIn, anyField, channelOutOfRange, forwardReference, classMismatch, tests, RecordAnswer, stop, recordPassed, recordTested, recordOfKind, readRecord}
+use Rattle.semantics.specs.Definitions.Table.{Kind, nilK, putK, takeK, repeatK, parK, atomK, endK, retryK, rdK, wtK, orElseK, tokensK, startK, kindByNumber, Field, fields, Reading, refusedAt, Content, recordContent, anyField, channelOutOfRange, forwardReference, classMismatch, tests, RecordAnswer, stop, recordPassed, recordTested, recordOfKind, readRecord}
 use Rattle.records.specs.declared.Record.{Record}
 use Rattle.records.specs.Shapes.{lastKind, bodyOf}
 use Rattle.records.specs.Parsing.{ShortRecord, WholeRecord}
@@ -24,7 +24,7 @@ use Rattle.tablelaws.proofs.KindBytes.{kind-at}
 -- ---- a body's two bytes stand for all that follows the kind
 
 said-two : (ts : List Term) (bs : List ℕ) (K : Kind) → recordContent ts bs K ≡ content ts K (getD bs 0 0) (getD bs 1 0)
-unfolding recordContent programIn expressionIn
+unfolding recordContent
 said-two ts bs nilK = refl
 said-two ts bs putK = refl
 said-two ts bs takeK = refl
@@ -55,7 +55,7 @@ any-two fails (f ∷ e ∷ d ∷ fs) bs h g = absurd (omega arith)
 -- the turn after a refusal's number, 0 for none
 unfoldable pub afterTests : ℕ → Reading → ℕ → Content → (w next : ℕ) → List ℕ → RecordAnswer
 unfolding recordPassed
-afterTests zero x at c w next rest = recordPassed x c w next rest
+afterTests zero x at c w next rest = recordPassed x at c w next rest
 afterTests (suc m) x at c w next rest = stop (refusedAt (suc m) at)
 
 module _ (x : Reading) (at : ℕ) (K : Kind) (bs : List ℕ) where

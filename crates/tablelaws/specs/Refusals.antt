@@ -6,7 +6,7 @@ use mathlib.Core.Bool.{cond}
 use mathlib.Core.Option.{some}
 use mathlib.Core.List.{List, [], _∷_}
 use Rattle.semantics.specs.Definitions.Terms.{Term}
-use Rattle.semantics.specs.Definitions.Table.{Kind, kindByNumber, fields, Content, Reading, recordContent, anyField, tooManyTerms, channelOutOfRange, forwardReference, classMismatch, overLimit, badTokens}
+use Rattle.semantics.specs.Definitions.Table.{Kind, kindByNumber, fields, adds, Content, Reading, recordContent, anyField, tooManyTerms, channelOutOfRange, forwardReference, classMismatch, overLimit, badTokens}
 use Rattle.records.specs.Shapes.{kindByte}
 
 -- a byte of kind, with its kind
@@ -21,9 +21,9 @@ content ts K l r = recordContent ts (l ∷ r ∷ []) K
 
 -- the first of the tests 3 to 6, which are on its fields; where all pass, what follows
 unfoldable pub fieldRefusal : List Term → Kind → (l r then : ℕ) → ℕ
-unfolding fields recordContent tooManyTerms anyField channelOutOfRange forwardReference classMismatch
+unfolding fields tooManyTerms anyField channelOutOfRange forwardReference classMismatch
 fieldRefusal ts K l r then =
-    cond (tooManyTerms ts (content ts K l r)) 3
+    cond (tooManyTerms ts (adds K)) 3
     (cond (anyField channelOutOfRange (fields K) (l ∷ r ∷ [])) 4
     (cond (anyField (forwardReference ts) (fields K) (l ∷ r ∷ [])) 5
     (cond (anyField (classMismatch ts) (fields K) (l ∷ r ∷ [])) 6 then)))

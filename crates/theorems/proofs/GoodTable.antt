@@ -13,8 +13,8 @@ use lib.Dec.{ltb}
 use borrow.Author.Tests.{leb-false}
 use Rattle.calculus.specs.Syntax.{State}
 use Rattle.semantics.specs.Definitions.Basics.{firstOf, All}
-use Rattle.semantics.specs.Definitions.Terms.{endT, retryT, rdT, wtT, orElseT, Program, nilT, putT, takeT, repeatT, parT, atomT, Term, process, expression, number, width, branches, pathLength}
-use Rattle.semantics.specs.Definitions.Table.{Kind, nilK, putK, takeK, repeatK, parK, atomK, endK, retryK, rdK, wtK, orElseK, tokensK, startK, kindByNumber, Reading, Table, TableAnswer, accepted, refusedAt, isProgram, isExpression, asProgram, asExpression, Content, termRecord, tokensRecord, startRecord, recordContent, fields, anyField, tooManyTerms, channelOutOfRange, classMismatch, overLimit, Test, tests, RecordAnswer, stop, more, tableEnd, recordPassed, recordTested, recordOfKind, readRecord, thenRead, readFrom, emptyReading, readTable}
+use Rattle.semantics.specs.Definitions.Terms.{Expression, endT, retryT, rdT, wtT, orElseT, Program, nilT, putT, takeT, repeatT, parT, atomT, Term, process, expression, number, width, branches, pathLength}
+use Rattle.semantics.specs.Definitions.Table.{Kind, nilK, putK, takeK, repeatK, parK, atomK, endK, retryK, rdK, wtK, orElseK, tokensK, startK, kindByNumber, Reading, Table, TableAnswer, accepted, refusedAt, isProgram, isExpression, Field, Content, termRecord, tokensRecord, startRecord, nothing, ofProgram, ofExpression, recordContent, fields, adds, anyField, tooManyTerms, channelOutOfRange, classMismatch, overLimit, Test, tests, RecordAnswer, stop, more, tableEnd, recordPassed, recordTested, recordOfKind, readRecord, thenRead, readFrom, emptyReading, readTable}
 use Rattle.semantics.specs.Checks.AcceptedTables.{programNumber, termNumber, ProgramIn, ExpressionIn, SubtermsIn, ChannelBelow, MeasuresWithinLimits, GoodTable}
 use Rattle.semantics.specs.Checks.StoredForm.{AcceptedIsGood, StartIsTerm, TokensAreCounts}
 use Rattle.theorems.proofs.Reading.{or-false}
@@ -72,27 +72,29 @@ empty-good = record {
 
 -- ---- what the tests on a record give
 
--- a term of the class that was asked for
-pub a-program : (o : Option Term) → not (isProgram o) ≡ false → o ≡ some (process (asProgram o))
-unfolding isProgram asProgram
-a-program none e = absurd (true≢false e)
-a-program (some (process P)) e = refl
-a-program (some (expression M)) e = absurd (true≢false e)
+-- what is said of a reference to the class that was asked for has a property that all have that may be said
+pub of-a-program : (p : Content → Type 0) (o : Option Term) (says : Program → Content) → not (isProgram o) ≡ false →
+    ((P : Program) → o ≡ some (process P) → p (says P)) → p (ofProgram o says)
+unfolding isProgram ofProgram
+of-a-program p none says e h = absurd (true≢false e)
+of-a-program p (some (process P)) says e h = h P refl
+of-a-program p (some (expression M)) says e h = absurd (true≢false e)
 
-pub an-expression : (o : Option Term) → not (isExpression o) ≡ false → o ≡ some (expression (asExpression o))
-unfolding isExpression asExpression
-an-expression none e = absurd (true≢false e)
-an-expression (some (process P)) e = absurd (true≢false e)
-an-expression (some (expression M)) e = refl
+pub of-an-expression : (p : Content → Type 0) (o : Option Term) (says : Expression → Content) → not (isExpression o) ≡ false →
+    ((M : Expression) → o ≡ some (expression M) → p (says M)) → p (ofExpression o says)
+unfolding isExpression ofExpression
+of-an-expression p none says e h = absurd (true≢false e)
+of-an-expression p (some (process P)) says e h = absurd (true≢false e)
+of-an-expression p (some (expression M)) says e h = h M refl
 
 -- a reference to it is to an entry at its own number
-program-in : (ts : List Term) → GoodTable ts → (n : ℕ) → not (isProgram (getElem? ts n)) ≡ false → ProgramIn ts (asProgram (getElem? ts n))
+program-in : (ts : List Term) → GoodTable ts → (n : ℕ) (P : Program) → getElem? ts n ≡ some (process P) → ProgramIn ts P
 unfolding termNumber
-program-in ts g n e = let p = a-program (getElem? ts n) e in rw (g .numbered n (process (asProgram (getElem? ts n))) p) p
+program-in ts g n P p = rw (g .numbered n (process P) p) p
 
-expression-in : (ts : List Term) → GoodTable ts → (n : ℕ) → not (isExpression (getElem? ts n)) ≡ false → ExpressionIn ts (asExpression (getElem? ts n))
+expression-in : (ts : List Term) → GoodTable ts → (n : ℕ) (M : Expression) → getElem? ts n ≡ some (expression M) → ExpressionIn ts M
 unfolding termNumber
-expression-in ts g n e = let p = an-expression (getElem? ts n) e in rw (g .numbered n (expression (asExpression (getElem? ts n))) p) p
+expression-in ts g n M p = rw (g .numbered n (expression M) p) p
 
 -- where no test of a list is found to hold, each fails
 none-holds : (ts : List Test) → firstOf (λ t. t .holds) ts ≡ none → All (λ t. t .holds ≡ false) ts
@@ -108,7 +110,7 @@ none-holds (t ∷ ts) e = go (t .holds) refl e (none-holds ts)
 -- a record that passed the tests on its fields
 pub record Passing (r : Reading) (K : Kind) (bs : List ℕ) : Type 0 where
   pub whole : ltb (length bs) (length (fields K)) ≡ false
-  pub room : tooManyTerms (r .terms) (recordContent (r .terms) bs K) ≡ false
+  pub room : tooManyTerms (r .terms) (adds K) ≡ false
   pub channels : anyField channelOutOfRange (fields K) bs ≡ false
   pub classes : anyField (classMismatch (r .terms)) (fields K) bs ≡ false
 
@@ -125,6 +127,7 @@ unfoldable pub Sound : (ℕ → Type 0) → List Term → Content → Type 0
 Sound B ts (termRecord u) = NextTerm ts u
 Sound B ts (tokensRecord a n) = B n
 Sound B ts (startRecord P) = ProgramIn ts P
+Sound B ts nothing = ⊥
 
 -- the first and the second of two tests that both fail
 pub first-fails : (a b : Bool) → (a || b) ≡ false → a ≡ false
@@ -144,9 +147,9 @@ within-limits (expression M) e =
     let b = leb-false 9 (branches M) (h .0) in
     let l = leb-false 17 (pathLength M) (h .1) in (omega arith, omega arith)
 
-next-term : (ts : List Term) (u : Term) → tooManyTerms ts (termRecord u) ≡ false → termNumber u ≡ length ts → SubtermsIn ts u → ChannelBelow u → NextTerm ts u
+next-term : (ts : List Term) (u : Term) (F : Field) → tooManyTerms ts (some F) ≡ false → termNumber u ≡ length ts → SubtermsIn ts u → ChannelBelow u → NextTerm ts u
 unfolding tooManyTerms
-next-term ts u m e s c = record { room = leb-false 200 (length ts) m; place = e; parts = s; below = c }
+next-term ts u F m e s c = record { room = leb-false 200 (length ts) m; place = e; parts = s; below = c }
 
 module _ (B : ℕ → Type 0) (ts : List Term) (σ : State) (g : GoodTable ts) where
   abbrev pub so-far : Reading
@@ -155,44 +158,53 @@ module _ (B : ℕ → Type 0) (ts : List Term) (σ : State) (g : GoodTable ts) w
   -- a record that passed them is sound
   pub sound : (K : Kind) (bs : List ℕ) → All B bs → Passing so-far K bs → Sound B ts (recordContent ts bs K)
   unfolding Sound recordContent fields anyField channelOutOfRange classMismatch termNumber
-  sound nilK bs b h = next-term ts _ (h .room) refl tt tt
+  sound nilK bs b h = next-term ts _ _ (h .room) refl tt tt
   sound putK [] b h = absurd (true≢false (h .whole))
-  sound putK (a ∷ bs) b h = next-term ts _ (h .room) refl tt (channel-below a _ (h .channels))
+  sound putK (a ∷ bs) b h = next-term ts _ _ (h .room) refl tt (channel-below a _ (h .channels))
   sound takeK [] b h = absurd (true≢false (h .whole))
   sound takeK (a ∷ []) b h = absurd (true≢false (h .whole))
   sound takeK (a ∷ i ∷ bs) b h =
-      next-term ts _ (h .room) refl (program-in ts g i (first-fails _ _ (h .classes))) (channel-below a _ (h .channels))
+      of-a-program (Sound B ts) (getElem? ts i) _ (first-fails _ _ (h .classes))
+      (λ P e. next-term ts _ _ (h .room) refl (program-in ts g i P e) (channel-below a _ (h .channels)))
   sound repeatK [] b h = absurd (true≢false (h .whole))
   sound repeatK (a ∷ []) b h = absurd (true≢false (h .whole))
   sound repeatK (a ∷ i ∷ bs) b h =
-      next-term ts _ (h .room) refl (program-in ts g i (first-fails _ _ (h .classes))) (channel-below a _ (h .channels))
+      of-a-program (Sound B ts) (getElem? ts i) _ (first-fails _ _ (h .classes))
+      (λ P e. next-term ts _ _ (h .room) refl (program-in ts g i P e) (channel-below a _ (h .channels)))
   sound parK [] b h = absurd (true≢false (h .whole))
   sound parK (i ∷ []) b h = absurd (true≢false (h .whole))
   sound parK (i ∷ j ∷ bs) b h =
-      next-term ts _ (h .room) refl
-      (program-in ts g i (first-fails _ _ (h .classes)), program-in ts g j (second-fails (not (isProgram (getElem? ts i))) _ false (h .classes))) tt
+      of-a-program (Sound B ts) (getElem? ts i) _ (first-fails _ _ (h .classes))
+      (λ P e. of-a-program (Sound B ts) (getElem? ts j) _ (second-fails (not (isProgram (getElem? ts i))) _ false (h .classes))
+      (λ Q f. next-term ts _ _ (h .room) refl (program-in ts g i P e, program-in ts g j Q f) tt))
   sound atomK [] b h = absurd (true≢false (h .whole))
-  sound atomK (i ∷ bs) b h = next-term ts _ (h .room) refl (expression-in ts g i (first-fails _ _ (h .classes))) tt
-  sound endK bs b h = next-term ts _ (h .room) refl tt tt
-  sound retryK bs b h = next-term ts _ (h .room) refl tt tt
+  sound atomK (i ∷ bs) b h =
+      of-an-expression (Sound B ts) (getElem? ts i) _ (first-fails _ _ (h .classes))
+      (λ M e. next-term ts _ _ (h .room) refl (expression-in ts g i M e) tt)
+  sound endK bs b h = next-term ts _ _ (h .room) refl tt tt
+  sound retryK bs b h = next-term ts _ _ (h .room) refl tt tt
   sound rdK [] b h = absurd (true≢false (h .whole))
   sound rdK (a ∷ []) b h = absurd (true≢false (h .whole))
   sound rdK (a ∷ i ∷ bs) b h =
-      next-term ts _ (h .room) refl (expression-in ts g i (first-fails _ _ (h .classes))) (channel-below a _ (h .channels))
+      of-an-expression (Sound B ts) (getElem? ts i) _ (first-fails _ _ (h .classes))
+      (λ M e. next-term ts _ _ (h .room) refl (expression-in ts g i M e) (channel-below a _ (h .channels)))
   sound wtK [] b h = absurd (true≢false (h .whole))
   sound wtK (a ∷ []) b h = absurd (true≢false (h .whole))
   sound wtK (a ∷ i ∷ bs) b h =
-      next-term ts _ (h .room) refl (expression-in ts g i (first-fails _ _ (h .classes))) (channel-below a _ (h .channels))
+      of-an-expression (Sound B ts) (getElem? ts i) _ (first-fails _ _ (h .classes))
+      (λ M e. next-term ts _ _ (h .room) refl (expression-in ts g i M e) (channel-below a _ (h .channels)))
   sound orElseK [] b h = absurd (true≢false (h .whole))
   sound orElseK (i ∷ []) b h = absurd (true≢false (h .whole))
   sound orElseK (i ∷ j ∷ bs) b h =
-      next-term ts _ (h .room) refl
-      (expression-in ts g i (first-fails _ _ (h .classes)), expression-in ts g j (second-fails (not (isExpression (getElem? ts i))) _ false (h .classes))) tt
+      of-an-expression (Sound B ts) (getElem? ts i) _ (first-fails _ _ (h .classes))
+      (λ M e. of-an-expression (Sound B ts) (getElem? ts j) _ (second-fails (not (isExpression (getElem? ts i))) _ false (h .classes))
+      (λ N f. next-term ts _ _ (h .room) refl (expression-in ts g i M e, expression-in ts g j N f) tt))
   sound tokensK [] b h = absurd (true≢false (h .whole))
   sound tokensK (a ∷ []) b h = absurd (true≢false (h .whole))
   sound tokensK (a ∷ n ∷ bs) b h = b .1 .0
   sound startK [] b h = absurd (true≢false (h .whole))
-  sound startK (i ∷ bs) b h = program-in ts g i (first-fails _ _ (h .classes))
+  sound startK (i ∷ bs) b h =
+      of-a-program (Sound B ts) (getElem? ts i) _ (first-fails _ _ (h .classes)) (λ P e. program-in ts g i P e)
 
 -- ---- record by record
 
@@ -223,20 +235,21 @@ module _ (B : ℕ → Type 0) where
   closed-good r P at [] g s = record { terms = g .terms; start = s; channelCounts = g .channelCounts; counts = g .counts }
   closed-good r P at (b ∷ bs) g s = tt
 
-  passed-good : (r : Reading) (c : Content) (w next : ℕ) (bs : List ℕ) → ReadingGood B r → Sound B (r .terms) c → overLimit c ≡ false →
-      TurnGood B (recordPassed r c w next bs)
+  passed-good : (r : Reading) (at : ℕ) (c : Content) (w next : ℕ) (bs : List ℕ) → ReadingGood B r → Sound B (r .terms) c → overLimit c ≡ false →
+      TurnGood B (recordPassed r at c w next bs)
   unfolding recordPassed TurnGood Sound
-  passed-good r (termRecord u) w next bs g s l = record { terms = good-snoc (r .terms) u (g .terms) s (within-limits u l); channelCounts = g .channelCounts; counts = g .counts }
-  passed-good r (tokensRecord a n) w next bs g s l =
+  passed-good r at (termRecord u) w next bs g s l = record { terms = good-snoc (r .terms) u (g .terms) s (within-limits u l); channelCounts = g .channelCounts; counts = g .counts }
+  passed-good r at (tokensRecord a n) w next bs g s l =
       record { terms = g .terms; channelCounts = length-set (r .tokens) a n ∙ g .channelCounts; counts = all-set B (r .tokens) a n (g .counts) s }
-  passed-good r (startRecord P) w next bs g s l = closed-good r P next bs g s
+  passed-good r at (startRecord P) w next bs g s l = closed-good r P next bs g s
+  passed-good r at nothing w next bs g s l = absurd s
 
   tested-good : (r : Reading) (at : ℕ) (K : Kind) (bs : List ℕ) (o : Option Test) → firstOf (λ t. t .holds) (tests r K bs) ≡ o →
       ReadingGood B r → All B bs → TurnGood B (recordTested r at K bs o)
   unfolding recordTested TurnGood AnswerGood
   tested-good r at K bs (some t) e g b = tt
   tested-good r at K bs none e g b =
-      let h = passing r K bs e in passed-good r _ _ _ _ g (sound B (r .terms) (r .tokens) (g .terms) K bs b (h .0)) (h .1)
+      let h = passing r K bs e in passed-good r at _ _ _ _ g (sound B (r .terms) (r .tokens) (g .terms) K bs b (h .0)) (h .1)
 
   turn-good : (r : Reading) (at : ℕ) (bs : List ℕ) → ReadingGood B r → All B bs → TurnGood B (readRecord r at bs)
   unfolding readRecord TurnGood AnswerGood

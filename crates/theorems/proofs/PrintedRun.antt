@@ -14,7 +14,7 @@ use borrow.Author.Tests.{eqb-true, eqb-false, eq-eqb, ne-eqb, ltb-false, lt-ltb,
 use Rattle.semantics.specs.Definitions.Basics.{firstOf}
 use Rattle.semantics.specs.Definitions.Terms.{Program}
 use Rattle.semantics.specs.Definitions.Table.{Kind, kindByNumber, fields, Reading, Table, TableAnswer, accepted, refusedAt, Content}
-use Rattle.semantics.specs.Definitions.Table.{termRecord, tokensRecord, startRecord, recordContent, Test, tests, RecordAnswer, stop, more, tableEnd}
+use Rattle.semantics.specs.Definitions.Table.{termRecord, tokensRecord, startRecord, nothing, recordContent, Test, tests, RecordAnswer, stop, more, tableEnd}
 use Rattle.semantics.specs.Definitions.Table.{recordPassed, recordTested, recordOfKind, readRecord, thenRead, readFrom, emptyReading, readTable}
 use Rattle.semantics.specs.Definitions.Configuration.{opening}
 use Rattle.semantics.specs.Definitions.Stored.{WellFormed, hallBytes, bytesOf, configurationOf}
@@ -136,17 +136,18 @@ module _ (cs : List ℕ) where
   closed-ends r P k at (x ∷ []) e h = rw e at-start
   closed-ends r P k at (x ∷ y ∷ ys) e h = tt
 
-  passed-ends : (r : Reading) (k at : ℕ) (rest : List ℕ) (K : Kind) → kindByNumber k ≡ some K →
+  passed-ends : (r : Reading) (k place at : ℕ) (rest : List ℕ) (K : Kind) → kindByNumber k ≡ some K →
       length (fields K) ≤ length rest → (c : Content) → ContentReason K rest c →
-      TurnEnds (k ∷ rest) (recordPassed r c (suc (length (fields K))) at (drop (length (fields K)) rest))
-  unfolding recordPassed TurnEnds
-  passed-ends r k at rest K named whole (termRecord u) y =
+      TurnEnds (k ∷ rest) (recordPassed r place c (suc (length (fields K))) at (drop (length (fields K)) rest))
+  unfolding recordPassed TurnEnds AnswerEnds
+  passed-ends r k place at rest K named whole (termRecord u) y =
       let n = kind-number k K named in record-ends k rest K named (λ z. omega arith) whole
-  passed-ends r k at rest K named whole (tokensRecord a m) y =
+  passed-ends r k place at rest K named whole (tokensRecord a m) y =
       let n = kind-number k K named in
       record-ends k rest K named (λ z. let w : kindByte K ≡ 12 = y .0 in omega arith) whole
-  passed-ends r k at rest K named whole (startRecord P) y =
+  passed-ends r k place at rest K named whole (startRecord P) y =
       rw (y .1) (closed-ends r P k at rest (kind-number k K named ∙ y .0) (rw (y .1) at whole))
+  passed-ends r k place at rest K named whole nothing y = tt
 
   turn-ends : (r : Reading) (at : ℕ) (bs : List ℕ) → TurnEnds bs (readRecord r at bs)
   unfolding readRecord recordOfKind recordTested TurnEnds AnswerEnds
@@ -157,7 +158,7 @@ module _ (cs : List ℕ) where
           TurnEnds (k ∷ rest) (recordTested r at K rest o)
       by-test K named (some t) e = tt
       by-test K named none e =
-          passed-ends r k _ rest K named (whole-body r K rest e) (recordContent (r .terms) rest K)
+          passed-ends r k at _ rest K named (whole-body r K rest e) (recordContent (r .terms) rest K)
           (said-reason (r .terms) rest K)
 
       by-kind : (o : Option Kind) → kindByNumber k ≡ o → TurnEnds (k ∷ rest) (recordOfKind r at rest o)

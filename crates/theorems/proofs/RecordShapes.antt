@@ -7,8 +7,8 @@ use mathlib.Core.Logic.{_⊎_, inl, inr}
 use mathlib.Core.Option.{Option, none, some}
 use mathlib.Core.List.{List, [], _∷_, map}
 use lib.ListN.{length, getD, getElem?}
-use Rattle.semantics.specs.Definitions.Terms.{Expression, Program, Term, process, expression}
-use Rattle.semantics.specs.Definitions.Table.{Kind, nilK, putK, takeK, repeatK, parK, atomK, endK, retryK, rdK, wtK, orElseK, tokensK, startK, kinds, kindByNumber, Field, channelF, programF, expressionF, amountF, fields, asProgram, asExpression, Content, termRecord, tokensRecord, startRecord, recordContent}
+use Rattle.semantics.specs.Definitions.Terms.{Expression, rdT, wtT, orElseT, Program, takeT, repeatT, parT, atomT, Term, process, expression}
+use Rattle.semantics.specs.Definitions.Table.{Kind, nilK, putK, takeK, repeatK, parK, atomK, endK, retryK, rdK, wtK, orElseK, tokensK, startK, kinds, kindByNumber, Field, channelF, programF, expressionF, amountF, fields, adds, Content, termRecord, tokensRecord, startRecord, nothing, ofProgram, ofExpression, withProgram, withExpression, recordContent}
 use Rattle.semantics.specs.Checks.AcceptedTables.{kindByte}
 use Rattle.semantics.specs.Checks.Conditions.{statedBodies, Body, RecordAsStated, nil1, put2, take3, repeat4, par5, atom6, end7, retry8, rd9, wt10, orElse11, tokens12, start13, ReadAsStated}
 use Rattle.theorems.proofs.Lists.{none-found, found-below, found-at, none-past, found-map}
@@ -59,22 +59,68 @@ ContentReason K bs (termRecord t) = kindByte K ≤ 11
 ContentReason K bs (tokensRecord a n) =
     (kindByte K ≡ 12) × (length (fields K) ≡ 2) × (a ≡ getD bs 0 0) × (n ≡ getD bs 1 0)
 ContentReason K bs (startRecord P) = (kindByte K ≡ 13) × (length (fields K) ≡ 1)
+ContentReason K bs nothing = kindByte K ≡ 12 → ⊥
+
+-- what is said of a reference has a property that nothing and each that may be said have
+any-program : (p : Content → Type 0) (o : Option Term) (says : Program → Content) → p nothing → ((P : Program) → p (says P)) →
+    p (ofProgram o says)
+unfolding ofProgram
+any-program p none says n h = n
+any-program p (some (process P)) says n h = h P
+any-program p (some (expression M)) says n h = n
+
+any-expression : (p : Content → Type 0) (o : Option Term) (says : Expression → Content) → p nothing →
+    ((M : Expression) → p (says M)) → p (ofExpression o says)
+unfolding ofExpression
+any-expression p none says n h = n
+any-expression p (some (process P)) says n h = n
+any-expression p (some (expression M)) says n h = h M
 
 pub said-reason : (ts : List Term) (bs : List ℕ) (K : Kind) → ContentReason K bs (recordContent ts bs K)
 unfolding recordContent fields
 said-reason ts bs nilK = omega arith
 said-reason ts bs putK = omega arith
-said-reason ts bs takeK = omega arith
-said-reason ts bs repeatK = omega arith
-said-reason ts bs parK = omega arith
-said-reason ts bs atomK = omega arith
+said-reason ts bs takeK =
+    any-program (ContentReason takeK bs) (getElem? ts (getD bs 1 0)) (λ P. termRecord (process (takeT (length ts) (getD bs 0 0) P))) (λ e. omega arith) (λ P. omega arith)
+said-reason ts bs repeatK =
+    any-program (ContentReason repeatK bs) (getElem? ts (getD bs 1 0)) (λ P. termRecord (process (repeatT (length ts) (getD bs 0 0) P))) (λ e. omega arith) (λ P. omega arith)
+said-reason ts bs parK =
+    any-program (ContentReason parK bs) (getElem? ts (getD bs 0 0)) (λ P. withProgram ts bs 1 (λ Q. termRecord (process (parT (length ts) P Q)))) (λ e. omega arith)
+    (λ P. any-program (ContentReason parK bs) (getElem? ts (getD bs 1 0)) (λ Q. termRecord (process (parT (length ts) P Q))) (λ e. omega arith) (λ Q. omega arith))
+said-reason ts bs atomK =
+    any-expression (ContentReason atomK bs) (getElem? ts (getD bs 0 0)) (λ M. termRecord (process (atomT (length ts) M))) (λ e. omega arith) (λ M. omega arith)
 said-reason ts bs endK = omega arith
 said-reason ts bs retryK = omega arith
-said-reason ts bs rdK = omega arith
-said-reason ts bs wtK = omega arith
-said-reason ts bs orElseK = omega arith
+said-reason ts bs rdK =
+    any-expression (ContentReason rdK bs) (getElem? ts (getD bs 1 0)) (λ M. termRecord (expression (rdT (length ts) (getD bs 0 0) M))) (λ e. omega arith) (λ M. omega arith)
+said-reason ts bs wtK =
+    any-expression (ContentReason wtK bs) (getElem? ts (getD bs 1 0)) (λ M. termRecord (expression (wtT (length ts) (getD bs 0 0) M))) (λ e. omega arith) (λ M. omega arith)
+said-reason ts bs orElseK =
+    any-expression (ContentReason orElseK bs) (getElem? ts (getD bs 0 0)) (λ M. withExpression ts bs 1 (λ N. termRecord (expression (orElseT (length ts) M N)))) (λ e. omega arith)
+    (λ M. any-expression (ContentReason orElseK bs) (getElem? ts (getD bs 1 0)) (λ N. termRecord (expression (orElseT (length ts) M N))) (λ e. omega arith) (λ N. omega arith))
 said-reason ts bs tokensK = (refl, refl, refl, refl)
-said-reason ts bs startK = (refl, refl)
+said-reason ts bs startK =
+    any-program (ContentReason startK bs) (getElem? ts (getD bs 0 0)) startRecord (λ e. omega arith) (λ P. (refl, refl))
+
+-- kinds 1 to 11 add a term
+abbrev pub AddsReason : Kind → Option Field → Type 0
+AddsReason K none = 11 < kindByte K
+AddsReason K (some F) = kindByte K ≤ 11
+
+pub adds-reason : (K : Kind) → AddsReason K (adds K)
+adds-reason nilK = omega arith
+adds-reason putK = omega arith
+adds-reason takeK = omega arith
+adds-reason repeatK = omega arith
+adds-reason parK = omega arith
+adds-reason atomK = omega arith
+adds-reason endK = omega arith
+adds-reason retryK = omega arith
+adds-reason rdK = omega arith
+adds-reason wtK = omega arith
+adds-reason orElseK = omega arith
+adds-reason tokensK = omega arith
+adds-reason startK = omega arith
 
 -- ---- the printed bodies
 
@@ -135,7 +181,7 @@ pub data Fits (ts : List Term) : List Field → List ℕ → Type 0 where
 -- a record with such a body is printed as it is read
 pub printed-as-read : (ts : List Term) (K : Kind) (bs : List ℕ) → Fits ts (fields K) bs →
     RecordAsStated ts (kindByte K ∷ bs) (suc (length (fields K))) (recordContent ts bs K)
-unfolding fields recordContent asProgram asExpression
+unfolding fields recordContent
 printed-as-read ts nilK bs no-field = nil1
 printed-as-read ts putK bs (a-channel no-field) = put2
 printed-as-read ts takeK bs (a-channel (a-program e no-field)) = rw e (take3 e)
@@ -149,3 +195,7 @@ printed-as-read ts wtK bs (a-channel (an-expression e no-field)) = rw e (wt10 e)
 printed-as-read ts orElseK bs (an-expression e (an-expression f no-field)) = rw (e, f) (orElse11 e f)
 printed-as-read ts tokensK bs (a-channel (an-amount no-field)) = tokens12
 printed-as-read ts startK bs (a-program e no-field) = rw e (start13 e)
+
+-- and a record as printed says something
+pub says-something : (ts : List Term) (bs : List ℕ) (w : ℕ) → RecordAsStated ts bs w nothing → ⊥
+says-something ts bs w h = elim h [ ]

@@ -18,11 +18,11 @@ use borrow.Author.Tests.{leb-true, leb-false, lt-leb, eqb-true, eqb-false}
 use Rattle.calculus.specs.State.{count}
 use Rattle.semantics.specs.Definitions.Basics.{firstOf}
 use Rattle.semantics.specs.Definitions.Terms.{Program, Term, process, expression, width, branches, pathLength}
-use Rattle.semantics.specs.Definitions.Table.{Kind, kindByNumber, Field, channelF, programF, expressionF, amountF, fields, Reading, Table, TableAnswer, accepted, refusedAt, isProgram, isExpression, Content, termRecord, tokensRecord, startRecord, recordContent, anyField, tooManyTerms, channelOutOfRange, forwardReference, classMismatch, overLimit, badTokens, Test, tests, RecordAnswer, stop, more, tableEnd, recordPassed, recordTested, recordOfKind, readRecord, thenRead, readFrom, emptyReading, readTable}
+use Rattle.semantics.specs.Definitions.Table.{Kind, kindByNumber, Field, channelF, programF, expressionF, amountF, fields, Reading, Table, TableAnswer, accepted, refusedAt, isProgram, isExpression, Content, termRecord, tokensRecord, startRecord, nothing, recordContent, adds, anyField, tooManyTerms, channelOutOfRange, forwardReference, classMismatch, overLimit, badTokens, Test, tests, RecordAnswer, stop, more, tableEnd, recordPassed, recordTested, recordOfKind, readRecord, thenRead, readFrom, emptyReading, readTable}
 use Rattle.semantics.specs.Checks.Conditions.{Body, BodyByte, RecordAsStated, start13, ReadAsStated, TableCondition, kind-unknown, body-short, terms-many, channel-over, forward-reference, class-expression, class-process, width-over, paths-over, tokens-none, tokens-again, byte-follows, start-missing, NoCondition, Reached, at-first, after-term, after-tokens, TableRefused, TableAccepted, TableNumbers, MissingAtLength}
 use Rattle.theorems.proofs.Lists.{none-found, found-below, none-past}
 use Rattle.semantics.specs.Checks.AcceptedTables.{kindByte}
-use Rattle.theorems.proofs.RecordShapes.{kind-number, kind-within, kind-positive, kind-without, ContentReason, said-reason, body-of, body-is, read-as-stated, Fits, no-field, a-channel, a-program, an-expression, an-amount, printed-as-read}
+use Rattle.theorems.proofs.RecordShapes.{kind-number, kind-within, kind-positive, kind-without, ContentReason, said-reason, AddsReason, adds-reason, says-something, body-of, body-is, read-as-stated, Fits, no-field, a-channel, a-program, an-expression, an-amount, printed-as-read}
 
 -- ---- a test on all fields
 
@@ -112,6 +112,7 @@ OverLimit (termRecord (process P)) = 64 < width P
 OverLimit (termRecord (expression M)) = (8 < branches M) ⊎ (16 < pathLength M)
 OverLimit (tokensRecord a n) = ⊥
 OverLimit (startRecord P) = ⊥
+OverLimit nothing = ⊥
 
 false-true : false ≡ true → ⊥
 false-true e = let z : _≡_ {A = ℕ} 0 1 = cc in omega arith
@@ -187,17 +188,16 @@ module _ (r : Reading) (k : ℕ) (bs : List ℕ) (K : Kind) (named : kindByNumbe
   many-means : (o : ℕ) → TableCondition r 3 o (k ∷ bs) → (k ≤ 11) × (200 ≤ length (r .terms))
   many-means o (terms-many e f g) = (f, g)
 
-  test-three : (c : Content) → ContentReason K bs c → Decides 3 (tooManyTerms (r .terms) c)
+  test-three : (F : Option Field) → AddsReason K F → Decides 3 (tooManyTerms (r .terms) F)
   unfolding tooManyTerms
-  test-three (termRecord t) h =
+  test-three (some F) h =
       by-test 3 (leb 200 (length (r .terms))) (λ e. many (leb-true 200 (length (r .terms)) e))
       (λ e o c. let z = many-means o c in let y = leb-false 200 (length (r .terms)) e in omega arith)
     where
       many : 200 ≤ length (r .terms) → TableCondition r 3 0 (k ∷ bs)
       many l = let z = kind-number k K named in let y = kind-positive k K named in let x : k ≤ 11 = omega arith in
           terms-many y x l
-  test-three (tokensRecord a n) h = λ o c. let z = many-means o c in let y = kind-number k K named in omega arith
-  test-three (startRecord P) h = λ o c. let z = many-means o c in let y = kind-number k K named in omega arith
+  test-three none h = λ o c. let z = many-means o c in let y = kind-number k K named in omega arith
 
   -- 4: a field fails where it is a channel over 15
   channel-fails : (i : ℕ) (F : Field) (b : ℕ) → getElem? (fields K) i ≡ some F → getElem? bs i ≡ some b →
@@ -348,6 +348,7 @@ module _ (r : Reading) (k : ℕ) (bs : List ℕ) (K : Kind) (named : kindByNumbe
           within (inr z) = let y = leb-false 17 (pathLength M) g in omega arith
   test-seven clear (tokensRecord a n) f = λ o c. subst OverLimit f (over-means o c)
   test-seven clear (startRecord P) f = λ o c. subst OverLimit f (over-means o c)
+  test-seven clear nothing f = λ o c. subst OverLimit f (over-means o c)
 
   -- 8: the tokens that the record gives; that it has both bytes is tested before
   test-eight : Clear r k bs 8 → (c : Content) → ContentReason K bs c → Decides 8 (badTokens (r .tokens) c)
@@ -355,6 +356,7 @@ module _ (r : Reading) (k : ℕ) (bs : List ℕ) (K : Kind) (named : kindByNumbe
   test-eight clear (termRecord t) h = λ o c. let z = tokens-mean r o k bs c in let y = kind-number k K named in omega arith
   test-eight clear (startRecord P) h =
       λ o c. let z = tokens-mean r o k bs c in let y = kind-number k K named in omega arith
+  test-eight clear nothing h = λ o c. h (let z = tokens-mean r o k bs c in let y = kind-number k K named in omega arith)
   test-eight clear (tokensRecord a n) h = go (eqb n 0) refl (eqb (count (r .tokens) a) 0) refl
     where
       twelve : k ≡ 12
@@ -408,7 +410,7 @@ module _ (r : Reading) (k : ℕ) (bs : List ℕ) (K : Kind) (named : kindByNumbe
     (λ _. test-two),
     (
       refl,
-      (λ _. test-three (recordContent (r .terms) bs K) (said-reason (r .terms) bs K)),
+      (λ _. test-three (adds K) (adds-reason K)),
       (
         refl,
         (λ _. test-four),
@@ -436,6 +438,7 @@ abbrev After : Reading → Content → Reading → Type 0
 After r (termRecord t) s = s ≡ record { terms = r .terms ++ (t ∷ []); tokens = r .tokens }
 After r (tokensRecord a n) s = s ≡ record { terms = r .terms; tokens = set (r .tokens) a n }
 After r (startRecord P) s = ⊥
+After r nothing s = ⊥
 
 -- the record at a place of the table met a condition, closes the table, or is passed
 abbrev pub TurnReason : Reading → ℕ → List ℕ → RecordAnswer → Type 0
@@ -471,13 +474,14 @@ module _ (r : Reading) (p k : ℕ) (rest : List ℕ) where
   passed-reason : (K : Kind) → kindByNumber k ≡ some K → Clear r k rest 9 → (c : Content) →
       RecordAsStated (r .terms) (k ∷ rest) (suc (length (fields K))) c → ContentReason K rest c →
       TurnReason r p (k ∷ rest)
-      (recordPassed r c (suc (length (fields K))) (p + suc (length (fields K))) (drop (length (fields K)) rest))
+      (recordPassed r p c (suc (length (fields K))) (p + suc (length (fields K))) (drop (length (fields K)) rest))
   unfolding recordPassed
   passed-reason K named clear (termRecord t) prints is = (met-none K named clear (omega arith), termRecord t, prints, refl)
   passed-reason K named clear (tokensRecord a n) prints is =
       (met-none K named clear (omega arith), tokensRecord a n, prints, refl)
   passed-reason K named clear (startRecord P) prints is =
       closed-reason r p (k ∷ rest) (suc (length (fields K))) P prints clear
+  passed-reason K named clear nothing prints is = absurd (says-something (r .terms) (k ∷ rest) _ prints)
 
   -- a record after its tests, and one with its kind
   tested-reason : (K : Kind) (named : kindByNumber k ≡ some K) (o : Option Test) → Found r k rest K named o →
@@ -530,19 +534,19 @@ turn-refuses r p bs n o c before = go (readRecord r p bs) (turn-reason r p bs)
 
 -- a record as printed that passes is passed
 turn-passes : (r : Reading) (p : ℕ) (bs : List ℕ) (w : ℕ) (c : Content) → NoCondition r bs → RecordAsStated (r .terms) bs w c →
-    readRecord r p bs ≡ recordPassed r c w (p + w) (drop w bs)
+    readRecord r p bs ≡ recordPassed r p c w (p + w) (drop w bs)
 unfolding ReadAsStated readRecord recordOfKind recordTested
 turn-passes r p [] w c passes prints = absurd (elim prints [ ])
 turn-passes r p (k ∷ rest) w c passes prints = go (read-as-stated (r .terms) k rest w c prints)
   where
     go : (K : Kind) × (kindByNumber k ≡ some K) × (suc (length (fields K)) ≡ w) × (recordContent (r .terms) rest K ≡ c) →
-        readRecord r p (k ∷ rest) ≡ recordPassed r c w (p + w) (drop w (k ∷ rest))
+        readRecord r p (k ∷ rest) ≡ recordPassed r p c w (p + w) (drop w (k ∷ rest))
     go (K, named, size, says) =
         rw (named, ← size, ← says) (none-holds (firstOf (λ t. t .holds) (tests r K rest)) (found r k rest K named))
       where
         none-holds : (o : Option Test) → Found r k rest K named o →
             recordTested r p K rest o ≡
-            recordPassed r (recordContent (r .terms) rest K) (suc (length (fields K))) (p + suc (length (fields K)))
+            recordPassed r p (recordContent (r .terms) rest K) (suc (length (fields K))) (p + suc (length (fields K)))
             (drop (length (fields K)) rest)
         none-holds (some t) h = absurd (passes (t .code) 0 (h .0))
         none-holds none h = refl
@@ -584,6 +588,7 @@ module _ (bs : List ℕ) where
   reached-next p r reached s w (passes, termRecord t, prints, is) = rw is (after-term reached passes prints)
   reached-next p r reached s w (passes, tokensRecord a n, prints, is) = rw is (after-tokens reached passes prints)
   reached-next p r reached s w (passes, startRecord P, prints, is) = absurd is
+  reached-next p r reached s w (passes, nothing, prints, is) = absurd is
 
   abbrev AnswerReason : TableAnswer → Type 0
   AnswerReason (accepted t) = TableAccepted bs t
@@ -631,7 +636,7 @@ module _ (bs : List ℕ) where
 
   reading-next : (r : Reading) (p : ℕ) (s : Reading) (w : ℕ) (c : Content) → NoCondition r (drop p bs) →
       RecordAsStated (r .terms) (drop p bs) w c →
-      recordPassed r c w (p + w) (drop w (drop p bs)) ≡ more s w → readingFrom r p → readingFrom s (p + w)
+      recordPassed r p c w (p + w) (drop w (drop p bs)) ≡ more s w → readingFrom r p → readingFrom s (p + w)
   unfolding readingFrom
   reading-next r p s w c passes prints t (zero, says, l) =
       absurd (let z = printed-within r (drop p bs) w c passes prints in omega arith)

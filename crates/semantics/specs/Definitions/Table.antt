@@ -9,7 +9,7 @@ use lib.ListN.{length, getD, drop, set, replicate, getElem?}
 use lib.Dec.{leb, ltb, eqb}
 use Rattle.calculus.specs.Syntax.{Name, State}
 use Rattle.calculus.specs.State.{count}
-use Rattle.semantics.specs.Definitions.Layout.{channels, maxTerms, maxComponents, maxBranches, maxActions, noRecord}
+use Rattle.semantics.specs.Definitions.Layout.{channels, maxTerms, maxComponents, maxBranches, maxActions}
 use Rattle.semantics.specs.Definitions.Basics.{firstOf}
 use Rattle.semantics.specs.Definitions.Terms.{Expression, endT, retryT, rdT, wtT, orElseT, Program, nilT, putT, takeT, repeatT, parT, atomT, Term, process, expression, width, branches, pathLength}
 
@@ -32,21 +32,27 @@ kindByNumber (suc k) = getElem? kinds k
 pub data Field : Type 0 where
   channelF programF expressionF amountF : Field
 
--- the bytes that follow a kind
+-- the bytes that follow a kind, and the class of the term that its record adds, as a reference to that term has it
+abbrev pub shape : Kind → List Field × Option Field
+shape nilK = ([], some programF)
+shape putK = (channelF ∷ [], some programF)
+shape takeK = (channelF ∷ programF ∷ [], some programF)
+shape repeatK = (channelF ∷ programF ∷ [], some programF)
+shape parK = (programF ∷ programF ∷ [], some programF)
+shape atomK = (expressionF ∷ [], some programF)
+shape endK = ([], some expressionF)
+shape retryK = ([], some expressionF)
+shape rdK = (channelF ∷ expressionF ∷ [], some expressionF)
+shape wtK = (channelF ∷ expressionF ∷ [], some expressionF)
+shape orElseK = (expressionF ∷ expressionF ∷ [], some expressionF)
+shape tokensK = (channelF ∷ amountF ∷ [], none)
+shape startK = (programF ∷ [], none)
+
 unfoldable pub fields : Kind → List Field
-fields nilK = []
-fields putK = channelF ∷ []
-fields takeK = channelF ∷ programF ∷ []
-fields repeatK = channelF ∷ programF ∷ []
-fields parK = programF ∷ programF ∷ []
-fields atomK = expressionF ∷ []
-fields endK = []
-fields retryK = []
-fields rdK = channelF ∷ expressionF ∷ []
-fields wtK = channelF ∷ expressionF ∷ []
-fields orElseK = expressionF ∷ expressionF ∷ []
-fields tokensK = channelF ∷ amountF ∷ []
-fields startK = programF ∷ []
+fields K = (shape K) .0
+
+abbrev pub adds : Kind → Option Field
+adds K = (shape K) .1
 
 -- ---- what has been read so far
 
@@ -65,59 +71,51 @@ pub data TableAnswer : Type 0 where
   accepted : Table → TableAnswer
   refusedAt : (number place : ℕ) → TableAnswer
 
--- whether a reference is to a process or to an expression, and which one. The tests for it come first: where a record
--- is accepted, `asProgram` meets a process and `asExpression` an expression, and their other clauses are not used.
-unfoldable pub isProgram : Option Term → Bool
-isProgram none = false
-isProgram (some (process P)) = true
-isProgram (some (expression M)) = false
-
-unfoldable pub isExpression : Option Term → Bool
-isExpression none = false
-isExpression (some (process P)) = false
-isExpression (some (expression M)) = true
-
-unfoldable pub asProgram : Option Term → Program
-asProgram none = nilT 0
-asProgram (some (process P)) = P
-asProgram (some (expression M)) = nilT 0
-
-unfoldable pub asExpression : Option Term → Expression
-asExpression none = retryT noRecord
-asExpression (some (process P)) = retryT noRecord
-asExpression (some (expression M)) = M
-
--- what a record says: kinds 1 to 11 are terms, 12 gives tokens, 13 names the start
+-- what a record says: kinds 1 to 11 are terms, 12 gives tokens, 13 names the start; nothing, where a reference of it is
+-- not to a term of the class that belongs there
 pub data Content : Type 0 where
   termRecord : Term → Content
   tokensRecord : Name → ℕ → Content
   startRecord : Program → Content
+  nothing : Content
+
+-- what is said of the process, or of the expression, that a reference is to
+unfoldable pub ofProgram : Option Term → (Program → Content) → Content
+ofProgram none says = nothing
+ofProgram (some (process P)) says = says P
+ofProgram (some (expression M)) says = nothing
+
+unfoldable pub ofExpression : Option Term → (Expression → Content) → Content
+ofExpression none says = nothing
+ofExpression (some (process P)) says = nothing
+ofExpression (some (expression M)) says = says M
 
 -- the record of this kind with this body, after the terms ts: a new term's number is how many came before it
 module _ (ts : List Term) (body : List ℕ) where
-  unfoldable pub programIn : ℕ → Program
-  unfolding asProgram
-  programIn i = asProgram (getElem? ts (getD body i 0))
+  unfoldable pub withProgram : ℕ → (Program → Content) → Content
+  unfolding ofProgram
+  withProgram i says = ofProgram (getElem? ts (getD body i 0)) says
 
-  unfoldable pub expressionIn : ℕ → Expression
-  unfolding asExpression
-  expressionIn i = asExpression (getElem? ts (getD body i 0))
+  unfoldable pub withExpression : ℕ → (Expression → Content) → Content
+  unfolding ofExpression
+  withExpression i says = ofExpression (getElem? ts (getD body i 0)) says
 
   unfoldable pub recordContent : Kind → Content
-  unfolding programIn expressionIn
+  unfolding withProgram withExpression
   recordContent nilK = termRecord (process (nilT (length ts)))
   recordContent putK = termRecord (process (putT (length ts) (getD body 0 0)))
-  recordContent takeK = termRecord (process (takeT (length ts) (getD body 0 0) (programIn 1)))
-  recordContent repeatK = termRecord (process (repeatT (length ts) (getD body 0 0) (programIn 1)))
-  recordContent parK = termRecord (process (parT (length ts) (programIn 0) (programIn 1)))
-  recordContent atomK = termRecord (process (atomT (length ts) (expressionIn 0)))
+  recordContent takeK = withProgram 1 (λ P. termRecord (process (takeT (length ts) (getD body 0 0) P)))
+  recordContent repeatK = withProgram 1 (λ P. termRecord (process (repeatT (length ts) (getD body 0 0) P)))
+  recordContent parK = withProgram 0 (λ P. withProgram 1 (λ Q. termRecord (process (parT (length ts) P Q))))
+  recordContent atomK = withExpression 0 (λ M. termRecord (process (atomT (length ts) M)))
   recordContent endK = termRecord (expression (endT (length ts)))
   recordContent retryK = termRecord (expression (retryT (length ts)))
-  recordContent rdK = termRecord (expression (rdT (length ts) (getD body 0 0) (expressionIn 1)))
-  recordContent wtK = termRecord (expression (wtT (length ts) (getD body 0 0) (expressionIn 1)))
-  recordContent orElseK = termRecord (expression (orElseT (length ts) (expressionIn 0) (expressionIn 1)))
+  recordContent rdK = withExpression 1 (λ M. termRecord (expression (rdT (length ts) (getD body 0 0) M)))
+  recordContent wtK = withExpression 1 (λ M. termRecord (expression (wtT (length ts) (getD body 0 0) M)))
+  recordContent orElseK =
+      withExpression 0 (λ M. withExpression 1 (λ N. termRecord (expression (orElseT (length ts) M N))))
   recordContent tokensK = tokensRecord (getD body 0 0) (getD body 1 0)
-  recordContent startK = startRecord (programIn 0)
+  recordContent startK = withProgram 0 startRecord
 
 -- ---- the tests on one record, each on all of its fields
 
@@ -127,11 +125,10 @@ anyField fails [] bs = false
 anyField fails (f ∷ fs) [] = false
 anyField fails (f ∷ fs) (b ∷ bs) = fails f b || anyField fails fs bs
 
--- 3: one term more than a table may have
-unfoldable pub tooManyTerms : List Term → Content → Bool
-tooManyTerms ts (termRecord t) = leb maxTerms (length ts)
-tooManyTerms ts (tokensRecord a n) = false
-tooManyTerms ts (startRecord P) = false
+-- 3: one term more than a table may have, where a record adds one
+unfoldable pub tooManyTerms : List Term → Option Field → Bool
+tooManyTerms ts none = false
+tooManyTerms ts (some F) = leb maxTerms (length ts)
 
 -- 4: a channel that no hall has
 unfoldable pub channelOutOfRange : Field → ℕ → Bool
@@ -148,6 +145,16 @@ forwardReference ts expressionF b = leb (length ts) b
 forwardReference ts amountF b = false
 
 -- 6: a process where an expression belongs, or the other way round
+unfoldable pub isProgram : Option Term → Bool
+isProgram none = false
+isProgram (some (process P)) = true
+isProgram (some (expression M)) = false
+
+unfoldable pub isExpression : Option Term → Bool
+isExpression none = false
+isExpression (some (process P)) = false
+isExpression (some (expression M)) = true
+
 unfoldable pub classMismatch : List Term → Field → ℕ → Bool
 unfolding isProgram isExpression
 classMismatch ts channelF b = false
@@ -162,12 +169,14 @@ overLimit (termRecord (process P)) = ltb maxComponents (width P)
 overLimit (termRecord (expression M)) = ltb maxBranches (branches M) || ltb maxActions (pathLength M)
 overLimit (tokensRecord a n) = false
 overLimit (startRecord P) = false
+overLimit nothing = false
 
 -- 8: tokens of no count, or given to a channel for the second time
 unfoldable pub badTokens : State → Content → Bool
 badTokens σ (termRecord t) = false
 badTokens σ (tokensRecord a n) = eqb n 0 || not (eqb (count σ a) 0)
 badTokens σ (startRecord P) = false
+badTokens σ nothing = false
 
 -- a refusal's number with its test
 pub record Test : Type 0 where
@@ -181,7 +190,7 @@ tests r K bs =
     let ts = r .terms in
     let content = recordContent ts bs K in
     record { code = 2; holds = ltb (length bs) (length (fields K)) } ∷
-    record { code = 3; holds = tooManyTerms ts content } ∷
+    record { code = 3; holds = tooManyTerms ts (adds K) } ∷
     record { code = 4; holds = anyField channelOutOfRange (fields K) bs } ∷
     record { code = 5; holds = anyField (forwardReference ts) (fields K) bs } ∷
     record { code = 6; holds = anyField (classMismatch ts) (fields K) bs } ∷
@@ -200,19 +209,21 @@ unfoldable pub tableEnd : Reading → Program → ℕ → List ℕ → TableAnsw
 tableEnd r P at [] = accepted (record { terms = r .terms; tokens = r .tokens; start = P })
 tableEnd r P at (b ∷ bs) = refusedAt 9 at
 
--- a record of w bytes that passed its tests; `next` is the place behind it and `bs` what follows there
-unfoldable pub recordPassed : Reading → Content → (w next : ℕ) → List ℕ → RecordAnswer
+-- a record of w bytes at a place that passed its tests; `next` is the place behind it and `bs` what follows there. By
+-- test 6 it does not say nothing.
+unfoldable pub recordPassed : Reading → ℕ → Content → (w next : ℕ) → List ℕ → RecordAnswer
 unfolding tableEnd
-recordPassed r (termRecord t) w next bs = more (record { terms = r .terms ++ (t ∷ []); tokens = r .tokens }) w
-recordPassed r (tokensRecord a n) w next bs = more (record { terms = r .terms; tokens = set (r .tokens) a n }) w
-recordPassed r (startRecord P) w next bs = stop (tableEnd r P next bs)
+recordPassed r at (termRecord t) w next bs = more (record { terms = r .terms ++ (t ∷ []); tokens = r .tokens }) w
+recordPassed r at (tokensRecord a n) w next bs = more (record { terms = r .terms; tokens = set (r .tokens) a n }) w
+recordPassed r at (startRecord P) w next bs = stop (tableEnd r P next bs)
+recordPassed r at nothing w next bs = stop (refusedAt 6 at)
 
 unfoldable pub recordTested : Reading → ℕ → Kind → List ℕ → Option Test → RecordAnswer
 unfolding recordPassed recordContent fields
 recordTested r at K bs (some t) = stop (refusedAt (t .code) at)
 recordTested r at K bs none =
     let size = length (fields K) in
-    recordPassed r (recordContent (r .terms) bs K) (suc size) (at + suc size) (drop size bs)
+    recordPassed r at (recordContent (r .terms) bs K) (suc size) (at + suc size) (drop size bs)
 
 unfoldable pub recordOfKind : Reading → ℕ → List ℕ → Option Kind → RecordAnswer
 unfolding recordTested tests firstOf
