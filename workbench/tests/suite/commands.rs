@@ -548,7 +548,8 @@ fn a_name_that_is_not_written_in_utf_8() {
     );
 }
 
-/// A full disk, and a folder where choices are to be read from.
+/// A full disk, a descriptor that can't be written, and a folder where choices
+/// are to be read from.
 #[cfg(target_os = "linux")]
 #[test]
 fn streams_that_fail() {
@@ -577,6 +578,23 @@ fn streams_that_fail() {
             "hall: cannot write: No space left on device (os error 28)\n"
         )
     );
+    // Open, but not for writing.
+    let (code, words) = called(&["show", "a.table"], nothing(), nothing().into());
+    assert_eq!(
+        (code, words.as_str()),
+        (
+            Some(3),
+            "hall: cannot write: Bad file descriptor (os error 9)\n"
+        )
+    );
+    // What is thrown away was written, also where the caller has opened the
+    // device for reading too.
+    let mut options = fs::OpenOptions::new();
+    for options in [options.write(true).clone(), options.read(true).clone()] {
+        let away = options.open("/dev/null").unwrap();
+        let answer = called(&["show", "a.table"], nothing(), away.into());
+        assert_eq!(answer, (Some(0), String::new()));
+    }
     let here = || fs::File::open(&folder).unwrap();
     let (code, words) = called(&["play", "a.hall"], here(), Stdio::null());
     assert_eq!(
