@@ -14,7 +14,7 @@
 //! | [`search`] | all of them, breadth first |
 //! | [`investigate`] | whether that was exact; once more with notes where not |
 //! | [`endless`] | runs that never end |
-//! | [`rounds`], [`round_sorts`] | rounds that are never left; what is kept of them |
+//! | `never_left`, [`rounds`], [`round_sorts`] | rounds that are never left; what is kept of them |
 //! | [`replay`] | a way to a situation, made on the library |
 //! | [`labels`] | what the stations of a code are called |
 //! | [`waiting`] | who is left at an end, and why |
@@ -30,6 +30,7 @@ pub mod groups;
 pub mod investigate;
 pub mod labels;
 pub mod model;
+mod never_left;
 pub mod objects;
 pub mod question;
 pub mod replay;

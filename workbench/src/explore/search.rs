@@ -222,11 +222,7 @@ impl Search<'_> {
         while done < self.found.store.len() && self.found.cut.is_none() {
             if batches % BETWEEN_LOOKS == 0 {
                 self.found.cut = limits.met(self.found.memory());
-                let so_far = SoFar {
-                    model: self.model,
-                    found: &self.found,
-                };
-                progress(so_far, done);
+                progress(self.so_far(), done);
             }
             batches = batches.wrapping_add(1);
             batch.clear();
@@ -243,6 +239,17 @@ impl Search<'_> {
             if self.questions.only_first && self.found.breaks_something() {
                 self.found.cut = Some(Cut::Fault);
             }
+        }
+        // Ends come last, and to look for rounds may take as long again.
+        if self.found.cut.is_none() {
+            progress(self.so_far(), done);
+        }
+    }
+
+    fn so_far(&self) -> SoFar<'_> {
+        SoFar {
+            model: self.model,
+            found: &self.found,
         }
     }
 

@@ -107,6 +107,33 @@ fn printed_ways_replay() {
     }
 }
 
+/// What a long search finds is told on its way, also where the last situation of
+/// all shows it; what a short one finds is told once.
+#[test]
+fn faults_are_told_on_the_way() {
+    let moved = |stations: usize| {
+        let trays = "tray a\ntray b\ntray c\n";
+        let rules = "rule one is put a\nrule two is put b\nrule three is put c\n";
+        let start = ["one", "two", "three"].map(|rule| format!("{stations} of {rule}"));
+        format!("{trays}{rules}start {}\n", start.join(" beside "))
+    };
+    for (stations, situations, told) in [(20, "9,261", false), (21, "10,648", true)] {
+        let (code, out, err) = explore(moved(stations), &["--ends", "a = 0"]);
+        assert_eq!((code, err.as_str()), (1, ""));
+        let steps = 3 * stations;
+        let early = format!(
+            "every end has a = 0: broken after {steps} steps, found among {situations} situations; \
+             the search goes on\n  choices\n"
+        );
+        assert_eq!(out.starts_with(&early), told, "{out}");
+        assert_eq!(
+            out.matches("every end has a = 0: broken").count(),
+            1 + usize::from(told)
+        );
+        assert!(out.contains(&format!("standard input: {situations} situations")));
+    }
+}
+
 /// Every example but the refused ones can be explored to the end, and each way
 /// printed is one that `hall run` goes.
 #[test]

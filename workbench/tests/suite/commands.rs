@@ -548,7 +548,8 @@ fn a_name_that_is_not_written_in_utf_8() {
     );
 }
 
-/// A full disk, and a folder where choices are to be read from.
+/// A full disk, a descriptor that can't be written, and a folder where choices
+/// are to be read from.
 #[cfg(target_os = "linux")]
 #[test]
 fn streams_that_fail() {
@@ -577,6 +578,23 @@ fn streams_that_fail() {
             "hall: cannot write: No space left on device (os error 28)\n"
         )
     );
+    // Open, but not for writing.
+    let (code, words) = called(&["show", "a.table"], nothing(), nothing().into());
+    assert_eq!(
+        (code, words.as_str()),
+        (
+            Some(3),
+            "hall: cannot write: Bad file descriptor (os error 9)\n"
+        )
+    );
+    // What is thrown away was written, also where the caller has opened the
+    // device for reading too.
+    let mut options = fs::OpenOptions::new();
+    for options in [options.write(true).clone(), options.read(true).clone()] {
+        let away = options.open("/dev/null").unwrap();
+        let answer = called(&["show", "a.table"], nothing(), away.into());
+        assert_eq!(answer, (Some(0), String::new()));
+    }
     let here = || fs::File::open(&folder).unwrap();
     let (code, words) = called(&["play", "a.hall"], here(), Stdio::null());
     assert_eq!(
@@ -590,11 +608,11 @@ fn streams_that_fail() {
 mod written {
     use std::fs::{self, Permissions};
     use std::os::unix::fs::{symlink, FileTypeExt as _, MetadataExt as _, PermissionsExt as _};
-    use std::path::Path;
+    use std::path::{Path, PathBuf};
     use std::process::{Command, Stdio};
 
     use super::{folder, is, TABLE};
-    use crate::common::hall_in;
+    use crate::common::{hall_in, scratch};
 
     fn build(folder: &Path, to: &str) {
         is(
@@ -694,19 +712,47 @@ mod written {
         }
     }
 
+    /// A device of the test's own, where one may be made: whoever may make one
+    /// may also lose the system's, should this test ever fail. All others can't
+    /// put anything in its place. None where a device can't be used here.
+    fn device(folder: &Path, name: &str, minor: &str) -> Option<PathBuf> {
+        let own = folder.join(name);
+        let made = Command::new("mknod")
+            .arg(&own)
+            .args(["c", "1", minor])
+            .output()
+            .unwrap();
+        if !made.status.success() {
+            let system = Path::new("/dev").join(name);
+            let others = fs::metadata("/dev").unwrap().uid() != fs::metadata(folder).unwrap().uid();
+            return others.then_some(system);
+        }
+        let usable = fs::OpenOptions::new().write(true).open(&own).is_ok();
+        usable.then_some(own)
+    }
+
     #[test]
     fn a_device_stays_one() {
         let folder = folder("written-devices");
-        symlink("/dev/null", folder.join("nowhere")).unwrap();
+        let devices = scratch("devices");
+        let (Some(null), Some(full)) =
+            (device(&devices, "null", "3"), device(&devices, "full", "7"))
+        else {
+            return;
+        };
+        symlink(&null, folder.join("nowhere")).unwrap();
         build(&folder, "nowhere");
-        build(&folder, "/dev/null");
-        for null in [Path::new("/dev/null"), &folder.join("nowhere")] {
+        build(&folder, null.to_str().unwrap());
+        for null in [&null, &folder.join("nowhere")] {
             assert!(fs::metadata(null).unwrap().file_type().is_char_device());
         }
-        let answer = hall_in(&folder, &["build", "a.hall", "-o", "/dev/full"], b"");
+        let full = full.to_str().unwrap();
+        let answer = hall_in(&folder, &["build", "a.hall", "-o", full], b"");
         assert_eq!(answer.code, Some(3));
         assert!(
-            answer.err.starts_with("hall: cannot write /dev/full: "),
+            answer
+                .err
+                .starts_with(&format!("hall: cannot write {full}: ")),
             "{}",
             answer.err
         );
@@ -718,17 +764,20 @@ mod written {
         only(&folder, &["a.hall", "a.table", "nowhere", "there"]);
     }
 
+    #[cfg(target_os = "linux")]
     #[test]
     fn a_pipe_is_written_into() {
         let folder = folder("written-pipes");
+        symlink("/proc/self/fd/1", folder.join("out")).unwrap();
         let output = Command::new(env!("CARGO_BIN_EXE_hall"))
-            .args(["build", "a.hall", "-o", "/dev/stdout"])
+            // A link of the folder's own: nothing of the system can be lost.
+            .args(["build", "a.hall", "-o", "out"])
             .current_dir(&folder)
             .stdout(Stdio::piped())
             .output()
             .unwrap();
         assert_eq!(output.stdout, TABLE);
-        only(&folder, &["a.hall", "a.table"]);
+        only(&folder, &["a.hall", "a.table", "out"]);
     }
 }
 

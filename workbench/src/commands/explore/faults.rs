@@ -11,6 +11,10 @@ use crate::style::{wrapped, Style};
 use crate::table::Table;
 use crate::text::tree::Program;
 
+/// A search of fewer situations is over before anybody has read what it found on
+/// its way, and tells it in the end alone.
+const MANY: usize = 10_000;
+
 /// The questions that were told to be broken.
 pub(super) struct Faults<'a> {
     table: &'a Table,
@@ -35,6 +39,9 @@ impl<'a> Faults<'a> {
 
     /// The words for what was found broken since this was last asked.
     pub(super) fn found(&mut self, so_far: SoFar<'_>, style: Style) -> Vec<String> {
+        if so_far.found.store.len() < MANY {
+            return Vec::new();
+        }
         let Questions { never, ends, .. } = self.questions;
         let asked = [
             (Asked::Never, never, &so_far.found.never),
