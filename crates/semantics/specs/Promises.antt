@@ -1,5 +1,5 @@
 -- What is proved of the definitions, by the call that a reader meets it at: every claim of Claims/ and every check of
--- Checks/, and the calculus's own, is a field of one of these records. Their proofs: theorems/proofs/Theorems. The
+-- Checks/, and the calculus's own, is a field of one of these records or stands in what a field says. Their proofs: theorems/proofs/Theorems. The
 -- contract of each public call cites the record of its subject, so that a call with a claim unproved is not proved
 -- either; .ci/claims holds that none is left out here.
 -- Assumes nothing.
@@ -8,8 +8,8 @@ use mathlib.Core.Path.{_≡_}
 use mathlib.Core.Logic.{_⊎_, _↔_}
 use mathlib.Core.Bool.{false}
 use mathlib.Core.Option.{some}
-use mathlib.Core.List.{List, map}
-use lib.ListN.{length, drop, getElem?}
+use mathlib.Core.List.{List, [], map}
+use lib.ListN.{length, take, drop, getElem?}
 use Rattle.calculus.specs.Syntax.{Name, Log, State, Process}
 use Rattle.calculus.specs.Reduction.{Rule, OUT, ATOK, by, COM, Reduces, AnyOrder, LogOrder}
 use Rattle.calculus.specs.Checks.Notation.{NotationRows}
@@ -17,17 +17,17 @@ use Rattle.calculus.specs.Checks.Table2.{Table2Rows}
 use Rattle.calculus.specs.Checks.Table3.{Table3Rows}
 use Rattle.semantics.specs.Definitions.Basics.{All, Bytes}
 use Rattle.semantics.specs.Definitions.Terms.{Expression}
-use Rattle.semantics.specs.Definitions.Table.{Table, accepted, readTable}
+use Rattle.semantics.specs.Definitions.Table.{Table, accepted, refusedAt, readTable}
 use Rattle.semantics.specs.Definitions.Logs.{firstReadable}
-use Rattle.semantics.specs.Definitions.Configuration.{Configuration, opening}
+use Rattle.semantics.specs.Definitions.Configuration.{Component, Configuration, opening}
 use Rattle.semantics.specs.Definitions.Stored.{WellFormed, bytesOf, configurationOf}
-use Rattle.semantics.specs.Definitions.Moves.{Entry, moved, answerTo}
-use Rattle.semantics.specs.Definitions.Run.{Counters, InBytes, Quiescent, entryBytes, scheduleBytes, run, Step, steps, finalConfiguration}
+use Rattle.semantics.specs.Definitions.Moves.{Entry, act, moved, answerTo}
+use Rattle.semantics.specs.Definitions.Run.{Counters, InBytes, Quiescent, entryBytes, scheduleBytes, schedule, entries, run, Step, steps, finalConfiguration}
 use Rattle.semantics.specs.Definitions.AtomicRun.{atomicStart, atomicRun}
-use Rattle.semantics.specs.Definitions.Calls.{admission, admitted, openHall, Buffers, runCall, Call}
+use Rattle.semantics.specs.Definitions.Calls.{admission, admitted, notAdmitted, openHall, Buffers, runCall, Call}
 use Rattle.semantics.specs.Definitions.Suggestion.{suggested, still, suggestCall}
 use Rattle.semantics.specs.Claims.Denotation.{Denotes, WithinLimits}
-use Rattle.semantics.specs.Claims.NumberedRun.{aborts, effects}
+use Rattle.semantics.specs.Claims.NumberedRun.{aborts, effects, gainedSince}
 use Rattle.semantics.specs.Claims.ConverseRuns.{PlainState, plainStart, ConverseSteps, idleConfiguration}
 use Rattle.semantics.specs.Claims.Atomicity.{rolledBack, AttemptBegun, finalBuffers, allDone, doneWithoutAborted}
 use Rattle.semantics.specs.Checks.Conditions.{TableAccepted, TableRefused, HallCondition, Stops}
@@ -275,27 +275,41 @@ pub record EveryClaim : Type 0 where
   pub on-sentences : OnSentences
   pub on-printed-runs : OnPrintedRuns
 
--- ---- the demands at their plainest, said with the definitions and the calculus and without the names of the claims: a
--- claim that says nothing does not give them (proofs/Promises). engine::run cites them too
+-- ---- the demands at their plainest, in the words of the claims and without the claims: a record of another sort, which
+-- the others give (proofs/Promises), so that none of the claims it is taken from can be emptied as a whole. engine::run
+-- cites it too. That every call ends has no claim: every definition ends, and so does every function that is proved
 pub record Demands : Type 0 where
   -- demand 1: every table is accepted, or refused with a number and a place, for a reason; so is every hall, and every
   -- list of choices on one
   pub every-table-answered : (table : List ℕ) →
-      ((t : Table) × TableAccepted table t) ⊎ ((n : ℕ) × (p : ℕ) × TableRefused table n p)
+      ((t : Table) × (readTable table ≡ accepted t) × TableAccepted table t)
+      ⊎ ((n : ℕ) × (p : ℕ) × (readTable table ≡ refusedAt n p) × TableRefused table n p)
   pub every-hall-answered : (table hall : List ℕ) → Bytes table → Bytes hall →
-      ((t : Table) × (h : Configuration) × TableAccepted table t × WellFormed (t .terms) h × (bytesOf h ≡ hall))
-      ⊎ ((n : ℕ) × (p : ℕ) × HallCondition table hall n p)
+      ((t : Table) × (h : Configuration) × (admission table hall ≡ admitted t h) × TableAccepted table t ×
+      WellFormed (t .terms) h × (bytesOf h ≡ hall))
+      ⊎ ((n : ℕ) × (p : ℕ) × (admission table hall ≡ notAdmitted n p) × HallCondition table hall n p)
   pub every-list-answered : (table : List ℕ) (t : Table) → Bytes table → readTable table ≡ accepted t →
       (h : Configuration) → WellFormed (t .terms) h → (c : Counters) (choices : List ℕ) →
       let a = run h c choices in
-      (a .place ≤ length choices) × Stops (a .configuration) (a .number) (drop (a .place) choices)
-  -- demand 2: an accepted choice does one reduction, Table 2 as printed
+      (a .place ≤ length choices) ×
+      (take (a .place) choices ≡ scheduleBytes (take (a .done) (entries (schedule choices)))) ×
+      Stops (a .configuration) (a .number) (drop (a .place) choices)
+  -- refused by its table or its hall, a call changes nothing
+  pub refused-changes-nothing : (table : List ℕ) (l : Buffers) (choices : List ℕ) → Bytes table → Bytes (l .hall) →
+      (n p : ℕ) → HallCondition table (l .hall) n p →
+      runCall table l choices ≡ record { number = n; place = p; done = 0; buffers = l }
+  -- demand 2: every hall stands for a process, an opened one is well formed, and an accepted choice does one reduction,
+  -- Table 2 as printed, within the limits, to a hall that is well formed
+  pub halls-denote : (cs : List Component) → (P : Process) × Denotes P cs
+  pub opened-well-formed : (table : List ℕ) (t : Table) → Bytes table → readTable table ≡ accepted t →
+      WellFormed (t .terms) (opening t)
   pub choices-reduce : (table : List ℕ) (t : Table) → Bytes table → readTable table ≡ accepted t →
       (h : Configuration) → WellFormed (t .terms) h →
       (e : Entry) (r : Rule) (g : Configuration) → answerTo h e ≡ moved r g →
       (P : Process) → Denotes P (h .components) →
-      (P′ : Process) × Reduces AnyOrder (by r) P (h .counts) P′ (g .counts) × Denotes P′ (g .components)
-  -- a reduction within the limits has its choice, and a COM its two
+      (P′ : Process) × Reduces AnyOrder (by r) P (h .counts) P′ (g .counts) × Denotes P′ (g .components) ×
+      WithinLimits (by r) (h .counts) P′ (g .counts) × WellFormed (t .terms) g
+  -- a reduction within the limits, ATOK's outputs in log order, has its choice, and a COM its two
   pub reductions-chosen : (table : List ℕ) (t : Table) → Bytes table → readTable table ≡ accepted t →
       (h : Configuration) → WellFormed (t .terms) h → (P : Process) → Denotes P (h .components) →
       (r : Rule) (P′ : Process) (σ′ : State) → Reduces LogOrder (by r) P (h .counts) P′ σ′ →
@@ -308,9 +322,10 @@ pub record Demands : Type 0 where
       WithinLimits (COM a) (h .counts) P′ σ′ →
       (e : Entry) × (f : Configuration) × (d : Entry) × (r : Rule) × (g : Configuration) × InBytes e × InBytes d ×
       (answerTo h e ≡ moved (OUT a) f) × (answerTo f d ≡ moved r g) × (g .counts ≡ σ′) × Denotes P′ (g .components)
-  -- what is suggested is done by a run, and still is said exactly where no choice is accepted
+  -- what is suggested is done by a run, and still is said exactly of a hall that is admitted and on which no choice in
+  -- bytes is accepted
   pub suggestions-run : (table : List ℕ) (l : Buffers) (e : Entry) → suggestCall table (l .hall) ≡ suggested e →
-      (runCall table l (entryBytes e)) .done ≡ 1
+      InBytes e × ((runCall table l (entryBytes e)) .done ≡ 1)
   pub still-is-said : (table hall : List ℕ) →
       (suggestCall table hall ≡ still) ↔
       ((t : Table) × (h : Configuration) × (admission table hall ≡ admitted t h) × Quiescent h)
@@ -320,9 +335,11 @@ pub record Demands : Type 0 where
       (buffer : List ℕ) → length buffer ≡ 11344 → (first : Counters) (cs : List Call) →
       let left = finalBuffers table t buffer first cs in
       let one = atomicRun (atomicStart t first) (allDone table t buffer first cs) in
+      (length (steps (opening t) (allDone table t buffer first cs)) ≡ length (allDone table t buffer first cs)) ×
       (h : Configuration) × (configurationOf (t .terms) (left .hall) ≡ some h) × (h .counts ≡ one .counts) ×
       (map rolledBack (h .components) ≡ map (λ x. x .station) (one .stations)) × (left .counters ≡ one .counters)
-  -- without the choices of abandoned attempts the hall is the same, and no attempt is abandoned
+  -- without the choices of abandoned attempts the hall is the same, all that has an effect is done in the same order, and
+  -- no attempt is abandoned
   pub abandoned-leave-no-trace : (table : List ℕ) (t : Table) → Bytes table → readTable table ≡ accepted t →
       (buffer : List ℕ) → length buffer ≡ 11344 → (first : Counters) (cs : List Call) →
       let kept = steps (opening t) (doneWithoutAborted table t buffer first cs) in
@@ -330,17 +347,21 @@ pub record Demands : Type 0 where
       (bytesOf (finalConfiguration (opening t) kept) ≡ (finalBuffers table t buffer first cs) .hall) ×
       (effects kept ≡ effects (steps (opening t) (allDone table t buffer first cs))) ×
       All (λ u. aborts (u .rule) ≡ false) kept
-  -- a committed block has taken its first path readable at its opening
+  -- a committed block has taken its first path readable at its opening, which is the first at its commit too where no tray
+  -- has gained in between
   pub first-path-taken : (table : List ℕ) (t : Table) → Bytes table → readTable table ≡ accepted t →
       (buffer : List ℕ) → length buffer ≡ 11344 → (first : Counters) (cs : List Call) →
       let done = allDone table t buffer first cs in
       (j : ℕ) (s : Step) (δ : Log) → getElem? (steps (opening t) done) j ≡ some s → s .rule ≡ ATOK δ →
-      (p : ℕ) × (n : ℕ) × (M : Expression) × (o : AttemptBegun t first done j p n M) ×
-      (firstReadable (o .step .before .counts) M ≡ some δ)
+      (p : ℕ) × (n : ℕ) × (M : Expression) × (o : AttemptBegun t first done j p n M) × (s .chosen ≡ act p) ×
+      (firstReadable (o .step .before .counts) M ≡ some δ) ×
+      (gainedSince (o .opener) (map (λ u. u .rule) (take j (steps (opening t) done))) ≡ [] →
+      firstReadable (s .before .counts) M ≡ some δ)
   -- and conversely: what one-step steps lead to, a list of choices leads to
   pub one-step-runs-chosen : (table : List ℕ) (t : Table) → Bytes table → readTable table ≡ accepted t →
       (buffer : List ℕ) → length buffer ≡ 11344 → (first : Counters) →
       (s : PlainState) → ConverseSteps (plainStart t) s →
       let l : Buffers = record { hall = (openHall table buffer) .hall; counters = first } in
       (es : List Entry) × Bytes (scheduleBytes es) × ((runCall table l (scheduleBytes es)) .number ≡ 0) ×
+      ((runCall table l (scheduleBytes es)) .done ≡ length es) ×
       ((runCall table l (scheduleBytes es)) .buffers .hall ≡ bytesOf (idleConfiguration s))

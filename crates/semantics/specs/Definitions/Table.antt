@@ -32,7 +32,8 @@ kindByNumber (suc k) = getElem? kinds k
 pub data Field : Type 0 where
   channelF programF expressionF amountF : Field
 
--- the bytes that follow a kind, and the class of the term that its record adds, as a reference to that term has it
+-- the bytes that follow a kind, and the class of the term that its record adds, as a reference to that term has it; none
+-- where it adds no term
 abbrev pub shape : Kind → List Field × Option Field
 shape nilK = ([], some programF)
 shape putK = (channelF ∷ [], some programF)
@@ -210,7 +211,7 @@ tableEnd r P at [] = accepted (record { terms = r .terms; tokens = r .tokens; st
 tableEnd r P at (b ∷ bs) = refusedAt 9 at
 
 -- a record of w bytes at a place that passed its tests; `next` is the place behind it and `bs` what follows there. By
--- test 6 it does not say nothing.
+-- tests 2 and 6 it says something.
 unfoldable pub recordPassed : Reading → ℕ → Content → (w next : ℕ) → List ℕ → RecordAnswer
 unfolding tableEnd
 recordPassed r at (termRecord t) w next bs = more (record { terms = r .terms ++ (t ∷ []); tokens = r .tokens }) w
