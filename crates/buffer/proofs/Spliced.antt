@@ -10,7 +10,7 @@ use lib.Dec.{ltb}
 use lib.ListN.{length, getD, take, drop, replicate, length-append, length-take, length-drop, length-replicate, List·getD-append}
 use lib.Seq.{length-take-le, getD-append-add, getD-take, getD-drop, ext-getD}
 use borrow.Author.Tests.{ltb-true, ltb-false}
-use Rattle.buffer.specs.Splice.{written, fit, spliced, Room}
+use Rattle.buffer.specs.Splice.{written, fit, spliced, CanShift}
 use Rattle.buffer.proofs.Written.{getD-zeros, written-length, written-before, written-inside, written-behind}
 
 -- ---- elements
@@ -81,7 +81,7 @@ is-spliced s a b v r h l before inside behind =
 -- ---- the three ways of moving a tail
 
 -- down, with zeros where it stood
-down : (s : List ℕ) (b e used : ℕ) → Room s b e used → e < b →
+down : (s : List ℕ) (b e used : ℕ) → CanShift s b e used → e < b →
     written (written s e (drop b s) (used - b)) (e + (used - b)) (replicate (b - e) 0) (b - e) ≡ spliced s e b []
 down s b e used room lower =
     let m = used - b in
@@ -108,11 +108,11 @@ down s b e used room lower =
     rw q (written-behind inner (e + m) z (b - e) i (omega arith) (omega arith) ∙ (rw (← w) at g) ∙ c _ (omega arith) ∙ sym (c _ (omega arith)))))
 
 pub shifted-down : (s inner outer : List ℕ) (b e used : ℕ) → inner ≡ written s e (drop b s) (used - b) →
-    outer ≡ written inner (e + (used - b)) (replicate (b - e) 0) (b - e) → Room s b e used → e < b → outer ≡ spliced s e b []
+    outer ≡ written inner (e + (used - b)) (replicate (b - e) 0) (b - e) → CanShift s b e used → e < b → outer ≡ spliced s e b []
 shifted-down s inner outer b e used p q room lower = q ∙ rw p (down s b e used room lower)
 
 -- up, over zeros
-up : (s : List ℕ) (b e used : ℕ) → Room s b e used → b < e → written s e (drop b s) (used - b) ≡ spliced s e b []
+up : (s : List ℕ) (b e used : ℕ) → CanShift s b e used → b < e → written s e (drop b s) (used - b) ≡ spliced s e b []
 up s b e used room higher =
     let m = used - b in
     let c = room .clear in
@@ -129,11 +129,11 @@ up s b e used room higher =
     (λ i l. let q : e + 0 + (m + 0 + i) ≡ e + m + i = omega arith in
     rw q (written-behind s e (drop b s) m i (omega arith) (omega arith) ∙ c _ (omega arith) ∙ sym (c _ (omega arith)))))
 
-pub shifted-up : (s t : List ℕ) (b e used : ℕ) → t ≡ written s e (drop b s) (used - b) → Room s b e used → b < e → t ≡ spliced s e b []
+pub shifted-up : (s t : List ℕ) (b e used : ℕ) → t ≡ written s e (drop b s) (used - b) → CanShift s b e used → b < e → t ≡ spliced s e b []
 shifted-up s t b e used p room higher = p ∙ up s b e used room higher
 
 -- not at all
-pub shifted-none : (s : List ℕ) (b e used : ℕ) → Room s b e used → b ≤ e → e ≤ b → s ≡ spliced s e b []
+pub shifted-none : (s : List ℕ) (b e used : ℕ) → CanShift s b e used → b ≤ e → e ≤ b → s ≡ spliced s e b []
 shifted-none s b e used room low high =
     let o = room .ordered in
     let h = room .held in
@@ -145,7 +145,7 @@ shifted-none s b e used room low high =
 -- ---- a splice
 
 -- the tail moved, then the new part written before it
-from-shifted : (s : List ℕ) (a b : ℕ) (v : List ℕ) (used : ℕ) → Room s b (a + length v) used →
+from-shifted : (s : List ℕ) (a b : ℕ) (v : List ℕ) (used : ℕ) → CanShift s b (a + length v) used →
     written (spliced s (a + length v) b []) a v (length v) ≡ spliced s a b v
 from-shifted s a b v used room =
     let t = spliced s (a + length v) b [] in
@@ -158,7 +158,7 @@ from-shifted s a b v used room =
     written-behind t a v (length v) i (omega arith) (omega arith) ∙ rw q (spliced-behind s (a + length v) b [] i (omega arith)))
 
 pub spliced-from : (s t r : List ℕ) (a b : ℕ) (v : List ℕ) (used : ℕ) → t ≡ spliced s (a + length v) b [] → r ≡ written t a v (length v) →
-    Room s b (a + length v) used → r ≡ spliced s a b v
+    CanShift s b (a + length v) used → r ≡ spliced s a b v
 spliced-from s t r a b v used p q room = q ∙ rw p (from-shifted s a b v used room)
 
 -- a list in three parts with zeros behind: the middle part gives way to v

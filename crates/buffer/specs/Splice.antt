@@ -25,7 +25,7 @@ abbrev pub chunk : ℕ
 chunk = 4096
 
 -- the elements b..used can be moved so that they begin at e: none but zeros follow them, and there is room
-pub record Room (s : List ℕ) (b e used : ℕ) : Type 0 where
+pub record CanShift (s : List ℕ) (b e used : ℕ) : Type 0 where
   pub ordered : b ≤ used
   pub held : used ≤ length s
   pub fits : e + (used - b) ≤ length s

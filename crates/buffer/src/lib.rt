@@ -6,7 +6,7 @@ ghost use mathlib.Core.Path.{_≡_};
 ghost use mathlib.Core.List.{[]};
 ghost use Prim.Native.Nat.{_+_, _-_, _≤_, _<_};
 ghost use lib.ListN.{length, getD, drop, replicate};
-ghost use Rattle.buffer.specs.Splice.{written, spliced, chunk, Room};
+ghost use Rattle.buffer.specs.Splice.{written, spliced, chunk, CanShift};
 
 // The byte at i, 0 past the end: whoever reads so has no bound to show.
 pub fn byte_at(s: &[u8], i: usize) -> u8
@@ -103,7 +103,7 @@ pub fn move_up(s: &mut [u8], from: usize, to: usize, n: usize)
 
 // The bytes b..used, moved so that they begin at e, with zeros behind them.
 fn shift(s: &mut [u8], b: usize, e: usize, used: usize)
-    requires { ⌜ Room (now s) b e used ⌝ }
+    requires { ⌜ CanShift (now s) b e used ⌝ }
     ensures { λ _. ⌜ now (s .exit) ≡ spliced (now (s .entry)) e b [] ⌝ }
 {
     if e < b {
@@ -119,7 +119,7 @@ fn shift(s: &mut [u8], b: usize, e: usize, used: usize)
 // The bytes a..b give way to `new`; the bytes b..used follow it, and zeros follow those. Where `new` is as long as
 // what it replaces, the rest is not touched. The answer is how many bytes are used now.
 pub fn splice(s: &mut [u8], a: usize, b: usize, used: usize, new: &[u8]) -> usize
-    requires { ⌜ (a ≤ b) × Room (now s) b (a + length (now new)) used ⌝ }
+    requires { ⌜ (a ≤ b) × CanShift (now s) b (a + length (now new)) used ⌝ }
     ensures { λ r. ⌜ r ≡ a + length (now (new .entry)) + (used - b) ⌝ }
     ensures { λ _. ⌜ now (s .exit) ≡ spliced (now (s .entry)) a b (now (new .entry)) ⌝ }
 {

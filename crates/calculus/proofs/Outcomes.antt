@@ -12,7 +12,7 @@ use Rattle.calculus.specs.Syntax.{Name, State, Log, Expr, end, retry, pr
 use Rattle.calculus.specs.State.{count, same, occurrences, Included, Plus, without, SameNames}
 use Rattle.calculus.specs.Log.{RD, WT}
 use Rattle.calculus.specs.Reduction.{OUT, IN, REP, ATST, ATRE, ATFAIL, ATOK, Label, by, COM, outputs, nodeOf, AnyOrder, LogOrder, Reduces, OUTr, INr, REPr, COMl, COMr, PARL, PARR, ATSTr, ATPASS, ATREr, ATFAILr, ATOKr}
-use Rattle.calculus.specs.Checks.Table3.{Step, step, Steps}
+use Rattle.calculus.specs.Checks.Table3.{InnerStep, step, Steps}
 use Rattle.calculus.specs.Checks.Table2.{Outcome, leaves, Outcomes}
 use Rattle.calculus.proofs.States.{same-self, same-other, same-name, grown, without-added, none-occurs, one-occurs, two-occur}
 use Rattle.calculus.proofs.Reductions.{adding-is-out}
@@ -123,10 +123,10 @@ module _ (Order : List Name → List Name → Type 0) where
   GoesOn (running (orElse M N) σ δ) = Unit {0}
   GoesOn (orElse′ A B) = Unit {0}
 
-  abbrev pub passed : Expr → State → Step → Outcome
+  abbrev pub passed : Expr → State → InnerStep → Outcome
   passed M σ (step k r A′) = leaves (by r) (ongoing A′ M) σ
 
-  pub passes : (A : Ongoing) (M : Expr) (σ : State) (ss : List Step) → GoesOn A → Steps A ss →
+  pub passes : (A : Ongoing) (M : Expr) (σ : State) (ss : List InnerStep) → GoesOn A → Steps A ss →
       Outcomes Order (ongoing A M) σ (map (passed M σ) ss)
   passes A M σ ss on steps l P′ σ′ = (λ d. only A on steps l P′ σ′ d, λ m. made (leaves l P′ σ′) m)
     where
@@ -137,7 +137,7 @@ module _ (Order : List Name → List Name → Type 0) where
       only A on steps l P′ σ′ (ATFAILr n) = absurd on
       only A on steps l P′ σ′ (ATOKr i o) = absurd on
 
-      step-of : (o : Outcome) (s : Step) → List·Memᴰ s ss → passed M σ s ≡ o → Does (ongoing A M) σ o
+      step-of : (o : Outcome) (s : InnerStep) → List·Memᴰ s ss → passed M σ s ≡ o → Does (ongoing A M) σ o
       step-of o (step k r A′) m e = told (ongoing A M) σ o (passed M σ (step k r A′)) (ATPASS (steps k r A′ .1 m .0)) (sym e)
 
       made : (o : Outcome) → List·Memᴰ o (map (passed M σ) ss) → Does (ongoing A M) σ o

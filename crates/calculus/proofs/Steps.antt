@@ -9,17 +9,17 @@ use Rattle.calculus.specs.Syntax.{Name, rd, wt, State, Log, Expr, end, r
 use Rattle.calculus.specs.State.{Included}
 use Rattle.calculus.specs.Log.{RD}
 use Rattle.calculus.specs.Reduction.{Rule, ARDOK, ARDF, AWR, AOI, AOF, AOE, Evolves, ardok, ardf, awr, aoi, aof, aoe, aol, aor, nodesOf, nodeOf, EvolvesAt}
-use Rattle.calculus.specs.Checks.Table3.{Step, step, Steps}
+use Rattle.calculus.specs.Checks.Table3.{InnerStep, step, Steps}
 
 -- a step of an expression
-abbrev Makes : Ongoing → Step → Type 0
+abbrev Makes : Ongoing → InnerStep → Type 0
 Makes A (step k r A′) = EvolvesAt k r A A′
 
-told : (A : Ongoing) (s t : Step) → Makes A t → s ≡ t → Makes A s
+told : (A : Ongoing) (s t : InnerStep) → Makes A t → s ≡ t → Makes A s
 told A s t m e = rw e m
 
 -- an expression with one step, and one with none
-one-step : (A : Ongoing) (s : Step) → Makes A s → ((k : ℕ) (r : Rule) (A′ : Ongoing) (d : Evolves r A A′) → nodeOf d ≡ k → step k r A′ ≡ s) →
+one-step : (A : Ongoing) (s : InnerStep) → Makes A s → ((k : ℕ) (r : Rule) (A′ : Ongoing) (d : Evolves r A A′) → nodeOf d ≡ k → step k r A′ ≡ s) →
     Steps A (s ∷ [])
 one-step A s made only k r A′ = (λ d. List·Memᴰ·head (only k r A′ (d .0) (d .1)), λ m. told A (step k r A′) s made (List·Memᴰ·eq-of-singleton m))
 
@@ -72,7 +72,7 @@ module _ (σ : State) (δ : Log) where
   retry-steps = no-step (running retry σ δ) (λ r A′ d. absurd (elim d [ ]))
 
 -- the step of a fork that its left side decides
-abbrev pub decided : Ongoing → Ongoing → List Step
+abbrev pub decided : Ongoing → Ongoing → List InnerStep
 decided (running end σ δ) B = step 0 AOE (running end σ δ) ∷ []
 decided (running retry σ δ) B = step 0 AOF B ∷ []
 decided (running (prefix α M) σ δ) B = []
@@ -80,14 +80,14 @@ decided (running (orElse M N) σ δ) B = []
 decided (orElse′ A A′) B = []
 
 -- the steps of its sides
-abbrev pub inLeft : Ongoing → Step → Step
+abbrev pub inLeft : Ongoing → InnerStep → InnerStep
 inLeft B (step k r A′) = step (suc k) r (orElse′ A′ B)
 
-unfoldable pub inRight : Ongoing → Step → Step
+unfoldable pub inRight : Ongoing → InnerStep → InnerStep
 unfolding nodesOf
 inRight A (step k r B′) = step (suc (nodesOf A + k)) r (orElse′ A B′)
 
-decides : (A B : Ongoing) (s : Step) → List·Memᴰ s (decided A B) → Makes (orElse′ A B) s
+decides : (A B : Ongoing) (s : InnerStep) → List·Memᴰ s (decided A B) → Makes (orElse′ A B) s
 unfolding nodeOf
 decides (running end σ δ) B s m =
     told (orElse′ (running end σ δ) B) s (step 0 AOE (running end σ δ)) (aoe, refl) (List·Memᴰ·eq-of-singleton m)
@@ -96,7 +96,7 @@ decides (running (prefix α M) σ δ) B s m = absurd (List·Memᴰ·not-nil m)
 decides (running (orElse M N) σ δ) B s m = absurd (List·Memᴰ·not-nil m)
 decides (orElse′ C D) B s m = absurd (List·Memᴰ·not-nil m)
 
-pub fork-steps : (A B : Ongoing) (ss ts : List Step) → Steps A ss → Steps B ts →
+pub fork-steps : (A B : Ongoing) (ss ts : List InnerStep) → Steps A ss → Steps B ts →
     Steps (orElse′ A B) (decided A B ++ (map (inLeft B) ss ++ map (inRight A) ts))
 unfolding nodeOf nodesOf inRight
 fork-steps A B ss ts left right k r C = (λ d. only A left k r C (d .0) (d .1), λ m. made (step k r C) m)
@@ -110,19 +110,19 @@ fork-steps A B ss ts left right k r C = (λ d. only A left k r C (d .0) (d .1), 
     only A left k r C (aor {B′ = B′} d) e =
         rw (← e) (Memᴰ·append-right (decided A B) (Memᴰ·append-right (map (inLeft B) ss) (Memᴰ·map (inRight A) (right (nodeOf d) r B′ .0 (d, refl)))))
 
-    from-left : (s t : Step) → List·Memᴰ t ss → inLeft B t ≡ s → Makes (orElse′ A B) s
+    from-left : (s t : InnerStep) → List·Memᴰ t ss → inLeft B t ≡ s → Makes (orElse′ A B) s
     from-left s (step j q A′) m e = let (d, n) = left j q A′ .1 m in rw (← e) (aol d, ap suc n)
 
-    from-right : (s t : Step) → List·Memᴰ t ts → inRight A t ≡ s → Makes (orElse′ A B) s
+    from-right : (s t : InnerStep) → List·Memᴰ t ts → inRight A t ≡ s → Makes (orElse′ A B) s
     from-right s (step j q B′) m e = let (d, n) = right j q B′ .1 m in rw (← e) (aor d, ap (λ i. suc (nodesOf A + i)) n)
 
-    sides : (s : Step) → List·Memᴰ s (map (inLeft B) ss) ⊎ List·Memᴰ s (map (inRight A) ts) → Makes (orElse′ A B) s
+    sides : (s : InnerStep) → List·Memᴰ s (map (inLeft B) ss) ⊎ List·Memᴰ s (map (inRight A) ts) → Makes (orElse′ A B) s
     sides s (inl m) = let (t, n, e) = Memᴰ·of-map (inLeft B) ss m in from-left s t n e
     sides s (inr m) = let (t, n, e) = Memᴰ·of-map (inRight A) ts m in from-right s t n e
 
-    any : (s : Step) → List·Memᴰ s (decided A B) ⊎ List·Memᴰ s (map (inLeft B) ss ++ map (inRight A) ts) → Makes (orElse′ A B) s
+    any : (s : InnerStep) → List·Memᴰ s (decided A B) ⊎ List·Memᴰ s (map (inLeft B) ss ++ map (inRight A) ts) → Makes (orElse′ A B) s
     any s (inl m) = decides A B s m
     any s (inr m) = sides s (List·Memᴰ·append-cases (map (inLeft B) ss) m)
 
-    made : (s : Step) → List·Memᴰ s (decided A B ++ (map (inLeft B) ss ++ map (inRight A) ts)) → Makes (orElse′ A B) s
+    made : (s : InnerStep) → List·Memᴰ s (decided A B ++ (map (inLeft B) ss ++ map (inRight A) ts)) → Makes (orElse′ A B) s
     made s m = any s (List·Memᴰ·append-cases (decided A B) m)

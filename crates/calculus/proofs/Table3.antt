@@ -7,7 +7,7 @@ use Rattle.calculus.specs.State.{Included, occurrences, same}
 use Rattle.calculus.specs.Log.{RD}
 use Rattle.calculus.specs.Reduction.{ARDOK, AWR, AOF, AOE, ardok, ardf, awr, aoi, aof, aoe, nodesOf}
 use Rattle.calculus.specs.Checks.Notation.{few}
-use Rattle.calculus.specs.Checks.Table3.{Step, step, Steps, reads, hasRead, writes, hasWritten, ended, retried, Table3Rows}
+use Rattle.calculus.specs.Checks.Table3.{InnerStep, step, Steps, reads, hasRead, writes, hasWritten, ended, retried, Table3Rows}
 use Rattle.calculus.proofs.States.{included-nil, included-cons}
 use Rattle.calculus.proofs.Steps.{read-there, read-missing, write-steps, orElse-steps, end-steps, retry-steps, inRight, fork-steps}
 
@@ -50,7 +50,7 @@ at-end = end-steps (1 ∷ []) (wt 1 ∷ [])
 at-retry : Steps retried []
 at-retry = retry-steps (0 ∷ 1 ∷ []) (rd 2 ∷ [])
 
-abbrev either-side : List Step
+abbrev either-side : List InnerStep
 either-side = step 1 ARDOK (orElse′ hasRead writes) ∷ step 2 AWR (orElse′ reads hasWritten) ∷ []
 
 reading-or-writing : Steps (orElse′ reads writes) either-side

@@ -1,5 +1,1 @@
-pub mod Answers
-pub mod Sentences
-pub mod Zero
-pub mod Choices
-pub mod Turning
+pub mod Exports

@@ -7,22 +7,11 @@
 // kind, position, node; a shortage is two: a tray and by how many, 0 0 for none; a station just laid down is two: its
 // kind and its body, as they stand in a hall. Only a sentence that is refused sets nothing: its buffer and its length
 // stay as they were.
-use counters::Counters;
-use engine::HallVerdict;
-use engine::OpenAnswer;
-use engine::StepAnswer;
-use engine::SuggestAnswer;
-use engine::TurnAnswer;
-use report::OUTPUT;
-use rules::Shortage;
-use runs::numbers_of;
-use schedule::Entry;
-use schedule::KIND_ACT;
-use schedule::KIND_INSIDE;
-use sentences::SentenceAnswer;
-use table::TableVerdict;
+//
+// Each export makes its call and has the crate `answers` tell what it answered.
+use answers::Counters;
+use print_report::OUTPUT;
 ghost use mathlib.Core.Path.{_≡_};
-ghost use mathlib.Core.List.{[], _∷_};
 ghost use Prim.Native.Nat.{_≤_};
 ghost use Rattle.semantics.specs.Definitions.Run.{freshCounters};
 ghost use Rattle.semantics.specs.Definitions.Calls.{checkTable, checkHall, openHall, runCall, stepCall};
@@ -30,26 +19,19 @@ ghost use Rattle.semantics.specs.Definitions.Turns.{turnCall};
 ghost use Rattle.semantics.specs.Definitions.Suggestion.{suggestCall};
 ghost use Rattle.semantics.specs.Definitions.Report.{printedRun};
 ghost use Rattle.semantics.specs.Definitions.Sentence.{sentenceCall};
-ghost use Rattle.decimals.specs.Wrote.{Wrote};
-ghost use Rattle.rules.specs.Replies.{shortageIs};
-ghost use Rattle.counters.specs.Counted.{countersOf};
-ghost use Rattle.schedule.specs.Entries.{entryOf};
-ghost use Rattle.sections.specs.Limits.{linesMost};
-ghost use Rattle.ruonfidd.specs.Answered.{VerdictAnswered, OpeningAnswered, TurnAnswered, tallyWords, countersIn, buffersIn, RunAnswered, shortageWords, StepAnswered, choiceWords, SuggestionAnswered, tellsShort, replyFrom, SentenceAnswered};
+ghost use Rattle.semantics.specs.Promises.{Promised};
+ghost use Rattle.answers.specs.Answered.{VerdictAnswered, OpeningAnswered, TurnAnswered, tallyWords, buffersIn, RunAnswered, StepAnswered, SuggestionAnswered, replyFrom, SentenceAnswered};
+ghost use Rattle.answers.specs.Promises.{ToldTables, ToldHalls, ToldOpenings, ToldTurns, ToldRuns, ToldSteps, ToldSuggestions, ToldSentences};
+ghost use Rattle.print_decimals.specs.Wrote.{Wrote};
+ghost use Rattle.print_sections.specs.Limits.{linesMost};
 
 // Whether a table is accepted: 0, and place 0; or the number of the first refusal, and its place.
 #[no_mangle]
 pub extern "C" fn ruonfidd_check_table(table: &[u8], place: &mut usize) -> u8
     ensures { λ r. ⌜ VerdictAnswered (checkTable (now (table .entry))) r (now (place .exit)) ⌝ }
+    ensures promised { λ _. ⌜ Promised ToldTables ⌝ }
 {
-    *place = 0;
-    match table::check_table(table) {
-        TableVerdict::Accepted => 0,
-        TableVerdict::Refused { number, place: at } => {
-            *place = at;
-            number
-        }
-    }
+    answers::tell_table(table_read::check_table(table), place)
 }
 
 // Opens a table in a hall: 0, and place 0; or the number of the first refusal, and its place, with the hall as it
@@ -58,23 +40,10 @@ pub extern "C" fn ruonfidd_check_table(table: &[u8], place: &mut usize) -> u8
 pub extern "C" fn ruonfidd_open_hall(table: &[u8], hall: &mut [u8], place: &mut usize) -> u8
     ensures { λ r. ⌜ OpeningAnswered (openHall (now (table .entry)) (now (hall .entry)))
         r (now (place .exit)) (now (hall .exit)) ⌝ }
+    ensures promised { λ _. ⌜ Promised ToldOpenings ⌝ }
 {
-    *place = 0;
-    match engine::open_hall(table, hall) {
-        OpenAnswer::Opened(_) => 0,
-        OpenAnswer::Refused { number, place: at } => {
-            *place = at;
-            number
-        }
-    }
+    answers::tell_opening(call_open::open_hall(table, hall), place)
 }
-
-// What a turn of a table's opening laid down.
-const LAID_NOTHING: u8 = 0;
-
-const LAID_STATION: u8 = 1;
-
-const LAID_PAST_END: u8 = 2;
 
 // Shows a turn, counted from 0, of the opening of a table: 0, place 0, whether it lays down a station, the station, 0 0
 // where there is none, and how many terms are then left to open; past the end none. Or the number of the first refusal of
@@ -90,57 +59,19 @@ pub extern "C" fn ruonfidd_opening_turn(
 ) -> u8
     ensures { λ r. ⌜ TurnAnswered (turnCall (now (table .entry)) turn) r (now (place .exit)) (now (laid .exit))
         (now (station .exit)) (now (left .exit)) ⌝ }
+    ensures promised { λ _. ⌜ Promised ToldTurns ⌝ }
 {
-    *place = 0;
-    *laid = LAID_NOTHING;
-    *station = [0, 0];
-    *left = 0;
-    match engine::opening_turn(table, turn) {
-        TurnAnswer::Component {
-            kind,
-            body,
-            left: waiting,
-        } => {
-            *laid = LAID_STATION;
-            *station = [kind, body];
-            *left = waiting;
-            0
-        }
-        TurnAnswer::Nothing { left: waiting } => {
-            *left = waiting;
-            0
-        }
-        TurnAnswer::PastEnd => {
-            *laid = LAID_PAST_END;
-            0
-        }
-        TurnAnswer::Refused { number, place: at } => {
-            *place = at;
-            number
-        }
-    }
+    let answer = call_turn::opening_turn(table, turn);
+    answers::tell_turn(answer, laid, station, left, place)
 }
 
 // Whether a stored hall is well formed for a table: 0, and place 0; or the number of the first refusal, and its place.
 #[no_mangle]
 pub extern "C" fn ruonfidd_check_hall(table: &[u8], hall: &[u8], place: &mut usize) -> u8
     ensures { λ r. ⌜ VerdictAnswered (checkHall (now (table .entry)) (now (hall .entry))) r (now (place .exit)) ⌝ }
+    ensures promised { λ _. ⌜ Promised ToldHalls ⌝ }
 {
-    *place = 0;
-    match engine::check_hall(table, hall) {
-        HallVerdict::WellFormed => 0,
-        HallVerdict::Refused { number, place: at } => {
-            *place = at;
-            number
-        }
-    }
-}
-
-// Counters as the numbers of a tally.
-fn tally_of(counters: Counters) -> [u32; 3]
-    ensures { λ r. ⌜ r ≡ tallyWords (countersOf counters) ⌝ }
-{
-    [counters.commits, counters.failed, counters.retries]
+    answers::tell_hall(call_check::check_hall(table, hall), place)
 }
 
 // The fresh tally: what the first run after an opening is lent.
@@ -149,18 +80,7 @@ pub extern "C" fn ruonfidd_fresh_tally(tally: &mut [u32; 3])
     ensures { λ _. ⌜ now (tally .exit) ≡ tallyWords freshCounters ⌝ }
 {
     let fresh = Counters::fresh();
-    *tally = tally_of(fresh);
-}
-
-// The counters that a lent tally holds.
-fn counters_in(tally: &[u32; 3]) -> Counters
-    ensures { λ r. ⌜ countersOf r ≡ countersIn (now (tally .entry)) ⌝ }
-{
-    Counters {
-        commits: tally[0],
-        failed: tally[1],
-        retries: tally[2],
-    }
+    *tally = answers::tally_of(fresh);
 }
 
 // Runs choices: 0, with their length as the place; or the number of the refusal, and its place. `done` is how many
@@ -177,23 +97,10 @@ pub extern "C" fn ruonfidd_run(
     ensures { λ r. ⌜ RunAnswered
         (runCall (now (table .entry)) (buffersIn (now (hall .entry)) (now (tally .entry))) (now (choices .entry)))
         r (now (place .exit)) (now (done .exit)) (now (hall .exit)) (now (tally .exit)) ⌝ }
+    ensures promised { λ _. ⌜ Promised ToldRuns ⌝ }
 {
-    let numbers = numbers_of(engine::run(table, hall, choices, counters_in(tally)));
-    let counters = numbers.counters;
-    *place = numbers.place;
-    *done = numbers.done;
-    *tally = tally_of(counters);
-    numbers.number
-}
-
-// What was short, as its tray and by how many; 0 0 where nothing was.
-fn shortage_bytes(shortage: Shortage) -> [u8; 2]
-    ensures { λ r. ⌜ r ≡ shortageWords (shortageIs shortage) ⌝ }
-{
-    match shortage {
-        Shortage::Enough => [0, 0],
-        Shortage::Short { channel, by } => [channel, by],
-    }
+    let answer = call_run::run(table, hall, choices, answers::counters_in(tally));
+    answers::tell_run(answer, tally, place, done)
 }
 
 // Makes one choice: 0, with the rule by which it moved, what was short and the choice's length as the place; or the
@@ -214,39 +121,11 @@ pub extern "C" fn ruonfidd_step(
     ensures { λ r. ⌜ StepAnswered
         (stepCall (now (table .entry)) (buffersIn (now (hall .entry)) (now (tally .entry))) kind position node)
         r (now (place .exit)) (now (rule .exit)) (now (shortage .exit)) (now (hall .exit)) (now (tally .exit)) ⌝ }
+    ensures promised { λ _. ⌜ Promised ToldSteps ⌝ }
 {
-    let before = counters_in(tally);
-    match engine::step(table, hall, kind, position, node, before) {
-        StepAnswer::Moved {
-            rule: moved_by,
-            shortage: lacks,
-            place: at,
-            counters,
-        } => {
-            *place = at;
-            *rule = moved_by;
-            *shortage = shortage_bytes(lacks);
-            *tally = tally_of(counters);
-            0
-        }
-        StepAnswer::Refused { number, place: at } => {
-            *place = at;
-            *rule = 0;
-            *shortage = [0, 0];
-            *tally = tally_of(before);
-            number
-        }
-    }
-}
-
-// A choice as its kind, position and node; the node of kind 1 is 0.
-fn choice_of(entry: Entry) -> [u8; 3]
-    ensures { λ r. ⌜ r ≡ choiceWords (entryOf entry) ⌝ }
-{
-    match entry {
-        Entry::Act { position } => [KIND_ACT, position, 0],
-        Entry::Inside { position, node } => [KIND_INSIDE, position, node],
-    }
+    let before = answers::counters_in(tally);
+    let answer = call_step::step(table, hall, kind, position, node, before);
+    answers::tell_step(answer, before, tally, rule, shortage, place)
 }
 
 // Suggests the first choice that is accepted, at the lowest position, there at the lowest node: 0, place 0, and the
@@ -261,20 +140,9 @@ pub extern "C" fn ruonfidd_suggest(
 ) -> u8
     ensures { λ r. ⌜ SuggestionAnswered (suggestCall (now (table .entry)) (now (hall .entry))) r (now (place .exit))
         (now (choice .exit)) ⌝ }
+    ensures promised { λ _. ⌜ Promised ToldSuggestions ⌝ }
 {
-    *place = 0;
-    *choice = [0, 0, 0];
-    match engine::suggest(table, hall) {
-        SuggestAnswer::Suggested(entry) => {
-            *choice = choice_of(entry);
-            0
-        }
-        SuggestAnswer::Still => 0,
-        SuggestAnswer::Refused { number, place: at } => {
-            *place = at;
-            number
-        }
-    }
+    answers::tell_suggestion(call_suggest::suggest(table, hall), choice, place)
 }
 
 // Writes the printed run of an input, a table and the choices behind it, and sets its length. There is nothing to
@@ -285,18 +153,8 @@ pub extern "C" fn ruonfidd_report(input: &[u8], output: &mut [u8; OUTPUT], lengt
         (now (length .exit)) ⌝ }
     ensures short { λ _. ⌜ now (length .exit) ≤ linesMost ⌝ }
 {
-    let written = report::report(input, output);
+    let written = print_report::report(input, output);
     *length = written;
-}
-
-// Whether the two bytes of a shortage tell one. Only 0 0 tell none, so that no two pairs have the same sentence.
-fn tells_shortage(tray: u8, by: u8) -> bool
-    ensures { λ r. ⌜ r ≡ tellsShort tray by ⌝ }
-{
-    if tray != 0 {
-        return true;
-    }
-    by != 0
 }
 
 // Writes the sentence of a choice and its answer to the front of a buffer, whose other bytes are left: 0, and its
@@ -318,9 +176,10 @@ pub extern "C" fn ruonfidd_sentence(
     ensures { λ r. ⌜ SentenceAnswered
         (sentenceCall kind position node (replyFrom moved number tray by) (now (buffer .entry)))
         r (now (length .entry)) (now (length .exit)) (now (buffer .exit)) ⌝ }
+    ensures promised { λ _. ⌜ Promised ToldSentences ⌝ }
 {
-    let short = tells_shortage(tray, by);
-    match sentences::sentence(
+    let short = answers::tells_shortage(tray, by);
+    let answer = print_sentence::sentence(
         kind,
         position,
         node,
@@ -330,14 +189,6 @@ pub extern "C" fn ruonfidd_sentence(
         tray,
         by,
         buffer,
-    ) {
-        SentenceAnswer::Told { length: bytes } => {
-            *length = bytes;
-            0
-        }
-        SentenceAnswer::Refused {
-            number: refusal,
-            place: _,
-        } => refusal,
-    }
+    );
+    answers::tell_sentence(answer, length)
 }

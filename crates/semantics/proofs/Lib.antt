@@ -1,6 +1,6 @@
 -- The worked examples, computed.
 pub mod Examples
-pub mod MovesWorked
+pub mod MoveExamples
 pub mod EdgeExamples
 pub mod GainExamples
 pub mod SuggestionExamples

@@ -21,7 +21,7 @@ use Rattle.semantics.specs.Definitions.Table.{Table, accepted, refusedAt
 use Rattle.semantics.specs.Definitions.Logs.{firstReadable}
 use Rattle.semantics.specs.Definitions.Configuration.{Component, Configuration, opening}
 use Rattle.semantics.specs.Definitions.Stored.{WellFormed, bytesOf, configurationOf}
-use Rattle.semantics.specs.Definitions.Moves.{Entry, act, moved, answerTo}
+use Rattle.semantics.specs.Definitions.Moves.{Entry, act, moved, transition}
 use Rattle.semantics.specs.Definitions.Run.{Counters, InBytes, Quiescent, entryBytes, scheduleBytes, schedule, entries, run, Step, steps, finalConfiguration}
 use Rattle.semantics.specs.Definitions.AtomicRun.{atomicStart, atomicRun}
 use Rattle.semantics.specs.Definitions.Calls.{admission, admitted, notAdmitted, openHall, Buffers, runCall, Call}
@@ -75,7 +75,7 @@ use Rattle.semantics.specs.Checks.TurnExamples.{TurnExamples}
 unfoldable pub Promised : Type 0 → Type 0
 Promised claims = claims
 
--- ---- a table (table::check_table)
+-- ---- a table (table_read::check_table)
 
 pub record OnTables : Type 0 where
   pub read-as-stated : ReadAsStated
@@ -90,7 +90,7 @@ pub record OnTables : Type 0 where
   pub longest-branch : LongestBranch
   pub measure-examples : MeasureExamples
 
--- ---- a stored hall (engine::check_hall)
+-- ---- a stored hall (call_check::check_hall)
 
 pub record OnHalls : Type 0 where
   pub hall-numbers : HallNumbers
@@ -108,7 +108,7 @@ pub record OnHalls : Type 0 where
   pub halls-read-to-their-end : HallsReadToTheirEnd
   pub stored-examples : StoredExamples
 
--- ---- an opening (engine::open_hall, engine::opening_turn)
+-- ---- an opening (call_open::open_hall, call_turn::opening_turn)
 
 pub record OnOpenings : Type 0 where
   pub open-numbers : OpenNumbers
@@ -129,7 +129,7 @@ pub record OnTurns : Type 0 where
   pub turns-refused-as-checked : TurnsRefusedAsChecked
   pub turn-examples : TurnExamples
 
--- ---- choices (engine::run): the moves as printed, demand 2, demand 3, and the rows
+-- ---- choices (call_run::run): the moves as printed, demand 2, demand 3, and the rows
 
 pub record OnMoves : Type 0 where
   pub moves-as-stated : MovesAsStated
@@ -199,7 +199,7 @@ pub record OnRuns : Type 0 where
   pub edge-examples : EdgeExamples
   pub long-examples : LongExamples
 
--- ---- a step (engine::step), and what was short
+-- ---- a step (call_step::step), and what was short
 
 pub record OnSteps : Type 0 where
   pub step-calls-as-stated : StepCallsAsStated
@@ -217,7 +217,7 @@ pub record OnSteps : Type 0 where
   pub shortages-are-small : ShortagesAreSmall
   pub shortage-examples : ShortageExamples
 
--- ---- a suggestion (engine::suggest)
+-- ---- a suggestion (call_suggest::suggest)
 
 pub record OnSuggestions : Type 0 where
   pub suggested-is-first : SuggestedIsFirst
@@ -229,7 +229,7 @@ pub record OnSuggestions : Type 0 where
   pub refused-as-checked : RefusedAsChecked
   pub suggestion-examples : SuggestionExamples
 
--- ---- a sentence (sentences::sentence)
+-- ---- a sentence (print_sentence::sentence)
 
 pub record OnSentences : Type 0 where
   pub sentences-are-short : SentencesAreShort
@@ -245,7 +245,7 @@ pub record OnSentences : Type 0 where
   pub sentence-in-bytes : SentenceInBytes
   pub calls-worked : CallsWorked
 
--- ---- a printed run (report::report)
+-- ---- a printed run (print_report::report)
 
 pub record OnPrintedRuns : Type 0 where
   pub table-found : TableFound
@@ -276,7 +276,7 @@ pub record EveryClaim : Type 0 where
   pub on-printed-runs : OnPrintedRuns
 
 -- ---- the demands at their plainest, in the words of the claims and without the claims: a record of another sort, which
--- the others give (proofs/Promises), so that none of the claims it is taken from can be emptied as a whole. engine::run
+-- the others give (proofs/Promises), so that none of the claims it is taken from can be emptied as a whole. call_run::run
 -- cites it too. That every call ends has no claim: every definition ends, and so does every function that is proved
 pub record Demands : Type 0 where
   -- demand 1: every table is accepted, or refused with a number and a place, for a reason; so is every hall, and every
@@ -305,7 +305,7 @@ pub record Demands : Type 0 where
       WellFormed (t .terms) (opening t)
   pub choices-reduce : (table : List ℕ) (t : Table) → Bytes table → readTable table ≡ accepted t →
       (h : Configuration) → WellFormed (t .terms) h →
-      (e : Entry) (r : Rule) (g : Configuration) → answerTo h e ≡ moved r g →
+      (e : Entry) (r : Rule) (g : Configuration) → transition h e ≡ moved r g →
       (P : Process) → Denotes P (h .components) →
       (P′ : Process) × Reduces AnyOrder (by r) P (h .counts) P′ (g .counts) × Denotes P′ (g .components) ×
       WithinLimits (by r) (h .counts) P′ (g .counts) × WellFormed (t .terms) g
@@ -314,14 +314,14 @@ pub record Demands : Type 0 where
       (h : Configuration) → WellFormed (t .terms) h → (P : Process) → Denotes P (h .components) →
       (r : Rule) (P′ : Process) (σ′ : State) → Reduces LogOrder (by r) P (h .counts) P′ σ′ →
       WithinLimits (by r) (h .counts) P′ σ′ →
-      (e : Entry) × (g : Configuration) × InBytes e × (answerTo h e ≡ moved r g) × (g .counts ≡ σ′) ×
+      (e : Entry) × (g : Configuration) × InBytes e × (transition h e ≡ moved r g) × (g .counts ≡ σ′) ×
       Denotes P′ (g .components)
   pub handovers-chosen : (table : List ℕ) (t : Table) → Bytes table → readTable table ≡ accepted t →
       (h : Configuration) → WellFormed (t .terms) h → (P : Process) → Denotes P (h .components) →
       (a : Name) (P′ : Process) (σ′ : State) → Reduces LogOrder (COM a) P (h .counts) P′ σ′ →
       WithinLimits (COM a) (h .counts) P′ σ′ →
       (e : Entry) × (f : Configuration) × (d : Entry) × (r : Rule) × (g : Configuration) × InBytes e × InBytes d ×
-      (answerTo h e ≡ moved (OUT a) f) × (answerTo f d ≡ moved r g) × (g .counts ≡ σ′) × Denotes P′ (g .components)
+      (transition h e ≡ moved (OUT a) f) × (transition f d ≡ moved r g) × (g .counts ≡ σ′) × Denotes P′ (g .components)
   -- what is suggested is done by a run, and still is said exactly of a hall that is admitted and on which no choice in
   -- bytes is accepted
   pub suggestions-run : (table : List ℕ) (l : Buffers) (e : Entry) → suggestCall table (l .hall) ≡ suggested e →

@@ -26,12 +26,12 @@ use mathlib.Core.Option.{bind}
 use Rattle.semantics.specs.Definitions.Table.{Table}
 use Rattle.semantics.specs.Definitions.Shortage.{Shortage}
 use Rattle.semantics.specs.Definitions.Configuration.{Idle, repeating, block, output, Component, idle, transaction, Configuration, opens, opening}
-use Rattle.semantics.specs.Definitions.Moves.{Entry, act, inside, moved, answerTo, moves, ruleNumber}
+use Rattle.semantics.specs.Definitions.Moves.{Entry, act, inside, moved, transition, moves, ruleNumber}
 use Rattle.semantics.specs.Definitions.Run.{Counters, counted, Step, steps}
 use Rattle.semantics.specs.Claims.NumberedRun.{Numbered, numberedStart, numberedStep, attemptOf, Member, members, aborts, passing, aborted, withoutAborted, effects}
-use Rattle.theorems.proofs.Reading.{or-false}
+use Rattle.theorems.proofs.ByteReads.{or-false}
 use Rattle.theorems.proofs.Lists.{none-found, found-map, map-replaceAt, replaceAt-same}
-use Rattle.theorems.proofs.Moves.{positionOf, localMove, accepted-made}
+use Rattle.theorems.proofs.Moves.{positionOf, componentAnswer, accepted-made}
 use Rattle.theorems.proofs.Runs.{Runs, rested, ran, tallied}
 use Rattle.theorems.proofs.Simulation.{Live, rests, tries, component, noted, Stepped, put, took, repeated, began, retried, failed, committed, evolved, Paced, paced-step, opening-paced}
 
@@ -47,7 +47,7 @@ data Trace : ℕ → Configuration → List Live → List Member → Configurati
   ended : {j : ℕ} {h : Configuration} {zs : List Live} → h .components ≡ map component zs → Trace j h zs [] h zs
   next : {j : ℕ} {h f g : Configuration} {zs ws : List Live} {ms : List Member} (e : Entry) (r : Rule) (w : Shortage) (z : Live) (laid : List Live) →
       getElem? zs (positionOf e) ≡ some z → Stepped (h .counts) j z e r (f .counts) laid →
-      localMove (h .counts) (component z) e ≡ moves r w (f .counts) (map component laid) →
+      componentAnswer (h .counts) (component z) e ≡ moves r w (f .counts) (map component laid) →
       length (replaceAt (positionOf e) laid zs) ≤ 64 →
       Trace (suc j) f (replaceAt (positionOf e) laid zs) ms g ws →
       Trace j h zs (record { step = record { chosen = e; rule = r; before = h; result = f }; attempt = attempt j z } ∷ ms) g ws
@@ -254,10 +254,10 @@ stepped-skipped L (evolved p k i n M s u w x m late) q quiet = (_, refl, rw q, r
 module _ (L : List ℕ) (h f : Configuration) (zs : List Live) (e : Entry) (r : Rule) (z : Live) (laid : List Live)
     (found : getElem? zs (positionOf e) ≡ some z) where
   -- so it is accepted without them too
-  choose-kept : (w : Shortage) → localMove (h .counts) (component z) e ≡ moves r w (f .counts) (map component laid) →
+  choose-kept : (w : Shortage) → componentAnswer (h .counts) (component z) e ≡ moves r w (f .counts) (map component laid) →
       length (replaceAt (positionOf e) laid zs) ≤ 64 →
       (clear L z ≡ component z) × (map (clear L) laid ≡ map component laid) →
-      answerTo (cleared L h zs) e ≡ moved r (cleared L f (replaceAt (positionOf e) laid zs))
+      transition (cleared L h zs) e ≡ moved r (cleared L f (replaceAt (positionOf e) laid zs))
   choose-kept w local fits k =
       let p : ℕ = positionOf e in
       let both = map-replaceAt (clear L) zs laid p in
@@ -311,7 +311,7 @@ counted-spares r c five six = (rw six, rw five)
 
 -- a step that is kept
 kept-on : (h f : Configuration) (e : Entry) (r : Rule) (es : List Entry) (g b o : Configuration) (ss : List Step) →
-    answerTo h e ≡ moved r f → aborts r ≡ false →
+    transition h e ≡ moved r f → aborts r ≡ false →
     KeptFrom f es g ss → KeptFrom h (e ∷ es) g (record { chosen = e; rule = r; before = b; result = o } ∷ ss)
 unfolding steps effects tallied passing aborts
 kept-on h f e r es g b o ss q spares k =

@@ -20,7 +20,7 @@ use Rattle.semantics.specs.Definitions.Configuration.{Component, Configuration}
 use Rattle.semantics.specs.Definitions.Stored.{WellFormed}
 use Rattle.semantics.specs.Claims.Denotation.{componentProcess, Denotes, nothing, alone, beside}
 use Rattle.semantics.specs.Checks.AcceptedTables.{GoodTable}
-use Rattle.semantics.specs.Definitions.Moves.{Entry, moved, answerTo, ruleNumber}
+use Rattle.semantics.specs.Definitions.Moves.{Entry, moved, transition, ruleNumber}
 use Rattle.semantics.specs.Definitions.Run.{ScheduleItem, entries, Counters, countedAt, counted, net, RunAnswer, runFrom, run, schedule, Step, steps}
 use Rattle.semantics.specs.Claims.Correspondence.{OneReduction}
 use Rattle.semantics.specs.Claims.Accounts.{adds, removes, total, byRule, Accounts, WithinTop, RunAccounts, CallsAccounts}
@@ -76,7 +76,7 @@ standing (c ∷ cs) = let i = standing cs in (par (componentProcess c) (i .0), b
 
 -- every accepted choice keeps the balance of every channel
 choice-balance : {ts : List Term} {h : Configuration} (e : Entry) {r : Rule} {g : Configuration} (x : Name) → WellFormed ts h →
-    answerTo h e ≡ moved r g → count (g .counts) x + removes x r ≡ count (h .counts) x + adds x r
+    transition h e ≡ moved r g → count (g .counts) x + removes x r ≡ count (h .counts) x + adds x r
 unfolding OneReduction
 choice-balance {ts} {h} e {r} {g} x ok q =
     let p = standing (h .components) in

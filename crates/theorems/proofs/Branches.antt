@@ -18,7 +18,7 @@ use Rattle.semantics.specs.Definitions.Terms.{Expression, endT, retryT, rdT, wt
 use Rattle.semantics.specs.Definitions.Logs.{paths, readable, firstReadable}
 use Rattle.semantics.specs.Checks.Branches.{Finish, inEnd, inRetry, Side, onLeft, onRight, Branch, at-end, at-retry, after-read, after-write, in-left, in-right, LeftOf, parts, parts-later, BranchesStandInOrder, Told, LeftToRight, ending, endings, BranchesAndPaths, LongestBranch, FirstReadableIsLeftmost}
 use Rattle.theorems.proofs.Lists.{all-at, none-found, all-append, all-map, all-every, all-weaken, found-map, found-stays, found-right}
-use Rattle.theorems.proofs.Readable.{readable-included, unreadable-not-included}
+use Rattle.theorems.proofs.ReadableLogs.{readable-included, unreadable-not-included}
 
 -- ---- the order
 

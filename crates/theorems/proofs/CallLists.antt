@@ -9,7 +9,7 @@ use lib.ListN.{length, take, length-append, length-take}
 use Rattle.calculus.specs.Reduction.{Rule}
 use Rattle.semantics.specs.Definitions.Configuration.{Configuration}
 use Rattle.semantics.specs.Definitions.Stored.{WellFormed, bytesOf}
-use Rattle.semantics.specs.Definitions.Moves.{Entry, act, inside, Answer, moved, refused, answerTo}
+use Rattle.semantics.specs.Definitions.Moves.{Entry, act, inside, Transition, moved, refused, transition}
 use Rattle.semantics.specs.Definitions.Run.{Counters, counted, ScheduleItem, entry, malformed, schedule, entries, RunAnswer, continueRun, runFrom, run}
 use Rattle.semantics.specs.Definitions.Calls.{Buffers, Call, stepBytes, callBytes, Admission, admitted, notAdmitted, admission, runResult, runAdmitted, runCall, callAnswer, callEntries, afterCalls, entriesDone}
 use Rattle.semantics.specs.Claims.Atomicity.{answers, initialBuffers, finalBuffers}
@@ -51,9 +51,9 @@ run-from-few : (items : List ScheduleItem) (h : Configuration) (c : Counters) (p
 unfolding runFrom entries
 run-from-few [] h c p d = omega arith
 run-from-few (malformed n ∷ items) h c p d = omega arith
-run-from-few (entry e w ∷ items) h c p d = go (answerTo h e) (λ g k. run-from-few items g k (p + w) (suc d))
+run-from-few (entry e w ∷ items) h c p d = go (transition h e) (λ g k. run-from-few items g k (p + w) (suc d))
   where
-    go : (a : Answer) → ((g : Configuration) (k : Counters) → (runFrom g k (p + w) (suc d) items) .done ≤ suc d + length (entries items)) →
+    go : (a : Transition) → ((g : Configuration) (k : Counters) → (runFrom g k (p + w) (suc d) items) .done ≤ suc d + length (entries items)) →
         (continueRun a (λ n. record { number = n; place = p; done = d; configuration = h; counters = c }) (λ r g. runFrom g (counted r c) (p + w) (suc d) items))
         .done ≤ d + suc (length (entries items))
     go (moved r g) rest = let z = rest g (counted r c) in omega arith
@@ -112,7 +112,7 @@ entry-append : (h : Configuration) (c : Counters) (p d : ℕ) (e : Entry) (w : �
     (runFrom h c p d (entry e w ∷ items)) .number ≡ 0 →
     runFrom h c p d (entry e w ∷ all) ≡ goesOn (runFrom h c p d (entry e w ∷ items)) behind
 unfolding runFrom
-entry-append h c p d e w items all behind rest = go (answerTo h e) (choose-high h e)
+entry-append h c p d e w items all behind rest = go (transition h e) (choose-high h e)
   where
     stopped : ℕ → RunAnswer
     stopped n = record { number = n; place = p; done = d; configuration = h; counters = c }
@@ -120,7 +120,7 @@ entry-append h c p d e w items all behind rest = go (answerTo h e) (choose-high 
     over : List ScheduleItem → Rule → Configuration → RunAnswer
     over is r g = runFrom g (counted r c) (p + w) (suc d) is
 
-    go : (a : Answer) → AnswerHigh a → (continueRun a stopped (over items)) .number ≡ 0 →
+    go : (a : Transition) → AnswerHigh a → (continueRun a stopped (over items)) .number ≡ 0 →
         continueRun a stopped (over all) ≡ goesOn (continueRun a stopped (over items)) behind
     go (moved r g) high z = rest g (counted r c) z
     go (refused n) high z = absurd (omega arith)
@@ -150,9 +150,9 @@ run-shifted : (items : List ScheduleItem) (h : Configuration) (c : Counters) (q 
 unfolding runFrom
 run-shifted [] h c q n p d = refl
 run-shifted (malformed m ∷ items) h c q n p d = refl
-run-shifted (entry e w ∷ items) h c q n p d = go (answerTo h e) (λ g k. run-shifted items g k q n (p + w) (suc d))
+run-shifted (entry e w ∷ items) h c q n p d = go (transition h e) (λ g k. run-shifted items g k q n (p + w) (suc d))
   where
-    go : (a : Answer) →
+    go : (a : Transition) →
         ((g : Configuration) (k : Counters) → runFrom g k (q + (p + w)) (n + suc d) items ≡ shifted q n (runFrom g k (p + w) (suc d) items)) →
         continueRun a (λ m. record { number = m; place = q + p; done = n + d; configuration = h; counters = c })
         (λ r g. runFrom g (counted r c) ((q + p) + w) (suc (n + d)) items)

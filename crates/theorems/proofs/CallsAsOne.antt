@@ -22,7 +22,7 @@ use Rattle.semantics.specs.Definitions.Shortage.{enough}
 use Rattle.semantics.specs.Definitions.Logs.{shortage, readable, addToken, takeToken}
 use Rattle.semantics.specs.Definitions.Configuration.{Idle, taking, repeating, block, output, Tree, leaf, fork, Component, idle, transaction, Configuration, opening, opens}
 use Rattle.semantics.specs.Definitions.Stored.{WellFormed, hallBytes, bytesOf}
-use Rattle.semantics.specs.Definitions.Moves.{Entry, act, inside, Answer, moved, refused, Response, does, refuses, applyAt, atPosition, answerOf, answerTo, LocalAnswer, moves, blocked, takes, puts, ends, acts, actsInside, Inner, evolves, noRule, outOfRange, inner, innerLocal}
+use Rattle.semantics.specs.Definitions.Moves.{Entry, act, inside, Transition, moved, refused, EntryAnswer, does, refuses, applyAt, atPosition, transitionOf, transition, ComponentAnswer, moves, blocked, takes, puts, ends, acts, actsInside, NodeAnswer, evolves, noRule, outOfRange, moveAt, insideAnswer}
 use Rattle.semantics.specs.Definitions.Run.{ScheduleItem, entry, malformed, schedule, entries, Counters, counted, RunAnswer, continueRun, runFrom, run, steps}
 use Rattle.semantics.specs.Definitions.Calls.{admitted, formTested, sizeTested, tableTested, admission, openSized, openTested, openHall, Buffers, RunCall, runResult, runAdmitted, runCall, Call, callBytes, callAnswer, afterCalls, callEntries, entriesDone}
 use Rattle.semantics.specs.Claims.Correspondence.{AcceptsTable}
@@ -36,17 +36,17 @@ use Rattle.theorems.proofs.Runs.{Runs, rested, ran, runs-append, runs-k
 -- ---- refusals of choices are 12 and above
 
 -- a refusal by a component's move is 12 or above
-abbrev pub LocalHigh : LocalAnswer → Type 0
-LocalHigh (moves r w σ cs) = Unit {0}
-LocalHigh (blocked n) = 12 ≤ n
+abbrev pub ComponentAnswerHigh : ComponentAnswer → Type 0
+ComponentAnswerHigh (moves r w σ cs) = Unit {0}
+ComponentAnswerHigh (blocked n) = 12 ≤ n
 
 -- a refusal of a choice
-abbrev pub AnswerHigh : Answer → Type 0
+abbrev pub AnswerHigh : Transition → Type 0
 AnswerHigh (moved r g) = Unit {0}
 AnswerHigh (refused n) = 12 ≤ n
 
-abbrev ResponseHigh : Response → Type 0
-ResponseHigh x = AnswerHigh (answerOf x)
+abbrev EntryAnswerHigh : EntryAnswer → Type 0
+EntryAnswerHigh x = AnswerHigh (transitionOf x)
 
 -- a refusal of a schedule's bytes
 abbrev pub ItemHigh : ScheduleItem → Type 0
@@ -54,29 +54,29 @@ ItemHigh (entry e w) = Unit {0}
 ItemHigh (malformed n) = 12 ≤ n
 
 -- IN and REP
-takes-high : (σ : State) (a : Name) (r : Rule) (cs : List Idle) → LocalHigh (takes σ a r cs)
+takes-high : (σ : State) (a : Name) (r : Rule) (cs : List Idle) → ComponentAnswerHigh (takes σ a r cs)
 unfolding takes
 takes-high σ a r cs = go (eqb (count σ a) 0)
   where
-    go : (b : Bool) → LocalHigh (cond b (blocked 18) (moves r enough (takeToken σ a) (map idle cs)))
+    go : (b : Bool) → ComponentAnswerHigh (cond b (blocked 18) (moves r enough (takeToken σ a) (map idle cs)))
     go true = omega arith
     go false = tt
 
 -- OUT
-puts-high : (σ : State) (a : Name) → LocalHigh (puts σ a)
+puts-high : (σ : State) (a : Name) → ComponentAnswerHigh (puts σ a)
 unfolding puts
 puts-high σ a = go (leb 255 (count σ a))
   where
-    go : (b : Bool) → LocalHigh (cond b (blocked 20) (moves (OUT a) enough (addToken σ a) []))
+    go : (b : Bool) → ComponentAnswerHigh (cond b (blocked 20) (moves (OUT a) enough (addToken σ a) []))
     go true = omega arith
     go false = tt
 
 -- at an attempt's nodes
-ends-high : (σ : State) (n : ℕ) (M : Expression) (t : Tree) → LocalHigh (ends σ n M t)
+ends-high : (σ : State) (n : ℕ) (M : Expression) (t : Tree) → ComponentAnswerHigh (ends σ n M t)
 unfolding ends
 ends-high σ n M (leaf (endT e) δ) = go (readable σ δ)
   where
-    go : (b : Bool) → LocalHigh
+    go : (b : Bool) → ComponentAnswerHigh
         (cond b (moves (ATOK δ) enough (without σ (RD δ)) (map (λ a. idle (output a)) (WT δ))) (moves ATFAIL (shortage σ δ) σ (idle (block n M) ∷ [])))
     go true = tt
     go false = tt
@@ -87,7 +87,7 @@ ends-high σ n M (leaf (orElseT e N N′) δ) = omega arith
 ends-high σ n M (fork l r) = omega arith
 
 -- kind 1
-acts-high : (σ : State) (c : Component) → LocalHigh (acts σ c)
+acts-high : (σ : State) (c : Component) → ComponentAnswerHigh (acts σ c)
 unfolding acts
 acts-high σ (idle (taking n a P)) = takes-high σ a _ (opens P)
 acts-high σ (idle (repeating n a P)) = takes-high σ a _ (opens P ++ (repeating n a P ∷ []))
@@ -96,37 +96,37 @@ acts-high σ (idle (output a)) = puts-high σ a
 acts-high σ (transaction n M s t) = ends-high σ n M t
 
 -- kind 2
-inside-high : (σ : State) (c : Component) (k : ℕ) → LocalHigh (actsInside σ c k)
-unfolding actsInside innerLocal
+inside-high : (σ : State) (c : Component) (k : ℕ) → ComponentAnswerHigh (actsInside σ c k)
+unfolding actsInside insideAnswer
 inside-high σ (idle c) k = omega arith
-inside-high σ (transaction n M s t) k = go (inner s t k)
+inside-high σ (transaction n M s t) k = go (moveAt s t k)
   where
-    go : (i : Inner) → LocalHigh (innerLocal σ n M s i)
+    go : (i : NodeAnswer) → ComponentAnswerHigh (insideAnswer σ n M s i)
     go (evolves r w u) = tt
     go noRule = omega arith
     go outOfRange = omega arith
 
 -- at a position
-settles-high : (p : ℕ) (l : LocalAnswer) (h : Configuration) → LocalHigh l → ResponseHigh (applyAt p l h)
-unfolding applyAt answerOf
+settles-high : (p : ℕ) (l : ComponentAnswer) (h : Configuration) → ComponentAnswerHigh l → EntryAnswerHigh (applyAt p l h)
+unfolding applyAt transitionOf
 settles-high p (blocked n) h i = i
 settles-high p (moves r w σ cs) h i = go (leb (length (replaceAt p cs (h .components))) 64)
   where
-    go : (b : Bool) → ResponseHigh (cond b (does r w (record { counts = σ; components = replaceAt p cs (h .components) })) (refuses 19))
+    go : (b : Bool) → EntryAnswerHigh (cond b (does r w (record { counts = σ; components = replaceAt p cs (h .components) })) (refuses 19))
     go true = tt
     go false = omega arith
 
 -- of any choice
-pub choose-high : (h : Configuration) (e : Entry) → AnswerHigh (answerTo h e)
-unfolding answerTo answerOf
+pub choose-high : (h : Configuration) (e : Entry) → AnswerHigh (transition h e)
+unfolding transition transitionOf
 choose-high h (act p) = go (getElem? (h .components) p)
   where
-    go : (o : Option Component) → ResponseHigh (atPosition o (λ c. applyAt p (acts (h .counts) c) h))
+    go : (o : Option Component) → EntryAnswerHigh (atPosition o (λ c. applyAt p (acts (h .counts) c) h))
     go none = omega arith
     go (some c) = settles-high p (acts (h .counts) c) h (acts-high (h .counts) c)
 choose-high h (inside p k) = go (getElem? (h .components) p)
   where
-    go : (o : Option Component) → ResponseHigh (atPosition o (λ c. applyAt p (actsInside (h .counts) c k) h))
+    go : (o : Option Component) → EntryAnswerHigh (atPosition o (λ c. applyAt p (actsInside (h .counts) c k) h))
     go none = omega arith
     go (some c) = settles-high p (actsInside (h .counts) c k) h (inside-high (h .counts) c k)
 
@@ -161,9 +161,9 @@ run-from-tells : (items : List ScheduleItem) → All ItemHigh items → (h : Con
 unfolding runFrom entries steps tallied
 run-from-tells [] high h c p d = record { more = 0; done = omega arith; runs = rested; tally = refl; number = inl refl }
 run-from-tells (malformed n ∷ items) high h c p d = record { more = 0; done = omega arith; runs = rested; tally = refl; number = inr (high .0) }
-run-from-tells (entry e w ∷ items) high h c p d = go (answerTo h e) refl (choose-high h e) (λ g k. run-from-tells items (high .1) g k (p + w) (suc d))
+run-from-tells (entry e w ∷ items) high h c p d = go (transition h e) refl (choose-high h e) (λ g k. run-from-tells items (high .1) g k (p + w) (suc d))
   where
-    go : (a : Answer) → answerTo h e ≡ a → AnswerHigh a → ((g : Configuration) (k : Counters) → RunTells g k (suc d) items (runFrom g k (p + w) (suc d) items)) →
+    go : (a : Transition) → transition h e ≡ a → AnswerHigh a → ((g : Configuration) (k : Counters) → RunTells g k (suc d) items (runFrom g k (p + w) (suc d) items)) →
         RunTells h c d (entry e w ∷ items)
         (continueRun a (λ n. record { number = n; place = p; done = d; configuration = h; counters = c }) (λ r g. runFrom g (counted r c) (p + w) (suc d) items))
     go (moved r g) q i rest =

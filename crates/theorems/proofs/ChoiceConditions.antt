@@ -21,14 +21,14 @@ use Rattle.semantics.specs.Definitions.Terms.{Expression, endT, retryT, rdT, wt
 use Rattle.semantics.specs.Definitions.Shortage.{Shortage, enough}
 use Rattle.semantics.specs.Definitions.Logs.{emptyLog, shortage, readable, takeToken, addToken}
 use Rattle.semantics.specs.Definitions.Configuration.{Idle, taking, repeating, block, output, Tree, leaf, fork, Component, idle, transaction, Configuration, opens, nodes, preorder}
-use Rattle.semantics.specs.Definitions.Moves.{Entry, act, inside, moves, blocked, takes, puts, commits, ends, acts, Inner, evolves, noRule, outOfRange, reads, atLeaf, atFork, atNode, inner, innerLocal, actsInside, Response, does, refuses, Answer, moved, refused, applyAt, atPosition, respondTo, answerOf, answerTo, isMoved, isAccepted}
+use Rattle.semantics.specs.Definitions.Moves.{Entry, act, inside, moves, blocked, takes, puts, commits, ends, acts, NodeAnswer, evolves, noRule, outOfRange, reads, atLeaf, atFork, atNode, moveAt, insideAnswer, actsInside, EntryAnswer, does, refuses, Transition, moved, refused, applyAt, atPosition, entryAnswer, transitionOf, transition, isMoved, isAccepted}
 use Rattle.semantics.specs.Claims.ConverseRuns.{EmptyChannel, TooManyComponents, FullChannel}
 use Rattle.semantics.specs.Claims.InnerMoves.{Settled}
 use Rattle.semantics.specs.Checks.Conditions.{FirstCondition, NoRuleAtNode, ChoiceCondition, no-station, no-station-inside, unsettled, no-attempt, no-node, no-rule-there, in-empty, rep-empty, in-many, rep-many, commit-many, out-full, ChoiceNumbers}
 use Rattle.theorems.proofs.Walk.{length-preorder, node-left, node-right, inLeft, inRight, node-induction}
 use Rattle.theorems.proofs.Lists.{none-past, found-below, length-replaceAt}
-use Rattle.theorems.proofs.Readable.{readable-included, unreadable-not-included}
-use Rattle.theorems.proofs.Reading.{by-cases}
+use Rattle.theorems.proofs.ReadableLogs.{readable-included, unreadable-not-included}
+use Rattle.theorems.proofs.ByteReads.{by-cases}
 
 -- ---- an answer with its reason
 
@@ -38,22 +38,22 @@ module _ (C : ℕ → Type 0) where
   first-unique m n f g = elim (decLt m n) [ yes h ↦ absurd (g .1 m h (f .0)) | no h ↦ elim (decLt n m) [ yes k ↦ absurd (f .1 n k (g .0)) | no k ↦ omega arith ] ]
 
   -- no condition holds of what moved, and a refusal's number is the first that does
-  abbrev pub Reason : Answer → Type 0
+  abbrev pub Reason : Transition → Type 0
   Reason (moved r h) = (n : ℕ) → C n → ⊥
   Reason (refused n) = FirstCondition C n
 
-  -- the same of a response
-  abbrev pub Because : Response → Type 0
+  -- the same of the answer to an entry
+  abbrev pub Because : EntryAnswer → Type 0
   Because (does r w h) = (n : ℕ) → C n → ⊥
   Because (refuses n) = FirstCondition C n
 
-  answer-because : (x : Response) → Because x → Reason (answerOf x)
-  unfolding answerOf
+  answer-because : (x : EntryAnswer) → Because x → Reason (transitionOf x)
+  unfolding transitionOf
   answer-because (does r w h) f = f
   answer-because (refuses n) f = f
 
   -- an answer with its reason is decided by the conditions
-  decided : (a : Answer) → Reason a → ((n : ℕ) → (a ≡ refused n) ↔ FirstCondition C n) × ((isMoved a ≡ true) ↔ ((n : ℕ) → C n → ⊥))
+  decided : (a : Transition) → Reason a → ((n : ℕ) → (a ≡ refused n) ↔ FirstCondition C n) × ((isMoved a ≡ true) ↔ ((n : ℕ) → C n → ⊥))
   unfolding isMoved
   decided (moved r h) f = (λ n. (λ e. absurd (let z : _≡_ {A = ℕ} 0 1 = cc in omega arith), λ g. absurd (f n (g .0))), (λ _. f, λ _. refl))
   decided (refused m) f = (λ n. (λ e. subst (FirstCondition C) (same n e) f, λ g. ap refused (first-unique m n f g)), (λ z. absurd (false≢true z), λ g. absurd (g m (f .0))))
@@ -197,28 +197,28 @@ module _ (h : Configuration) (p : ℕ) where
 -- ---- kind 2
 
 -- where a move inside goes: past the tree, at a node at rest, or at one that is not
-abbrev InnerReason : Tree → ℕ → Inner → Type 0
-InnerReason t k (evolves r w v) = (k < nodes t) × ((u : Tree) → getElem? (preorder t) k ≡ some u → ¬ NoRuleAtNode u)
-InnerReason t k noRule = (u : Tree) × (getElem? (preorder t) k ≡ some u) × NoRuleAtNode u
-InnerReason t k outOfRange = nodes t ≤ k
+abbrev NodeAnswerReason : Tree → ℕ → NodeAnswer → Type 0
+NodeAnswerReason t k (evolves r w v) = (k < nodes t) × ((u : Tree) → getElem? (preorder t) k ≡ some u → ¬ NoRuleAtNode u)
+NodeAnswerReason t k noRule = (u : Tree) × (getElem? (preorder t) k ≡ some u) × NoRuleAtNode u
+NodeAnswerReason t k outOfRange = nodes t ≤ k
 
 -- a node that is the first of its tree
 first-node : (t u : Tree) → NoRuleAtNode u → t ≡ u → NoRuleAtNode t
 first-node t u h e = rw e h
 
 -- at the first node: a leaf, a fork
-leaf-reason : (s : State) (M : Expression) (δ : Log) → InnerReason (leaf M δ) 0 (atLeaf s M δ)
+leaf-reason : (s : State) (M : Expression) (δ : Log) → NodeAnswerReason (leaf M δ) 0 (atLeaf s M δ)
 unfolding atLeaf preorder nodes reads
 leaf-reason s (endT n) δ = (leaf (endT n) δ, refl, tt)
 leaf-reason s (retryT n) δ = (leaf (retryT n) δ, refl, tt)
 leaf-reason s (rdT n a M) δ =
-    let moves : (r : Rule) (w : Shortage) (v : Tree) → InnerReason (leaf (rdT n a M) δ) 0 (evolves r w v) = λ r w v. (omega arith, λ u e h. first-node (leaf (rdT n a M) δ) u h (cc)) in
-    by-cases (InnerReason (leaf (rdT n a M) δ) 0) (readable s (δ ++ (rd a ∷ []))) (evolves ARDOK enough (leaf M (δ ++ (rd a ∷ [])))) (evolves ARDF (shortage s (δ ++ (rd a ∷ []))) (leaf (retryT 255) δ))
+    let moves : (r : Rule) (w : Shortage) (v : Tree) → NodeAnswerReason (leaf (rdT n a M) δ) 0 (evolves r w v) = λ r w v. (omega arith, λ u e h. first-node (leaf (rdT n a M) δ) u h (cc)) in
+    by-cases (NodeAnswerReason (leaf (rdT n a M) δ) 0) (readable s (δ ++ (rd a ∷ []))) (evolves ARDOK enough (leaf M (δ ++ (rd a ∷ [])))) (evolves ARDF (shortage s (δ ++ (rd a ∷ []))) (leaf (retryT 255) δ))
     (λ _. moves ARDOK enough (leaf M (δ ++ (rd a ∷ [])))) (λ _. moves ARDF (shortage s (δ ++ (rd a ∷ []))) (leaf (retryT 255) δ))
 leaf-reason s (wtT n a M) δ = (omega arith, λ u e h. first-node (leaf (wtT n a M) δ) u h (cc))
 leaf-reason s (orElseT n M N) δ = (omega arith, λ u e h. first-node (leaf (orElseT n M N) δ) u h (cc))
 
-fork-reason : (l r : Tree) → InnerReason (fork l r) 0 (atFork l r)
+fork-reason : (l r : Tree) → NodeAnswerReason (fork l r) 0 (atFork l r)
 unfolding atFork preorder nodes
 fork-reason (leaf (endT n) δ) r = (omega arith, λ u e h. first-node (fork (leaf (endT n) δ) r) u h (cc) tt)
 fork-reason (leaf (retryT n) δ) r = (omega arith, λ u e h. first-node (fork (leaf (retryT n) δ) r) u h (cc) tt)
@@ -228,29 +228,29 @@ fork-reason (leaf (orElseT n M N) δ) r = (fork (leaf (orElseT n M N) δ) r, ref
 fork-reason (fork l m) r = (fork (fork l m) r, refl, λ z. z)
 
 -- a move in the right side of a fork
-right-reason : (l r : Tree) (j : ℕ) (i : Inner) → InnerReason r j i → InnerReason (fork l r) (suc (nodes l + j)) (inRight l i)
+right-reason : (l r : Tree) (j : ℕ) (i : NodeAnswer) → NodeAnswerReason r j i → NodeAnswerReason (fork l r) (suc (nodes l + j)) (inRight l i)
 unfolding inRight preorder nodes
 right-reason l r j (evolves e w v) h = (omega arith, λ u f. h .1 u (sym (node-right l r j) ∙ f))
 right-reason l r j noRule h = (h .0, node-right l r j ∙ h .1, h .2)
 right-reason l r j outOfRange h = omega arith
 
 -- and in the left side
-left-reason : (l r : Tree) (k : ℕ) → k < nodes l → (i : Inner) → InnerReason l k i → InnerReason (fork l r) (suc k) (inLeft r i)
+left-reason : (l r : Tree) (k : ℕ) → k < nodes l → (i : NodeAnswer) → NodeAnswerReason l k i → NodeAnswerReason (fork l r) (suc k) (inLeft r i)
 unfolding inLeft preorder nodes
 left-reason l r k b (evolves e w v) h = (omega arith, λ u f. h .1 u (sym (node-left l r k b) ∙ f))
 left-reason l r k b noRule h = (h .0, node-left l r k b ∙ h .1, h .2)
 left-reason l r k b outOfRange h = absurd (omega arith)
 
 -- at the root
-node-reason : (s : State) (t : Tree) → InnerReason t 0 (atNode s t)
+node-reason : (s : State) (t : Tree) → NodeAnswerReason t 0 (atNode s t)
 unfolding atNode
 node-reason s (leaf M δ) = leaf-reason s M δ
 node-reason s (fork l r) = fork-reason l r
 
 -- at any node
-inner-reason : (s : State) (t : Tree) (k : ℕ) → InnerReason t k (inner s t k)
-inner-reason s =
-    node-induction s (λ t k i. InnerReason t k i) (node-reason s) left-reason right-reason (λ t k h. h)
+move-at-reason : (s : State) (t : Tree) (k : ℕ) → NodeAnswerReason t k (moveAt s t k)
+move-at-reason s =
+    node-induction s (λ t k i. NodeAnswerReason t k i) (node-reason s) left-reason right-reason (λ t k h. h)
 
 module _ (h : Configuration) (p k : ℕ) where
   -- the conditions of a move inside at this position and node
@@ -271,19 +271,19 @@ module _ (h : Configuration) (p k : ℕ) where
 
   module _ (few : length (h .components) ≤ 64) where
     -- at an attempt: past its nodes 16, at a node at rest 17, else a move
-    inner-local-reason : (n : ℕ) (M : Expression) (s : State) (t : Tree) → getElem? (h .components) p ≡ some (transaction n M s t) → (i : Inner) →
-        InnerReason t k i → Because Inward (applyAt p (innerLocal (h .counts) n M s i) h)
-    unfolding innerLocal applyAt
-    inner-local-reason n M s t e (evolves r w v) q =
+    inside-answer-reason : (n : ℕ) (M : Expression) (s : State) (t : Tree) → getElem? (h .components) p ≡ some (transaction n M s t) → (i : NodeAnswer) →
+        NodeAnswerReason t k i → Because Inward (applyAt p (insideAnswer (h .counts) n M s i) h)
+    unfolding insideAnswer applyAt
+    inside-answer-reason n M s t e (evolves r w v) q =
         kept-reason Inward h p few r w (h .counts) (transaction n M s v ∷ []) (omega arith)
         (found-below (h .components) p (transaction n M s t) e)
         (λ m c. elim (barred-inside (transaction n M s t) e m c) [ inl b ↦ omega arith | inr b ↦ q .1 (b .1 .0) (b .1 .1) (b .1 .2) ])
-    inner-local-reason n M s t e noRule q =
+    inside-answer-reason n M s t e noRule q =
         (no-rule-there n M s t (q .0) e (q .1) (q .2), λ m l c. elim (barred-inside (transaction n M s t) e m c) [ inl b ↦ below (b .1) | inr b ↦ omega arith ])
       where
         below : nodes t ≤ k → ⊥
         below z = let y = found-below (preorder t) k (q .0) (q .1) in let w = length-preorder t in omega arith
-    inner-local-reason n M s t e outOfRange q =
+    inside-answer-reason n M s t e outOfRange q =
         let over : nodes t ≤ k = omega arith in
         (no-node n M s t e over, λ m l c. elim (barred-inside (transaction n M s t) e m c) [ inl b ↦ omega arith | inr b ↦ omega arith ])
 
@@ -292,7 +292,7 @@ module _ (h : Configuration) (p k : ℕ) where
         Because Inward (applyAt p (actsInside (h .counts) c k) h)
     unfolding actsInside applyAt
     acts-inside-reason (idle c) e = (no-attempt c e, λ m l z. let q = barred-inside (idle c) e m z in omega arith)
-    acts-inside-reason (transaction n M s t) e = inner-local-reason n M s t e (inner s t k) (inner-reason s t k)
+    acts-inside-reason (transaction n M s t) e = inside-answer-reason n M s t e (moveAt s t k) (move-at-reason s t k)
 
 -- ---- a choice
 
@@ -319,25 +319,25 @@ no-station-inside-first h p k z = (no-station-inside z, λ m l c. before m l c)
     before m l (no-node n M s t f y) = omega arith
     before m l (no-rule-there n M s t u f g y) = omega arith
 
--- every response to a choice, and so every answer, has its reason
-response-reason : (h : Configuration) → length (h .components) ≤ 64 → (e : Entry) → Because (λ m. ChoiceCondition h m e) (respondTo h e)
-unfolding respondTo atPosition
-response-reason h few (act p) = go (getElem? (h .components) p) refl
+-- every answer to a choice, and so every transition, has its reason
+entry-answer-reason : (h : Configuration) → length (h .components) ≤ 64 → (e : Entry) → Because (λ m. ChoiceCondition h m e) (entryAnswer h e)
+unfolding entryAnswer atPosition
+entry-answer-reason h few (act p) = go (getElem? (h .components) p) refl
   where
     go : (o : Option Component) → getElem? (h .components) p ≡ o → Because (λ m. ChoiceCondition h m (act p)) (atPosition o (λ c. applyAt p (acts (h .counts) c) h))
     go none e = no-station-first h p (none-past (h .components) p e)
     go (some c) e = acts-reason h p few c e
-response-reason h few (inside p k) = go (getElem? (h .components) p) refl
+entry-answer-reason h few (inside p k) = go (getElem? (h .components) p) refl
   where
     go : (o : Option Component) → getElem? (h .components) p ≡ o →
         Because (λ m. ChoiceCondition h m (inside p k)) (atPosition o (λ c. applyAt p (actsInside (h .counts) c k) h))
     go none e = no-station-inside-first h p k (none-past (h .components) p e)
     go (some c) e = acts-inside-reason h p k few c e
 
-pub choice-reason : (h : Configuration) → length (h .components) ≤ 64 → (e : Entry) → Reason (λ m. ChoiceCondition h m e) (answerTo h e)
-unfolding answerTo
-choice-reason h few e = answer-because (λ m. ChoiceCondition h m e) (respondTo h e) (response-reason h few e)
+pub choice-reason : (h : Configuration) → length (h .components) ≤ 64 → (e : Entry) → Reason (λ m. ChoiceCondition h m e) (transition h e)
+unfolding transition
+choice-reason h few e = answer-because (λ m. ChoiceCondition h m e) (entryAnswer h e) (entry-answer-reason h few e)
 
 pub choice-numbers : ChoiceNumbers
 unfolding ChoiceNumbers isAccepted
-choice-numbers ts h w e = decided (λ m. ChoiceCondition h m e) (answerTo h e) (choice-reason h (w .few) e)
+choice-numbers ts h w e = decided (λ m. ChoiceCondition h m e) (transition h e) (choice-reason h (w .few) e)

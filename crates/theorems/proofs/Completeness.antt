@@ -25,13 +25,13 @@ use Rattle.semantics.specs.Definitions.Shortage.{Shortage, enough}
 use Rattle.semantics.specs.Definitions.Logs.{emptyLog, shortage, addToken, takeToken}
 use Rattle.semantics.specs.Definitions.Configuration.{Idle, taking, repeating, block, output, Tree, leaf, fork, Component, idle, transaction, Configuration, branchesOf, nodes, opens}
 use Rattle.semantics.specs.Definitions.Stored.{ComponentOk, WellFormed}
-use Rattle.semantics.specs.Definitions.Moves.{Entry, act, inside, moves, takes, puts, acts, evolves, inner}
+use Rattle.semantics.specs.Definitions.Moves.{Entry, act, inside, moves, takes, puts, acts, evolves, moveAt}
 use Rattle.semantics.specs.Claims.Correspondence.{AcceptsTable, HasChoices, Completeness}
 use Rattle.semantics.specs.Claims.Denotation.{expr, proc, ongoingOf, componentProcess, Denotes, nothing, alone, beside, parallel, Bounded, WithinLimits}
 use Rattle.theorems.proofs.Walk.{left-evolves, right-evolves}
 use Rattle.theorems.proofs.Lists.{found-below, found-left, found-right, replaceAt-left, replaceAt-right, all-at, all-getD}
-use Rattle.theorems.proofs.Readable.{included-readable, not-included-unreadable}
-use Rattle.theorems.proofs.Moves.{positionOf, localMove, accepted-made}
+use Rattle.theorems.proofs.ReadableLogs.{included-readable, not-included-unreadable}
+use Rattle.theorems.proofs.Moves.{positionOf, componentAnswer, accepted-made}
 use Rattle.theorems.proofs.Measures.{branches-positive}
 use Rattle.theorems.proofs.GoodTable.{accepted-is-good}
 use Rattle.theorems.proofs.WellFormedKept.{well-formed-step}
@@ -110,12 +110,12 @@ record InnerMove (s : State) (t : Tree) (r : Rule) (A : Ongoing) : Type 0 where
   result : Tree
   counted : node < nodes t
   lacks : Shortage
-  made : inner s t node ≡ evolves r lacks result
+  made : moveAt s t node ≡ evolves r lacks result
   image : A ≡ ongoingOf s result
 
 -- each reduction of Table 3 is the move of a node
 inner-move : {r : Rule} {A A′ : Ongoing} → Evolves r A A′ → (s : State) (t : Tree) → A ≡ ongoingOf s t → InnerMove s t r A′
-unfolding inner nodes ongoingOf expr
+unfolding moveAt nodes ongoingOf expr
 inner-move (ardok {a} {M} {σ} {δ} i) s t e =
     let (K, shape, under, state) = of-ongoing s (running (prefix (rd a) M) σ δ) t e in
     let (n, N, kind, rest) = of-expr (prefix (rd a) M) K under in
@@ -195,14 +195,14 @@ record Redex (σ : State) (cs : List Component) (r : Rule) (P : Process) (σ′ 
   laid : List Component
   found : getElem? cs (positionOf entry) ≡ some mover
   lacks : Shortage
-  made : localMove σ mover entry ≡ moves r lacks σ′ laid
+  made : componentAnswer σ mover entry ≡ moves r lacks σ′ laid
   node : NodeOf entry mover
   stands : Denotes P (replaceAt (positionOf entry) laid cs)
 
 -- by kind 1, of a component that stands alone and is d
 acting : {σ : State} {c d : Component} {r : Rule} {w : Shortage} {P : Process} {σ′ : State} {ds : List Component} → c ≡ d → acts σ d ≡ moves r w σ′ ds → Denotes P ds →
     Redex σ (c ∷ []) r P σ′
-unfolding replaceAt positionOf localMove
+unfolding replaceAt positionOf componentAnswer
 acting {d = d} {w = w} {ds = ds} e m s = rw e (record { entry = act 0; mover = d; laid = ds; found = refl; lacks = w; made = m; node = tt; stands = rw append-nil s })
 
 -- with more components behind it
@@ -228,7 +228,7 @@ moreBefore n (inside p k) = inside (n + p) k
 
 on-the-right : {σ : State} {cs ds : List Component} {r : Rule} {P Q : Process} {σ′ : State} →
     Denotes P cs → Redex σ ds r Q σ′ → Redex σ (cs ++ ds) r (par P Q) σ′
-unfolding positionOf localMove moreBefore
+unfolding positionOf componentAnswer moreBefore
 on-the-right {σ} {cs} {ds} p m =
     let e = m .entry in
     record {
@@ -246,7 +246,7 @@ on-the-right {σ} {cs} {ds} p m =
     moved-on (act i) = refl
     moved-on (inside i k) = refl
 
-    same-move : (e : Entry) → localMove σ (m .mover) (moreBefore (length cs) e) ≡ localMove σ (m .mover) e
+    same-move : (e : Entry) → componentAnswer σ (m .mover) (moreBefore (length cs) e) ≡ componentAnswer σ (m .mover) e
     same-move (act i) = refl
     same-move (inside i k) = refl
 
@@ -279,7 +279,7 @@ puts-made σ a σ′ p h =
 -- each reduction by one rule is the move of some component, where the counts that it leaves are bytes
 redex : {r : Rule} {P P′ : Process} {σ σ′ : State} {cs : List Component} → Reduces LogOrder (by r) P σ P′ σ′ → Denotes P cs → All (λ c. c ≤ 255) σ′ →
     Redex σ cs r P′ σ′
-unfolding acts localMove positionOf replaceAt componentProcess
+unfolding acts componentAnswer positionOf replaceAt componentProcess
 redex (OUTr {a} {σ} {σ′} p) (alone c e) h = acting (of-process (out a) c e) (puts-made σ a σ′ p h) nothing
 redex (INr {a} {P} {σ} {σ′} p) (alone c e) h =
     let (n, Q, shape, body) = of-process (inp a P) c e in

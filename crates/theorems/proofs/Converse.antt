@@ -21,7 +21,7 @@ use Rattle.semantics.specs.Definitions.Table.{Table}
 use Rattle.semantics.specs.Definitions.Shortage.{Shortage, enough}
 use Rattle.semantics.specs.Definitions.Logs.{emptyLog, readable, paths, firstReadable, addToken, takeToken}
 use Rattle.semantics.specs.Definitions.Configuration.{Idle, taking, repeating, block, output, Tree, leaf, Component, idle, transaction, Configuration, opens, opening}
-use Rattle.semantics.specs.Definitions.Moves.{Entry, act, inside, moves, takes, puts, commits, ends, acts, evolves, inner, innerLocal, actsInside, moved, answerTo, ruleNumber}
+use Rattle.semantics.specs.Definitions.Moves.{Entry, act, inside, moves, takes, puts, commits, ends, acts, evolves, moveAt, insideAnswer, actsInside, moved, transition, ruleNumber}
 use Rattle.semantics.specs.Definitions.Run.{Counters, run, InBytes, entryBytes, scheduleBytes}
 use Rattle.semantics.specs.Checks.AcceptedTables.{GoodTable}
 use Rattle.semantics.specs.Definitions.Stored.{hallBytes, ComponentOk, WellFormed, bytesOf}
@@ -30,7 +30,7 @@ use Rattle.semantics.specs.Claims.Atomicity.{initialBuffers}
 use Rattle.semantics.specs.Claims.Correspondence.{AcceptsTable}
 use Rattle.semantics.specs.Claims.ConverseRuns.{PlainState, plainStart, replacing, ConverseStep, stepOut, stepIn, stepRep, stepCommit, ConverseSteps, noStep, stepThen, idleConfiguration}
 use Rattle.theorems.proofs.Lists.{found-below, found-map, length-replaceAt, map-replaceAt, all-append, all-at, replaced-here, replaceAt-twice}
-use Rattle.theorems.proofs.Moves.{positionOf, localMove, accepted-inverts, accepted-made}
+use Rattle.theorems.proofs.Moves.{positionOf, componentAnswer, accepted-inverts, accepted-made}
 use Rattle.theorems.proofs.GoodTable.{accepted-is-good}
 use Rattle.theorems.proofs.RoundTrip.{opening-is-well-formed}
 use Rattle.theorems.proofs.WellFormedKept.{well-formed-step}
@@ -43,8 +43,8 @@ use Rattle.theorems.proofs.Drive.{nodesFor, Driven, arrived, driven, dr
 -- a component that moves by itself and leaves idle ones
 idle-moves : {w : Shortage} (u : PlainState) (p : ℕ) (c : Idle) (r : Rule) (σ : State) (cs : List Idle) → getElem? (u .stations) p ≡ some c →
     acts (u .counts) (idle c) ≡ moves r w σ (map idle cs) → length (replaceAt p cs (u .stations)) ≤ 64 →
-    answerTo (idleConfiguration u) (act p) ≡ moved r (idleConfiguration (replacing u p σ cs))
-unfolding idleConfiguration replacing positionOf localMove
+    transition (idleConfiguration u) (act p) ≡ moved r (idleConfiguration (replacing u p σ cs))
+unfolding idleConfiguration replacing positionOf componentAnswer
 idle-moves u p c r σ cs found move few =
     let same = map-replaceAt idle (u .stations) cs p in
     let count : length (replaceAt p (map idle cs) (map idle (u .stations))) ≤ 64 = rw (← same, length-map) few in
@@ -84,8 +84,8 @@ module _ (u : PlainState) (p n : ℕ) (M : Expression) (found : getElem? (u .sta
       let k = length-replaceAt (map idle (u .stations)) (c ∷ []) p below in let l = length-map (u .stations) idle in omega arith
 
   -- the attempt opens
-  opened : answerTo (idleConfiguration u) (act p) ≡ moved ATST (attempting u p n M (leaf M emptyLog))
-  unfolding idleConfiguration attempting positionOf localMove acts
+  opened : transition (idleConfiguration u) (act p) ≡ moved ATST (attempting u p n M (leaf M emptyLog))
+  unfolding idleConfiguration attempting positionOf componentAnswer acts
   opened =
       accepted-made
       (idleConfiguration u)
@@ -100,8 +100,8 @@ module _ (u : PlainState) (p n : ℕ) (M : Expression) (found : getElem? (u .sta
 
   -- a choice at the attempt
   moved-there : (e : Entry) → positionOf e ≡ p → (t : Tree) (r : Rule) {w : Shortage} (σ : State) (cs : List Component) →
-      localMove (u .counts) (transaction n M (u .counts) t) e ≡ moves r w σ cs → length (replaceAt p cs (map idle (u .stations))) ≤ 64 →
-      answerTo (attempting u p n M t) e ≡ moved r (record { counts = σ; components = replaceAt p cs (map idle (u .stations)) })
+      componentAnswer (u .counts) (transaction n M (u .counts) t) e ≡ moves r w σ cs → length (replaceAt p cs (map idle (u .stations))) ≤ 64 →
+      transition (attempting u p n M t) e ≡ moved r (record { counts = σ; components = replaceAt p cs (map idle (u .stations)) })
   unfolding attempting
   moved-there e at t r σ cs move fits =
       let c : Component = transaction n M (u .counts) t in
@@ -111,8 +111,8 @@ module _ (u : PlainState) (p n : ℕ) (M : Expression) (found : getElem? (u .sta
       ∙ rw at (λ i. moved r (record { counts = σ; components = twice i }))
 
   -- it moves inside, at one node and at a list of nodes
-  evolved : (t v : Tree) (k : ℕ) (r : Rule) {w : Shortage} → inner (u .counts) t k ≡ evolves r w v → answerTo (attempting u p n M t) (inside p k) ≡ moved r (attempting u p n M v)
-  unfolding attempting positionOf localMove actsInside innerLocal
+  evolved : (t v : Tree) (k : ℕ) (r : Rule) {w : Shortage} → moveAt (u .counts) t k ≡ evolves r w v → transition (attempting u p n M t) (inside p k) ≡ moved r (attempting u p n M v)
+  unfolding attempting positionOf componentAnswer actsInside insideAnswer
   evolved t v k r {w} e =
       let c : Component = transaction n M (u .counts) v in moved-there (inside p k) refl t r {w = w} (u .counts) (c ∷ []) (rw e) (length-attempting c)
 
@@ -122,8 +122,8 @@ module _ (u : PlainState) (p n : ℕ) (M : Expression) (found : getElem? (u .sta
 
   -- it commits at an end leaf whose log is readable at the present counts
   committed : (e : ℕ) (δ : Log) → readable (u .counts) δ ≡ true → length (replaceAt p (map output (WT δ)) (u .stations)) ≤ 64 →
-      answerTo (attempting u p n M (leaf (endT e) δ)) (act p) ≡ moved (ATOK δ) (idleConfiguration (replacing u p (without (u .counts) (RD δ)) (map output (WT δ))))
-  unfolding idleConfiguration replacing positionOf localMove acts ends commits
+      transition (attempting u p n M (leaf (endT e) δ)) (act p) ≡ moved (ATOK δ) (idleConfiguration (replacing u p (without (u .counts) (RD δ)) (map output (WT δ))))
+  unfolding idleConfiguration replacing positionOf componentAnswer acts ends commits
   committed e δ there fits =
       let laid : map idle (map output (WT δ)) ≡ map (λ a. idle (output a)) (WT δ) = map-map idle output (WT δ) in
       let same = map-replaceAt idle (u .stations) (map output (WT δ)) p in
@@ -143,7 +143,7 @@ module _ (u : PlainState) (p n : ℕ) (M : Expression) (found : getElem? (u .sta
   -- an attempt is opened and moved inside, and then commits by the first readable path
   attempt-commits : (δ : Log) → firstReadable (u .counts) M ≡ some δ → length (replaceAt p (map output (WT δ)) (u .stations)) ≤ 64 →
       (f : Configuration) × Runs (idleConfiguration u) (act p ∷ map (inside p) (nodesFor (u .counts) M emptyLog 0)) f ×
-      (answerTo f (act p) ≡ moved (ATOK δ) (idleConfiguration (replacing u p (without (u .counts) (RD δ)) (map output (WT δ)))))
+      (transition f (act p) ≡ moved (ATOK δ) (idleConfiguration (replacing u p (without (u .counts) (RD δ)) (map output (WT δ)))))
   unfolding firstReadable
   attempt-commits δ first fits =
       let d = drives-commit (u .counts) M δ first in (
@@ -155,10 +155,10 @@ module _ (u : PlainState) (p n : ℕ) (M : Expression) (found : getElem? (u .sta
 -- the choices of a step: one act, or those of an attempt from its opening to its commit
 unfoldable pub StepDone : (u : PlainState) (p : ℕ) (v : PlainState) → Type 0
 StepDone u p v =
-    ((r : Rule) × (answerTo (idleConfiguration u) (act p) ≡ moved r (idleConfiguration v)) × (ruleNumber r ≤ 3)) ⊎
+    ((r : Rule) × (transition (idleConfiguration u) (act p) ≡ moved r (idleConfiguration v)) × (ruleNumber r ≤ 3)) ⊎
     ((n : ℕ) × (M : Expression) × (δ : Log) × (f : Configuration) × (getElem? (u .stations) p ≡ some (block n M)) ×
     Runs (idleConfiguration u) (act p ∷ map (inside p) (nodesFor (u .counts) M emptyLog 0)) f ×
-    (answerTo f (act p) ≡ moved (ATOK δ) (idleConfiguration v)))
+    (transition f (act p) ≡ moved (ATOK δ) (idleConfiguration v)))
 
 -- every step has them
 pub step-done : (u : PlainState) (p : ℕ) {v : PlainState} → length (u .stations) ≤ 64 → ConverseStep u p v → StepDone u p v

@@ -20,14 +20,14 @@ use Rattle.semantics.specs.Definitions.Terms.{Expression, endT, retryT, rdT, wt
 use Rattle.semantics.specs.Definitions.Shortage.{Shortage, enough}
 use Rattle.semantics.specs.Definitions.Logs.{emptyLog, shortage, readable, paths, firstReadable, addToken, takeToken}
 use Rattle.semantics.specs.Definitions.Configuration.{Idle, taking, repeating, block, output, Tree, leaf, fork, Component, idle, transaction, Configuration, opens}
-use Rattle.semantics.specs.Definitions.Moves.{act, inside, LocalAnswer, moves, blocked, takes, puts, commits, ends, acts, actsInside, moved, answerTo, ruleNumber}
+use Rattle.semantics.specs.Definitions.Moves.{act, inside, ComponentAnswer, moves, blocked, takes, puts, commits, ends, acts, actsInside, moved, transition, ruleNumber}
 use Rattle.semantics.specs.Claims.InnerMoves.{Moves, unmoved, MovesSettleFirstPath}
 use Rattle.semantics.specs.Claims.ConverseRuns.{PlainState, replacing, ConverseStep, stepOut, stepIn, stepRep, stepCommit, ConverseSteps, noStep, stepThen, idleConfiguration}
 use Rattle.semantics.specs.Checks.ConverseSteps.{StartIsOpening, DoneAt, ConverseStepsAreMoves, ReadableBlocksCommit, ConverseStepsGoOn}
 use Rattle.theorems.proofs.Lists.{found-below, found-at, found-map, map-replaceAt, replaced-here, replaceAt-twice}
-use Rattle.theorems.proofs.Reading.{by-cases}
-use Rattle.theorems.proofs.Readable.{included-readable, not-included-unreadable}
-use Rattle.theorems.proofs.Moves.{positionOf, localMove, accepted-inverts}
+use Rattle.theorems.proofs.ByteReads.{by-cases}
+use Rattle.theorems.proofs.ReadableLogs.{included-readable, not-included-unreadable}
+use Rattle.theorems.proofs.Moves.{positionOf, componentAnswer, accepted-inverts}
 use Rattle.theorems.proofs.InnerMoves.{inside-alone, moves-snoc, moves-settle-first-path}
 use Rattle.theorems.proofs.Drive.{nodesFor}
 use Rattle.theorems.proofs.Runs.{Runs, rested, ran, runs-steps, steps-run}
@@ -64,7 +64,7 @@ OwnMove s p r g =
     ((r ≡ ATST) × ((n : ℕ) × (M : Expression) × (getElem? (s .stations) p ≡ some (block n M)) × (attempting s p n M (leaf M emptyLog) ≡ g)))
 
 -- the same of its answer, where what it lays down fits
-abbrev OwnLocal : PlainState → ℕ → LocalAnswer → Type 0
+abbrev OwnLocal : PlainState → ℕ → ComponentAnswer → Type 0
 OwnLocal s p (blocked n) = Unit {0}
 OwnLocal s p (moves r w σ cs) =
     (g : Configuration) → g .counts ≡ σ → g .components ≡ replaceAt p cs ((idleConfiguration s) .components) → length (g .components) ≤ 64 → OwnMove s p r g
@@ -95,8 +95,8 @@ own-move s p (output a) found =
 own-move s p (block n M) found = λ g e f few. inr (refl, (n, M, found, λ i. record { counts = sym e i; components = sym f i }))
 
 -- an accepted act
-acted : (s : PlainState) (p : ℕ) (r : Rule) (g : Configuration) → answerTo (idleConfiguration s) (act p) ≡ moved r g → OwnMove s p r g
-unfolding positionOf localMove idleConfiguration
+acted : (s : PlainState) (p : ℕ) (r : Rule) (g : Configuration) → transition (idleConfiguration s) (act p) ≡ moved r g → OwnMove s p r g
+unfolding positionOf componentAnswer idleConfiguration
 acted s p r g q =
     let m = accepted-inverts (idleConfiguration s) (act p) r g q in
     let c = station-at s p (m .component) (m .found) in
@@ -105,8 +105,8 @@ acted s p r g q =
     can g refl (m .placed) (m .fits)
 
 -- a move inside is never accepted there
-no-inside : (s : PlainState) (p k : ℕ) (r : Rule) (g : Configuration) → answerTo (idleConfiguration s) (inside p k) ≡ moved r g → ⊥
-unfolding positionOf localMove actsInside
+no-inside : (s : PlainState) (p k : ℕ) (r : Rule) (g : Configuration) → transition (idleConfiguration s) (inside p k) ≡ moved r g → ⊥
+unfolding positionOf componentAnswer actsInside
 no-inside s p k r g q =
     let m = accepted-inverts (idleConfiguration s) (inside p k) r g q in
     let c = station-at s p (m .component) (m .found) in
@@ -114,7 +114,7 @@ no-inside s p k r g q =
     let z : _≡_ {A = ℕ} 0 1 = cc in omega arith
 
 -- nor is a commit
-no-commit : (s : PlainState) (p : ℕ) (δ : Log) (g : Configuration) → answerTo (idleConfiguration s) (act p) ≡ moved (ATOK δ) g → ⊥
+no-commit : (s : PlainState) (p : ℕ) (δ : Log) (g : Configuration) → transition (idleConfiguration s) (act p) ≡ moved (ATOK δ) g → ⊥
 unfolding OwnMove ruleNumber
 no-commit s p δ g q =
     elim (acted s p (ATOK δ) g q) [ inl h ↦ (let k = h .0 in omega arith) | inr h ↦ (let k = ap ruleNumber (h .0) in omega arith) ]
@@ -170,8 +170,8 @@ module _ (s : PlainState) (p n : ℕ) (M : Expression) (found : getElem? (s .sta
 
   -- and its commit is a step, by the first readable path
   commit-step : (ks : List ℕ) (f : Configuration) (δ : Log) (g : Configuration) → Runs (attempting s p n M (leaf M emptyLog)) (map (inside p) ks) f →
-      answerTo f (act p) ≡ moved (ATOK δ) g → (u : PlainState) × (idleConfiguration u ≡ g) × ConverseStep s p u
-  unfolding positionOf localMove acts attempting replacing MovesSettleFirstPath
+      transition f (act p) ≡ moved (ATOK δ) g → (u : PlainState) × (idleConfiguration u ≡ g) × ConverseStep s p u
+  unfolding positionOf componentAnswer acts attempting replacing MovesSettleFirstPath
   commit-step ks f δ g to q =
       let i = moves-inside ks (leaf M emptyLog) f unmoved to in
       let h = attempting s p n M (i .0) in
@@ -187,13 +187,13 @@ module _ (s : PlainState) (p n : ℕ) (M : Expression) (found : getElem? (s .sta
 
 -- where no attempt was opened there is none to move or to commit
 none-opened : (s : PlainState) (p : ℕ) (ks : List ℕ) (f : Configuration) (δ : Log) (g : Configuration) → Runs (idleConfiguration s) (map (inside p) ks) f →
-    answerTo f (act p) ≡ moved (ATOK δ) g → ⊥
+    transition f (act p) ≡ moved (ATOK δ) g → ⊥
 none-opened s p [] f δ g rested q = no-commit s p δ g q
 none-opened s p (k ∷ ks) f δ g (ran {f = h} r d to) q = no-inside s p k r h d
 
 -- from the opening to the commit
 attempt-step : (s : PlainState) (p : ℕ) (ks : List ℕ) (f : Configuration) (δ : Log) (g : Configuration) →
-    Runs (idleConfiguration s) (act p ∷ map (inside p) ks) f → answerTo f (act p) ≡ moved (ATOK δ) g →
+    Runs (idleConfiguration s) (act p ∷ map (inside p) ks) f → transition f (act p) ≡ moved (ATOK δ) g →
     (u : PlainState) × (idleConfiguration u ≡ g) × ConverseStep s p u
 unfolding OwnMove
 attempt-step s p ks f δ g (ran {f = h} r d to) q = go (acted s p r h d)

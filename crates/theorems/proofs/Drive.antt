@@ -16,7 +16,7 @@ use Rattle.semantics.specs.Definitions.Terms.{Expression, endT, retryT, rdT, wt
 use Rattle.semantics.specs.Definitions.Shortage.{Shortage, enough}
 use Rattle.semantics.specs.Definitions.Logs.{emptyLog, shortage, readable, firstReadable}
 use Rattle.semantics.specs.Definitions.Configuration.{Tree, leaf, fork}
-use Rattle.semantics.specs.Definitions.Moves.{evolves, inner, atLeaf, reads, atFork}
+use Rattle.semantics.specs.Definitions.Moves.{evolves, moveAt, atLeaf, reads, atFork}
 use Rattle.theorems.proofs.Walk.{left-evolves}
 use Rattle.theorems.proofs.Measures.{branches-positive}
 use Rattle.theorems.proofs.Lists.{all-append}
@@ -39,7 +39,7 @@ nodesFor s (orElseT n M N) δ k = k ∷ (nodesFor s M δ (suc k) ++ (k ∷ unles
 -- moves inside at a list of nodes, one after another
 pub data Driven (s : State) : Tree → List ℕ → Tree → Type 0 where
   arrived : {t : Tree} → Driven s t [] t
-  driven : {t u v : Tree} {w : Shortage} {k : ℕ} {ks : List ℕ} (r : Rule) → inner s t k ≡ evolves r w u → Driven s u ks v → Driven s t (k ∷ ks) v
+  driven : {t u v : Tree} {w : Shortage} {k : ℕ} {ks : List ℕ} (r : Rule) → moveAt s t k ≡ evolves r w u → Driven s u ks v → Driven s t (k ∷ ks) v
 
 -- one list of nodes after another
 driven-append : {s : State} {t u v : Tree} {ks js : List ℕ} → Driven s t ks u → Driven s u js v → Driven s t (ks ++ js) v
@@ -52,15 +52,15 @@ beside [] t = t
 beside (r ∷ rs) t = beside rs (fork t r)
 
 -- a move in it
-beside-moves : {w : Shortage} (s : State) (rs : List Tree) (t u : Tree) (k : ℕ) (r : Rule) → inner s t k ≡ evolves r w u →
-    inner s (beside rs t) (length rs + k) ≡ evolves r w (beside rs u)
+beside-moves : {w : Shortage} (s : State) (rs : List Tree) (t u : Tree) (k : ℕ) (r : Rule) → moveAt s t k ≡ evolves r w u →
+    moveAt s (beside rs t) (length rs + k) ≡ evolves r w (beside rs u)
 unfolding beside
 beside-moves s [] t u k r e = let z : 0 + k ≡ k = omega arith in rw z e
 beside-moves s (x ∷ rs) t u k r e =
     let z : suc (length rs) + k ≡ length rs + suc k = omega arith in rw z (beside-moves s rs (fork t x) (fork u x) (suc k) r (left-evolves s t x k e))
 
 -- at its root
-beside-root : {w : Shortage} (s : State) (rs : List Tree) (t u : Tree) (r : Rule) → inner s t 0 ≡ evolves r w u → inner s (beside rs t) (length rs) ≡ evolves r w (beside rs u)
+beside-root : {w : Shortage} (s : State) (rs : List Tree) (t u : Tree) (r : Rule) → moveAt s t 0 ≡ evolves r w u → moveAt s (beside rs t) (length rs) ≡ evolves r w (beside rs u)
 beside-root s rs t u r e = let z : length rs + 0 ≡ length rs = omega arith in rw z at (beside-moves s rs t u 0 r e)
 
 -- a tree settled with an outcome: an end leaf with this log, or a retry leaf
@@ -105,18 +105,18 @@ nodes-retried s n M N δ k e = rw e
 -- an orElse whose left side is driven to its end among one more right side, and whose right side is driven to its end
 drives-orElse : (s : State) (n : ℕ) (M N : Expression) (δ : Log) (rs : List Tree) → Drives s M δ (leaf N δ ∷ rs) → Drives s N δ rs →
     Drives s (orElseT n M N) δ rs
-unfolding beside inner atLeaf atFork orElseOf
+unfolding beside moveAt atLeaf atFork orElseOf
 drives-orElse s n M N δ rs first second = go (firstFrom s M δ) refl (first .settled)
   where
-    begun : inner s (beside rs (leaf (orElseT n M N) δ)) (length rs) ≡ evolves AOI enough (beside rs (fork (leaf M δ) (leaf N δ)))
+    begun : moveAt s (beside rs (leaf (orElseT n M N) δ)) (length rs) ≡ evolves AOI enough (beside rs (fork (leaf M δ) (leaf N δ)))
     begun = beside-root s rs (leaf (orElseT n M N) δ) (fork (leaf M δ) (leaf N δ)) AOI refl
 
     ended : (m : ℕ) (π : Log) → first .result ≡ leaf (endT m) π →
-        inner s (beside rs (fork (first .result) (leaf N δ))) (length rs) ≡ evolves AOE enough (beside rs (leaf (endT m) π))
+        moveAt s (beside rs (fork (first .result) (leaf N δ))) (length rs) ≡ evolves AOE enough (beside rs (leaf (endT m) π))
     ended m π r = rw r (beside-root s rs (fork (leaf (endT m) π) (leaf N δ)) (leaf (endT m) π) AOE refl)
 
     retried : (m : ℕ) (π : Log) → first .result ≡ leaf (retryT m) π →
-        inner s (beside rs (fork (first .result) (leaf N δ))) (length rs) ≡ evolves AOF enough (beside rs (leaf N δ))
+        moveAt s (beside rs (fork (first .result) (leaf N δ))) (length rs) ≡ evolves AOF enough (beside rs (leaf N δ))
     retried m π r = rw r (beside-root s rs (fork (leaf (retryT m) π) (leaf N δ)) (leaf N δ) AOF refl)
 
     go : (o : Option Log) → firstFrom s M δ ≡ o → SettledAt o (first .result) → Drives s (orElseT n M N) δ rs
@@ -137,7 +137,7 @@ drives-orElse s n M N δ rs first second = go (firstFrom s M δ) refl (first .se
 
 -- Every expression's leaf, its log readable, among any right sides.
 pub drives : (s : State) (M : Expression) (δ : Log) → readable s δ ≡ true → (rs : List Tree) → Drives s M δ rs
-unfolding inner atLeaf reads
+unfolding moveAt atLeaf reads
 drives s (endT n) δ h rs = record { result = leaf (endT n) δ; made = rw nodes-end arrived; settled = rw (first-from-end s n δ h) (n, refl) }
 drives s (retryT n) δ h rs = record { result = leaf (retryT n) δ; made = rw nodes-retry arrived; settled = rw first-from-retry (n, δ, refl) }
 drives s (rdT n a M) δ h rs = go (readable s (δ ++ (rd a ∷ []))) refl (λ e. drives s M (δ ++ (rd a ∷ [])) e rs)

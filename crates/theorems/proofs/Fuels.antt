@@ -22,7 +22,7 @@ use Rattle.semantics.specs.Checks.AcceptedTables.{GoodTable}
 use Rattle.semantics.specs.Checks.Conditions.{TableCondition, kind-unknown, body-short, terms-many, channel-over, forward-reference, class-expression, class-process, width-over, paths-over, tokens-none, tokens-again, byte-follows, start-missing, TableRefused, TableNumbers, Stops, at-end, kind-neither, act-short, inside-short, node-short, act-refused, inside-refused, RunNumbers}
 use Rattle.semantics.specs.Checks.Fuels.{readOr, TableReadToItsEnd, treeOr, attemptBy, TreesReadToTheirEnd, componentsOr, configurationBy, HallsReadToTheirEnd, tableSizeOr, InputsSplitAtTheTablesEnd, digitsOr, DigitsPrintedToTheLast, lineNumbers, CountersFit, PrintedNumbersFit}
 use Rattle.theorems.proofs.Lists.{found-below, all-weaken}
-use Rattle.theorems.proofs.Reading.{by-cases, given-some, provided-some}
+use Rattle.theorems.proofs.ByteReads.{by-cases, given-some, provided-some}
 use Rattle.theorems.proofs.Trees.{cut-back}
 use Rattle.theorems.proofs.GoodTable.{accepted-is-good}
 use Rattle.theorems.proofs.RoundTrip.{opening-is-well-formed}

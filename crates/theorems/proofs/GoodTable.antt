@@ -17,7 +17,7 @@ use Rattle.semantics.specs.Definitions.Terms.{Expression, endT, retryT, rdT, wt
 use Rattle.semantics.specs.Definitions.Table.{Kind, nilK, putK, takeK, repeatK, parK, atomK, endK, retryK, rdK, wtK, orElseK, tokensK, startK, kindByNumber, Reading, Table, TableAnswer, accepted, refusedAt, isProgram, isExpression, Field, Content, termRecord, tokensRecord, startRecord, nothing, ofProgram, ofExpression, recordContent, fields, adds, anyField, tooManyTerms, channelOutOfRange, classMismatch, overLimit, Test, tests, RecordAnswer, stop, more, tableEnd, recordPassed, recordTested, recordOfKind, readRecord, thenRead, readFrom, emptyReading, readTable}
 use Rattle.semantics.specs.Checks.AcceptedTables.{programNumber, termNumber, ProgramIn, ExpressionIn, SubtermsIn, ChannelBelow, MeasuresWithinLimits, GoodTable}
 use Rattle.semantics.specs.Checks.StoredForm.{AcceptedIsGood, StartIsTerm, TokensAreCounts}
-use Rattle.theorems.proofs.Reading.{or-false}
+use Rattle.theorems.proofs.ByteReads.{or-false}
 use Rattle.theorems.proofs.Lists.{none-found, all-drop, all-replicate, all-set, all-every, found-stays, found-snoc}
 
 -- ---- one term more

@@ -17,20 +17,20 @@ use Rattle.semantics.specs.Definitions.Shortage.{Shortage, enough}
 use Rattle.semantics.specs.Definitions.Logs.{shortage, readable}
 use Rattle.semantics.specs.Definitions.Configuration.{Tree, leaf, fork, Component, transaction, Configuration, branchesOf}
 use Rattle.semantics.specs.Definitions.Stored.{ComponentOk}
-use Rattle.semantics.specs.Definitions.Moves.{inside, moved, moves, answerTo, Inner, evolves, noRule, outOfRange, inner, innerLocal, ruleNumber}
+use Rattle.semantics.specs.Definitions.Moves.{inside, moved, moves, transition, NodeAnswer, evolves, noRule, outOfRange, moveAt, insideAnswer, ruleNumber}
 use Rattle.semantics.specs.Claims.InnerMoves.{weight, Settled, Moves, unmoved, movedOn, MovesLowerWeight, MovesGoOn, SettledHasNoRule, OneOutcome, MovesSettleFirstPath}
 use Rattle.theorems.proofs.Walk.{left-evolves}
 use Rattle.theorems.proofs.Measures.{tree-branches-positive}
 use Rattle.theorems.proofs.Lists.{found-below, length-replaceAt, all-at}
-use Rattle.theorems.proofs.Moves.{positionOf, localMove, accepted-inverts, Moving, inner-induction}
+use Rattle.theorems.proofs.Moves.{positionOf, componentAnswer, accepted-inverts, Moving, inner-induction}
 use Rattle.theorems.proofs.Outcome.{Faithful, StaysFaithful, faithful-start, faithful-move, faithful-end, faithful-retry}
 
 -- ---- the measure
 
 -- every move inside lowers it
-pub inner-lowers : (s : State) (t : Tree) (k : ℕ) → Moving (λ t r u. weight u < weight t) t (inner s t k)
+pub move-at-lowers : (s : State) (t : Tree) (k : ℕ) → Moving (λ t r u. weight u < weight t) t (moveAt s t k)
 unfolding weight
-inner-lowers s = inner-induction (record {
+move-at-lowers s = inner-induction (record {
   ardok = λ n a M δ e. omega arith;
   ardf = λ n a M δ e. omega arith;
   awr = λ n a M δ. omega arith;
@@ -45,11 +45,11 @@ inner-lowers s = inner-induction (record {
 
 -- a node at which the tree moves, of at most as many as it has branches
 abbrev pub Mover : State → Tree → Type 0
-Mover s t = (k : ℕ) × (r : Rule) × (w : Shortage) × (u : Tree) × (inner s t k ≡ evolves r w u) × (k < branchesOf t)
+Mover s t = (k : ℕ) × (r : Rule) × (w : Shortage) × (u : Tree) × (moveAt s t k ≡ evolves r w u) × (k < branchesOf t)
 
 -- a read moves, by ARDOK or by ARDF
 read-mover : (s : State) (n : ℕ) (a : Name) (M : Expression) (δ : Log) → Mover s (leaf (rdT n a M) δ)
-unfolding inner
+unfolding moveAt
 read-mover s n a M δ = go (readable s (δ ++ (rd a ∷ []))) refl
   where
     go : (b : Bool) → readable s (δ ++ (rd a ∷ [])) ≡ b → Mover s (leaf (rdT n a M) δ)
@@ -63,7 +63,7 @@ left-mover s l r (k, e, w, u, q, h) = let g = tree-branches-positive r in (suc k
 
 -- there is such a node in every tree that is not settled
 pub mover : (s : State) (t : Tree) → ¬ Settled t → Mover s t
-unfolding inner
+unfolding moveAt
 mover s (leaf (endT n) δ) h = absurd (h tt)
 mover s (leaf (retryT n) δ) h = absurd (h tt)
 mover s (leaf (rdT n a M) δ) h = read-mover s n a M δ
@@ -78,7 +78,7 @@ mover s (fork (fork l m) r) h = left-mover s (fork l m) r (mover s (fork l m) (�
 
 -- and a single end or retry leaf has none
 pub settled-has-no-rule : SettledHasNoRule
-unfolding SettledHasNoRule inner
+unfolding SettledHasNoRule moveAt
 settled-has-no-rule s (leaf (endT n) δ) h zero r w v e = let z : _≡_ {A = ℕ} 0 1 = cc in omega arith
 settled-has-no-rule s (leaf (endT n) δ) h (suc k) r w v e = let z : _≡_ {A = ℕ} 0 1 = cc in omega arith
 settled-has-no-rule s (leaf (retryT n) δ) h zero r w v e = let z : _≡_ {A = ℕ} 0 1 = cc in omega arith
@@ -113,9 +113,9 @@ final s (leaf M δ) = finalLeaf s M δ
 final s (fork l r) = settledFork (final s l) (final s r)
 
 -- every move inside keeps it
-inner-keeps-final : (s : State) (t : Tree) (k : ℕ) → Moving (λ t r u. final s u ≡ final s t) t (inner s t k)
+move-at-keeps-final : (s : State) (t : Tree) (k : ℕ) → Moving (λ t r u. final s u ≡ final s t) t (moveAt s t k)
 unfolding final finalLeaf settledFork
-inner-keeps-final s = inner-induction (record {
+move-at-keeps-final s = inner-induction (record {
   ardok = λ n a M δ e. rw e;
   ardf = λ n a M δ e. rw e;
   awr = λ n a M δ. refl;
@@ -130,7 +130,7 @@ inner-keeps-final s = inner-induction (record {
 moves-keep-final : {s : State} {t u : Tree} → Moves s t u → final s u ≡ final s t
 moves-keep-final unmoved = refl
 moves-keep-final {s} (movedOn {t = t} {u = u} k r e m) =
-    let one : final s u ≡ final s t = rw e at (inner-keeps-final s t k) in moves-keep-final m ∙ one
+    let one : final s u ≡ final s t = rw e at (move-at-keeps-final s t k) in moves-keep-final m ∙ one
 
 -- a single end or retry leaf is its own final tree
 settled-final : (s : State) (t : Tree) → Settled t → final s t ≡ t
@@ -157,7 +157,7 @@ moves-keep s M (movedOn {t = t} {u = u} {w = w} k r e m) f =
     let one : StaysFaithful s M (evolves r w u) = rw e at (faithful-move s M t k f) in moves-keep s M m one
 
 -- one move more, at the end
-pub moves-snoc : {s : State} {t u v : Tree} {w : Shortage} (k : ℕ) (r : Rule) → Moves s t u → inner s u k ≡ evolves r w v → Moves s t v
+pub moves-snoc : {s : State} {t u v : Tree} {w : Shortage} (k : ℕ) (r : Rule) → Moves s t u → moveAt s u k ≡ evolves r w v → Moves s t v
 moves-snoc k r unmoved e = movedOn k r e unmoved
 moves-snoc k r (movedOn j x d m) e = movedOn j x d (moves-snoc k r m e)
 
@@ -171,9 +171,9 @@ moves-settle-first-path s M n δ =
 -- ---- the rules of the moves inside
 
 -- a move inside is by one of the rules 8 to 13
-pub inner-rule : (s : State) (t : Tree) (k : ℕ) → Moving (λ t r u. 8 ≤ ruleNumber r) t (inner s t k)
+pub move-at-rule : (s : State) (t : Tree) (k : ℕ) → Moving (λ t r u. 8 ≤ ruleNumber r) t (moveAt s t k)
 unfolding ruleNumber
-inner-rule s = inner-induction (record {
+move-at-rule s = inner-induction (record {
   ardok = λ n a M δ e. omega arith;
   ardf = λ n a M δ e. omega arith;
   awr = λ n a M δ. omega arith;
@@ -188,26 +188,26 @@ inner-rule s = inner-induction (record {
 
 -- a move inside a transaction is a move of its nodes, which changes its nodes alone
 pub inside-moved : (σ : State) (p k n : ℕ) (M : Expression) (s : State) (u : Tree) (r : Rule) (w : Shortage) (σ′ : State) (cs : List Component) →
-    localMove σ (transaction n M s u) (inside p k) ≡ moves r w σ′ cs →
-    (v : Tree) × (inner s u k ≡ evolves r w v) × (σ ≡ σ′) × (transaction n M s v ∷ [] ≡ cs)
-unfolding localMove innerLocal
-inside-moved σ p k n M s u r w σ′ cs q = go (inner s u k) refl q
+    componentAnswer σ (transaction n M s u) (inside p k) ≡ moves r w σ′ cs →
+    (v : Tree) × (moveAt s u k ≡ evolves r w v) × (σ ≡ σ′) × (transaction n M s v ∷ [] ≡ cs)
+unfolding componentAnswer insideAnswer
+inside-moved σ p k n M s u r w σ′ cs q = go (moveAt s u k) refl q
   where
-    go : (i : Inner) → inner s u k ≡ i → innerLocal σ n M s i ≡ moves r w σ′ cs →
-        (v : Tree) × (inner s u k ≡ evolves r w v) × (σ ≡ σ′) × (transaction n M s v ∷ [] ≡ cs)
+    go : (i : NodeAnswer) → moveAt s u k ≡ i → insideAnswer σ n M s i ≡ moves r w σ′ cs →
+        (v : Tree) × (moveAt s u k ≡ evolves r w v) × (σ ≡ σ′) × (transaction n M s v ∷ [] ≡ cs)
     go (evolves r′ w′ v) i q = let z : r′ ≡ r = cc in let y : w′ ≡ w = cc in (v, i ∙ rw (z, y), cc, cc)
     go noRule i q = let z : _≡_ {A = ℕ} 0 1 = cc in absurd (omega arith)
     go outOfRange i q = let z : _≡_ {A = ℕ} 0 1 = cc in absurd (omega arith)
 
 -- an accepted move inside the attempt at p is a move of its nodes, and changes nothing else
 pub inside-alone : (h : Configuration) (p k n : ℕ) (M : Expression) (s : State) (u : Tree) →
-    getElem? (h .components) p ≡ some (transaction n M s u) → (r : Rule) (g : Configuration) → answerTo h (inside p k) ≡ moved r g →
-    (w : Shortage) × (v : Tree) × (inner s u k ≡ evolves r w v) × (g .counts ≡ h .counts) × (g .components ≡ replaceAt p (transaction n M s v ∷ []) (h .components))
+    getElem? (h .components) p ≡ some (transaction n M s u) → (r : Rule) (g : Configuration) → transition h (inside p k) ≡ moved r g →
+    (w : Shortage) × (v : Tree) × (moveAt s u k ≡ evolves r w v) × (g .counts ≡ h .counts) × (g .components ≡ replaceAt p (transaction n M s v ∷ []) (h .components))
 unfolding positionOf
 inside-alone h p k n M s u e r g q =
     let m = accepted-inverts h (inside p k) r g q in
     let same : m .component ≡ transaction n M s u = cc (m .found) in
-    let own : localMove (h .counts) (transaction n M s u) (inside p k) ≡ moves r (m .lacks) (g .counts) (m .laid) = rw (← same) (m .local) in
+    let own : componentAnswer (h .counts) (transaction n M s u) (inside p k) ≡ moves r (m .lacks) (g .counts) (m .laid) = rw (← same) (m .local) in
     let i = inside-moved (h .counts) p k n M s u r (m .lacks) (g .counts) (m .laid) own in
     (m .lacks, i .0, i .1, sym (i .2), rw (i .3) (m .placed))
 
@@ -216,15 +216,15 @@ pub moves-lower-weight : MovesLowerWeight
 unfolding MovesLowerWeight
 moves-lower-weight bs t a h w p k n M s u e r g q =
     let i = inside-alone h p k n M s u e r g q in
-    let low : weight (i .1) < weight u = rw (i .2) at (inner-lowers s u k) in
+    let low : weight (i .1) < weight u = rw (i .2) at (move-at-lowers s u k) in
     (i .0, i .1, i .2, low, λ j. record { counts = i .3 j; components = i .4 j })
 
 -- an attempt that is not settled yet can move at one of its nodes
 pub moves-go-on : MovesGoOn
-unfolding MovesGoOn InBytes answerTo ComponentOk
+unfolding MovesGoOn InBytes transition ComponentOk
 moves-go-on bs t a h w p n M s u e live = go (mover s u live)
   where
-    go : Mover s u → (k : ℕ) × (r : Rule) × (g : Configuration) × InBytes (inside p k) × (answerTo h (inside p k) ≡ moved r g)
+    go : Mover s u → (k : ℕ) × (r : Rule) × (g : Configuration) × InBytes (inside p k) × (transition h (inside p k) ≡ moved r g)
     go (k, r, lacks, v, q, b) =
         let below = found-below (h .components) p (transaction n M s u) e in
         let few = w .few in

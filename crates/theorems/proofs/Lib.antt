@@ -1,8 +1,8 @@
 -- The proofs of the claims in semantics/specs, and the laws they rest on.
 pub mod Lists
-pub mod Reading
+pub mod ByteReads
 pub mod Shortages
-pub mod Readable
+pub mod ReadableLogs
 pub mod Measures
 pub mod GoodTable
 pub mod Trees
@@ -40,7 +40,7 @@ pub mod RunConditions
 pub mod CallConditions
 pub mod CallLists
 pub mod Steps
-pub mod First
+pub mod FirstElements
 pub mod Suggestions
 pub mod Turns
 pub mod Decimals

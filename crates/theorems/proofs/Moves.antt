@@ -17,10 +17,10 @@ use Rattle.semantics.specs.Definitions.Terms.{Expression, endT, retryT, rdT, wt
 use Rattle.semantics.specs.Definitions.Shortage.{Shortage}
 use Rattle.semantics.specs.Definitions.Logs.{readable}
 use Rattle.semantics.specs.Definitions.Configuration.{Tree, leaf, fork, Component, Configuration}
-use Rattle.semantics.specs.Definitions.Moves.{Entry, act, inside, LocalAnswer, moves, blocked, acts, Inner, evolves, noRule, outOfRange, atLeaf, atFork, atNode, inner, actsInside, Response, does, refuses, applyAt, atPosition, respondTo, Answer, moved, refused, answerOf, answerTo}
+use Rattle.semantics.specs.Definitions.Moves.{Entry, act, inside, ComponentAnswer, moves, blocked, acts, NodeAnswer, evolves, noRule, outOfRange, atLeaf, atFork, atNode, moveAt, actsInside, EntryAnswer, does, refuses, applyAt, atPosition, entryAnswer, Transition, moved, refused, transitionOf, transition}
 use Rattle.semantics.specs.Definitions.Run.{ScheduleItem, entry, malformed, entries, Counters, counted, RunAnswer, continueRun, runFrom, Step, continueSteps, steps}
 use Rattle.theorems.proofs.Walk.{inLeft, inRight, node-induction}
-use Rattle.theorems.proofs.Reading.{by-cases}
+use Rattle.theorems.proofs.ByteReads.{by-cases}
 
 -- the position that an entry names
 unfoldable pub positionOf : Entry → ℕ
@@ -28,10 +28,10 @@ positionOf (act p) = p
 positionOf (inside p k) = p
 
 -- what an entry asks of the component there
-unfoldable pub localMove : State → Component → Entry → LocalAnswer
+unfoldable pub componentAnswer : State → Component → Entry → ComponentAnswer
 unfolding acts actsInside
-localMove σ c (act p) = acts σ c
-localMove σ c (inside p k) = actsInside σ c k
+componentAnswer σ c (act p) = acts σ c
+componentAnswer σ c (inside p k) = actsInside σ c k
 
 -- an accepted choice, taken apart: the component at its position makes a move of its own, which gives the counts and what is
 -- laid down in its place
@@ -40,25 +40,25 @@ pub record Accepted (h : Configuration) (e : Entry) (r : Rule) (g : Configuratio
   pub found : getElem? (h .components) (positionOf e) ≡ some component
   pub laid : List Component
   pub lacks : Shortage
-  pub local : localMove (h .counts) component e ≡ moves r lacks (g .counts) laid
+  pub local : componentAnswer (h .counts) component e ≡ moves r lacks (g .counts) laid
   pub placed : g .components ≡ replaceAt (positionOf e) laid (h .components)
   pub fits : length (g .components) ≤ 64
 
 -- a choice as a local move at a position
 pub choose-at : (h : Configuration) (e : Entry) →
-    respondTo h e ≡ atPosition (getElem? (h .components) (positionOf e)) (λ c. applyAt (positionOf e) (localMove (h .counts) c e) h)
-unfolding respondTo positionOf localMove
+    entryAnswer h e ≡ atPosition (getElem? (h .components) (positionOf e)) (λ c. applyAt (positionOf e) (componentAnswer (h .counts) c e) h)
+unfolding entryAnswer positionOf componentAnswer
 choose-at h (act p) = refl
 choose-at h (inside p k) = refl
 
 -- where a component is there
 pub chosen-at : (h : Configuration) (e : Entry) (c : Component) → getElem? (h .components) (positionOf e) ≡ some c →
-    respondTo h e ≡ applyAt (positionOf e) (localMove (h .counts) c e) h
+    entryAnswer h e ≡ applyAt (positionOf e) (componentAnswer (h .counts) c e) h
 unfolding atPosition
 chosen-at h e c f = choose-at h e ∙ rw f
 
 -- a local move that is accepted at a position
-settled-inverts : (p : ℕ) (l : LocalAnswer) (h : Configuration) (r : Rule) (w : Shortage) (g : Configuration) → applyAt p l h ≡ does r w g →
+settled-inverts : (p : ℕ) (l : ComponentAnswer) (h : Configuration) (r : Rule) (w : Shortage) (g : Configuration) → applyAt p l h ≡ does r w g →
     (cs : List Component) × (l ≡ moves r w (g .counts) cs) × (g .components ≡ replaceAt p cs (h .components)) × (length (g .components) ≤ 64)
 unfolding applyAt
 settled-inverts p (blocked n) h r w g e = absurd (let z : _≡_ {A = ℕ} 0 1 = cc in omega arith)
@@ -77,50 +77,50 @@ settled-inverts p (moves q v σ cs) h r w g e = go (leb (length (replaceAt p cs 
     go false t = let f : refuses 19 ≡ does r w g = rw t at e in absurd (let z : _≡_ {A = ℕ} 0 1 = cc in omega arith)
 
 -- every choice that moves comes apart so, with what it tells short
-pub response-inverts : (h : Configuration) (e : Entry) (r : Rule) (w : Shortage) (g : Configuration) → respondTo h e ≡ does r w g →
+pub entry-answer-inverts : (h : Configuration) (e : Entry) (r : Rule) (w : Shortage) (g : Configuration) → entryAnswer h e ≡ does r w g →
     (a : Accepted h e r g) × (a .lacks ≡ w)
 unfolding atPosition
-response-inverts h e r w g q = go (getElem? (h .components) (positionOf e)) refl
+entry-answer-inverts h e r w g q = go (getElem? (h .components) (positionOf e)) refl
   where
     go : (o : Option Component) → getElem? (h .components) (positionOf e) ≡ o → (a : Accepted h e r g) × (a .lacks ≡ w)
     go none f = let z : refuses 14 ≡ does r w g = rw (choose-at h e, f) at q in absurd (let o : _≡_ {A = ℕ} 0 1 = cc in omega arith)
     go (some c) f =
-        let s : applyAt (positionOf e) (localMove (h .counts) c e) h ≡ does r w g = rw (choose-at h e, f) at q in
-        let i = settled-inverts (positionOf e) (localMove (h .counts) c e) h r w g s in
+        let s : applyAt (positionOf e) (componentAnswer (h .counts) c e) h ≡ does r w g = rw (choose-at h e, f) at q in
+        let i = settled-inverts (positionOf e) (componentAnswer (h .counts) c e) h r w g s in
         (record { component = c; found = f; laid = i .0; lacks = w; local = i .1; placed = i .2; fits = i .3 }, refl)
 
--- an answer that moves is a response that does
-pub answer-response : (h : Configuration) (e : Entry) (r : Rule) (g : Configuration) → answerTo h e ≡ moved r g →
-    (w : Shortage) × (respondTo h e ≡ does r w g)
-unfolding answerTo answerOf
-answer-response h e r g q = go (respondTo h e) refl q
+-- a transition that moves is an answer that does
+pub transition-entry-answer : (h : Configuration) (e : Entry) (r : Rule) (g : Configuration) → transition h e ≡ moved r g →
+    (w : Shortage) × (entryAnswer h e ≡ does r w g)
+unfolding transition transitionOf
+transition-entry-answer h e r g q = go (entryAnswer h e) refl q
   where
-    go : (x : Response) → respondTo h e ≡ x → answerOf x ≡ moved r g → (w : Shortage) × (respondTo h e ≡ does r w g)
+    go : (x : EntryAnswer) → entryAnswer h e ≡ x → transitionOf x ≡ moved r g → (w : Shortage) × (entryAnswer h e ≡ does r w g)
     go (does s w f) i q = let same : s ≡ r = cc in let is : f ≡ g = cc in (w, i ∙ rw (same, is))
     go (refuses n) i q = absurd (let z : _≡_ {A = ℕ} 0 1 = cc in omega arith)
 
-pub accepted-inverts : (h : Configuration) (e : Entry) (r : Rule) (g : Configuration) → answerTo h e ≡ moved r g → Accepted h e r g
-accepted-inverts h e r g q = let (w, i) = answer-response h e r g q in response-inverts h e r w g i .0
+pub accepted-inverts : (h : Configuration) (e : Entry) (r : Rule) (g : Configuration) → transition h e ≡ moved r g → Accepted h e r g
+accepted-inverts h e r g q = let (w, i) = transition-entry-answer h e r g q in entry-answer-inverts h e r w g i .0
 
 -- and where a component's own move leaves no more than 64 components, the choice is accepted
-pub response-made : (h : Configuration) (e : Entry) (r : Rule) {w : Shortage} (σ : State) (c : Component) (cs : List Component) →
-    getElem? (h .components) (positionOf e) ≡ some c → localMove (h .counts) c e ≡ moves r w σ cs →
+pub entry-answer-made : (h : Configuration) (e : Entry) (r : Rule) {w : Shortage} (σ : State) (c : Component) (cs : List Component) →
+    getElem? (h .components) (positionOf e) ≡ some c → componentAnswer (h .counts) c e ≡ moves r w σ cs →
     length (replaceAt (positionOf e) cs (h .components)) ≤ 64 →
-    respondTo h e ≡ does r w (record { counts = σ; components = replaceAt (positionOf e) cs (h .components) })
+    entryAnswer h e ≡ does r w (record { counts = σ; components = replaceAt (positionOf e) cs (h .components) })
 unfolding applyAt
-response-made h e r σ c cs f l k = chosen-at h e c f ∙ rw (l, le-leb _ 64 k)
+entry-answer-made h e r σ c cs f l k = chosen-at h e c f ∙ rw (l, le-leb _ 64 k)
 
 pub accepted-made : (h : Configuration) (e : Entry) (r : Rule) {w : Shortage} (σ : State) (c : Component) (cs : List Component) →
-    getElem? (h .components) (positionOf e) ≡ some c → localMove (h .counts) c e ≡ moves r w σ cs →
+    getElem? (h .components) (positionOf e) ≡ some c → componentAnswer (h .counts) c e ≡ moves r w σ cs →
     length (replaceAt (positionOf e) cs (h .components)) ≤ 64 →
-    answerTo h e ≡ moved r (record { counts = σ; components = replaceAt (positionOf e) cs (h .components) })
-unfolding answerTo answerOf
-accepted-made h e r σ c cs f l k = ap answerOf (response-made h e r σ c cs f l k)
+    transition h e ≡ moved r (record { counts = σ; components = replaceAt (positionOf e) cs (h .components) })
+unfolding transition transitionOf
+accepted-made h e r σ c cs f l k = ap transitionOf (entry-answer-made h e r σ c cs f l k)
 
 -- ---- a move inside a transaction
 
 -- a property of the tree, the rule and the tree afterwards, of an answer that is a move
-abbrev pub Moving : (Tree → Rule → Tree → Type 0) → Tree → Inner → Type 0
+abbrev pub Moving : (Tree → Rule → Tree → Type 0) → Tree → NodeAnswer → Type 0
 Moving Q t (evolves r w u) = Q t r u
 Moving Q t noRule = Unit {0}
 Moving Q t outOfRange = Unit {0}
@@ -157,14 +157,14 @@ module _ {s : State} {Q : Tree → Rule → Tree → Type 0} (each : EachRule s 
   fork-moving (fork l m) r = tt
 
   -- in a fork's right side
-  right-moving : (l r : Tree) (i : Inner) → Moving Q r i → Moving Q (fork l r) (inRight l i)
+  right-moving : (l r : Tree) (i : NodeAnswer) → Moving Q r i → Moving Q (fork l r) (inRight l i)
   unfolding inRight
   right-moving l r (evolves e w u) h = each .aor l r u e h
   right-moving l r noRule h = tt
   right-moving l r outOfRange h = tt
 
   -- in its left side
-  left-moving : (l r : Tree) (i : Inner) → Moving Q l i → Moving Q (fork l r) (inLeft r i)
+  left-moving : (l r : Tree) (i : NodeAnswer) → Moving Q l i → Moving Q (fork l r) (inLeft r i)
   unfolding inLeft
   left-moving l r (evolves e w u) h = each .aol l r u e h
   left-moving l r noRule h = tt
@@ -177,7 +177,7 @@ module _ {s : State} {Q : Tree → Rule → Tree → Type 0} (each : EachRule s 
   node-moving (fork l r) = fork-moving l r
 
   -- it holds of every move inside
-  pub inner-induction : (t : Tree) (k : ℕ) → Moving Q t (inner s t k)
+  pub inner-induction : (t : Tree) (k : ℕ) → Moving Q t (moveAt s t k)
   inner-induction =
       node-induction s (λ t k i. Moving Q t i) node-moving (λ l r k h. left-moving l r) (λ l r j. right-moving l r) (λ t k h. tt)
 
@@ -187,15 +187,15 @@ module _ {s : State} {Q : Tree → Rule → Tree → Type 0} (each : EachRule s 
 -- its first configuration and counters, the choices done before it, its steps and its answer
 pub run-induction : (Q : Configuration → Counters → ℕ → List Step → RunAnswer → Type 0) →
     ((n p d : ℕ) (h : Configuration) (c : Counters) → Q h c d [] (record { number = n; place = p; done = d; configuration = h; counters = c })) →
-    ((e : Entry) (r : Rule) (h g : Configuration) (c : Counters) (d : ℕ) (ss : List Step) (a : RunAnswer) → answerTo h e ≡ moved r g →
+    ((e : Entry) (r : Rule) (h g : Configuration) (c : Counters) (d : ℕ) (ss : List Step) (a : RunAnswer) → transition h e ≡ moved r g →
     Q g (counted r c) (suc d) ss a → Q h c d (record { chosen = e; rule = r; before = h; result = g } ∷ ss) a) →
     (items : List ScheduleItem) (h : Configuration) (c : Counters) (p d : ℕ) → Q h c d (steps h (entries items)) (runFrom h c p d items)
 unfolding runFrom entries steps
 run-induction Q stops goes [] h c p d = stops 0 p d h c
 run-induction Q stops goes (malformed n ∷ items) h c p d = stops n p d h c
-run-induction Q stops goes (entry e w ∷ items) h c p d = go (answerTo h e) refl (λ r g. run-induction Q stops goes items g (counted r c) (p + w) (suc d))
+run-induction Q stops goes (entry e w ∷ items) h c p d = go (transition h e) refl (λ r g. run-induction Q stops goes items g (counted r c) (p + w) (suc d))
   where
-    go : (x : Answer) → answerTo h e ≡ x →
+    go : (x : Transition) → transition h e ≡ x →
         ((r : Rule) (g : Configuration) → Q g (counted r c) (suc d) (steps g (entries items)) (runFrom g (counted r c) (p + w) (suc d) items)) →
         Q h c d
         (continueSteps x (λ r g. record { chosen = e; rule = r; before = h; result = g } ∷ steps g (entries items)))

@@ -14,8 +14,8 @@ use Rattle.semantics.specs.Definitions.Basics.{firstOf}
 use Rattle.semantics.specs.Definitions.Terms.{Expression, endT, retryT, rdT, wtT, orElseT}
 use Rattle.semantics.specs.Definitions.Logs.{emptyLog, readable, paths, firstReadable}
 use Rattle.semantics.specs.Definitions.Configuration.{Tree, leaf, fork}
-use Rattle.semantics.specs.Definitions.Moves.{Inner, evolves, noRule, outOfRange, inner}
-use Rattle.theorems.proofs.Readable.{readable-included, included-readable}
+use Rattle.semantics.specs.Definitions.Moves.{NodeAnswer, evolves, noRule, outOfRange, moveAt}
+use Rattle.theorems.proofs.ReadableLogs.{readable-included, included-readable}
 use Rattle.theorems.proofs.Moves.{Moving, inner-induction}
 
 -- ---- the three facts of readable that the moves inside rest on
@@ -130,9 +130,9 @@ abbrev pub Keeps : State → Tree → Rule → Tree → Type 0
 Keeps s t r u = LogsReadable s t → (outcome s u ≡ outcome s t) × LogsReadable s u
 
 -- every move inside keeps both
-pub inner-keeps : (s : State) (t : Tree) (k : ℕ) → Moving (Keeps s) t (inner s t k)
+pub move-at-keeps : (s : State) (t : Tree) (k : ℕ) → Moving (Keeps s) t (moveAt s t k)
 unfolding outcome LogsReadable
-inner-keeps s = inner-induction (record {
+move-at-keeps s = inner-induction (record {
   ardok = λ n a M δ e h. (sym (first-from-rd s n a M δ), e);
   ardf = λ n a M δ e h. (sym (first-from-rd s n a M δ ∙ first-from-unreadable s M (δ ++ (rd a ∷ [])) e), h);
   awr = λ n a M δ h. (sym (first-from-wt s n a M δ), readable-write s δ a h);
@@ -175,16 +175,16 @@ pub faithful-start : (s : State) (M : Expression) → Faithful s M (leaf M empty
 faithful-start s M = record { comes = outcome-start s M; logs = readable-start s M }
 
 -- of a move inside a tree that is true to its block M
-abbrev pub StaysFaithful : State → Expression → Inner → Type 0
+abbrev pub StaysFaithful : State → Expression → NodeAnswer → Type 0
 StaysFaithful s M (evolves r w u) = Faithful s M u
 StaysFaithful s M noRule = Unit {0}
 StaysFaithful s M outOfRange = Unit {0}
 
 -- every move inside keeps it so
-pub faithful-move : (s : State) (M : Expression) (t : Tree) (k : ℕ) → Faithful s M t → StaysFaithful s M (inner s t k)
-faithful-move s M t k f = go (inner s t k) (inner-keeps s t k)
+pub faithful-move : (s : State) (M : Expression) (t : Tree) (k : ℕ) → Faithful s M t → StaysFaithful s M (moveAt s t k)
+faithful-move s M t k f = go (moveAt s t k) (move-at-keeps s t k)
   where
-    go : (i : Inner) → Moving (Keeps s) t i → StaysFaithful s M i
+    go : (i : NodeAnswer) → Moving (Keeps s) t i → StaysFaithful s M i
     go (evolves r w u) h = let k = h (f .logs) in record { comes = k .0 ∙ f .comes; logs = k .1 }
     go noRule h = tt
     go outOfRange h = tt

@@ -20,12 +20,12 @@ use Rattle.semantics.specs.Definitions.Terms.{Expression, endT}
 use Rattle.semantics.specs.Definitions.Table.{Table}
 use Rattle.semantics.specs.Definitions.Logs.{emptyLog, readable, paths, firstReadable, takeToken}
 use Rattle.semantics.specs.Definitions.Configuration.{Idle, repeating, output, Tree, leaf, transaction, Configuration, opens, opening}
-use Rattle.semantics.specs.Definitions.Moves.{Entry, moved, answerTo, effectOf, ruleNumber}
+use Rattle.semantics.specs.Definitions.Moves.{Entry, moved, transition, effectOf, ruleNumber}
 use Rattle.semantics.specs.Definitions.Run.{Counters, Step, steps, finalConfiguration}
 use Rattle.semantics.specs.Claims.NumberedRun.{Numbered, numberedStart, numberedStep, numberedRun, gainedSince}
 use Rattle.semantics.specs.Claims.InnerMoves.{Moves, MovesSettleFirstPath}
 use Rattle.semantics.specs.Claims.Atomicity.{AttemptBegun, CommitOk, AttemptsOk}
-use Rattle.theorems.proofs.Readable.{readable-included, included-readable}
+use Rattle.theorems.proofs.ReadableLogs.{readable-included, included-readable}
 use Rattle.theorems.proofs.InnerMoves.{moves-settle-first-path}
 use Rattle.theorems.proofs.Lists.{none-found, found-at, found-below, found-map, found-back, all-at, all-every, all-weaken, all-map, all-replaceAt}
 use Rattle.theorems.proofs.Moves.{positionOf}
@@ -196,7 +196,7 @@ pub record Standing (H : List Step) (j : ℕ) (h : Configuration) (a : Numbered)
 
 -- a choice more
 standing-step : (H : List Step) (j : ℕ) (st : Step) (a : Numbered) → getElem? H j ≡ some st →
-    answerTo (st .before) (st .chosen) ≡ moved (st .rule) (st .result) →
+    transition (st .before) (st .chosen) ≡ moved (st .rule) (st .result) →
     Standing H j (st .before) a → Standing H (suc j) (st .result) (numberedStep a (st .chosen))
 unfolding numberedStep
 standing-step H j st a done q k =

@@ -17,7 +17,7 @@ use Rattle.semantics.specs.Definitions.Configuration.{Idle, taking, repeating, 
 use Rattle.semantics.specs.Definitions.Stored.{hallBytes, treeBytes, componentBytes, bytesOf, ComponentOk, splitBytes, treeFrom, waitingComponent, transactionOn, ComponentKind, waitingC, outputC, transactionC, otherC, componentKind, componentFrom, componentsFrom, configurationOf}
 use Rattle.semantics.specs.Checks.AcceptedTables.{programNumber, termNumber, ProgramIn, GoodTable}
 use Rattle.semantics.specs.Checks.StoredForm.{WidthBoundsOpening, ReadBack, BytesDiffer, ReadIsWellFormed, WellFormedAgrees, StoredFits, OpeningIsWellFormed}
-use Rattle.theorems.proofs.Reading.{given-some, provided-some, zeros-replicate, replicate-zeros}
+use Rattle.theorems.proofs.ByteReads.{given-some, provided-some, zeros-replicate, replicate-zeros}
 use Rattle.theorems.proofs.GoodTable.{accepted-is-good, start-is-term, tokens-are-counts}
 use Rattle.theorems.proofs.Trees.{cut-back, cut-forth, length-padded, padded-of, padded-bytes, tree-back, tree-forth, tree-size, tree-bytes}
 use Rattle.theorems.proofs.Lists.{all-append, all-left, all-right, found-below, all-map}

@@ -9,7 +9,7 @@ use mathlib.Core.List.{List, [], _∷_}
 use lib.ListN.{length, take, drop}
 use Rattle.calculus.specs.Reduction.{Rule}
 use Rattle.semantics.specs.Definitions.Configuration.{Configuration}
-use Rattle.semantics.specs.Definitions.Moves.{Entry, act, inside, Answer, moved, refused, answerTo}
+use Rattle.semantics.specs.Definitions.Moves.{Entry, act, inside, Transition, moved, refused, transition}
 use Rattle.semantics.specs.Definitions.Run.{schedule, entries, entryBytes, scheduleBytes, Counters, counted, RunAnswer, continueRun, runFrom, run}
 use Rattle.semantics.specs.Checks.Conditions.{FirstCondition, ChoiceCondition, Stops, at-end, kind-neither, act-short, inside-short, node-short, act-refused, inside-refused, RunStops, RunNumbers, OneReason}
 use Rattle.theorems.proofs.Moves.{accepted-inverts}
@@ -18,7 +18,7 @@ use Rattle.theorems.proofs.ChoiceConditions.{first-unique, Reason, choi
 -- ---- the rest of a run
 
 -- a run over these bytes, from a place with so many entries done: how many bytes and entries it does, and why it stops there
-record Ran (bs : List ℕ) (p d : ℕ) (a : RunAnswer) : Type 0 where
+record RanWhole (bs : List ℕ) (p d : ℕ) (a : RunAnswer) : Type 0 where
   bytes : ℕ
   chosen : ℕ
   place : a .place ≡ p + bytes
@@ -30,13 +30,13 @@ record Ran (bs : List ℕ) (p d : ℕ) (a : RunAnswer) : Type 0 where
 
 -- it stops at once
 stopped : (h : Configuration) (c : Counters) (p d n : ℕ) (bs : List ℕ) → Stops h n bs →
-    Ran bs p d (record { number = n; place = p; done = d; configuration = h; counters = c })
+    RanWhole bs p d (record { number = n; place = p; done = d; configuration = h; counters = c })
 unfolding scheduleBytes
 stopped h c p d n bs s =
     record { bytes = 0; chosen = 0; place = omega arith; done = omega arith; inside-bytes = omega arith; before = refl; as-many = omega arith; reason = s }
 
 -- it goes on after an entry
-past-act : (q p d : ℕ) (bs : List ℕ) (a : RunAnswer) → Ran bs (p + 2) (suc d) a → Ran (1 ∷ q ∷ bs) p d a
+past-act : (q p d : ℕ) (bs : List ℕ) (a : RunAnswer) → RanWhole bs (p + 2) (suc d) a → RanWhole (1 ∷ q ∷ bs) p d a
 unfolding scheduleBytes entryBytes schedule entries
 past-act q p d bs a r =
     let here = r .place in
@@ -54,7 +54,7 @@ past-act q p d bs a r =
       reason = r .reason;
     }
 
-past-inside : (q k p d : ℕ) (bs : List ℕ) (a : RunAnswer) → Ran bs (p + 3) (suc d) a → Ran (2 ∷ q ∷ k ∷ bs) p d a
+past-inside : (q k p d : ℕ) (bs : List ℕ) (a : RunAnswer) → RanWhole bs (p + 3) (suc d) a → RanWhole (2 ∷ q ∷ k ∷ bs) p d a
 unfolding scheduleBytes entryBytes schedule entries
 past-inside q k p d bs a r =
     let here = r .place in
@@ -73,33 +73,33 @@ past-inside q k p d bs a r =
     }
 
 -- an entry that is done goes on, one that is refused stops the run
-met : (h : Configuration) (c : Counters) (p d w : ℕ) (bs rest : List ℕ) (e : Entry) (o : Answer) → answerTo h e ≡ o → Reason (λ m. ChoiceCondition h m e) o →
+met : (h : Configuration) (c : Counters) (p d w : ℕ) (bs rest : List ℕ) (e : Entry) (o : Transition) → transition h e ≡ o → Reason (λ m. ChoiceCondition h m e) o →
     ((n : ℕ) → FirstCondition (λ m. ChoiceCondition h m e) n → Stops h n bs) →
     ((r : Rule) (g : Configuration) → length (g .components) ≤ 64 →
-    Ran bs p d (runFrom g (counted r c) (p + w) (suc d) (schedule rest))) →
-    Ran bs p d
+    RanWhole bs p d (runFrom g (counted r c) (p + w) (suc d) (schedule rest))) →
+    RanWhole bs p d
     (continueRun o (λ n. record { number = n; place = p; done = d; configuration = h; counters = c }) (λ r g. runFrom g (counted r c) (p + w) (suc d) (schedule rest)))
 unfolding continueRun
 met h c p d w bs rest e (moved r g) q z stop next = next r g (accepted-inverts h e r g q .fits)
 met h c p d w bs rest e (refused n) q z stop next = stopped h c p d n bs (stop n z)
 
-ran : (bs : List ℕ) (h : Configuration) → length (h .components) ≤ 64 → (c : Counters) (p d : ℕ) → Ran bs p d (runFrom h c p d (schedule bs))
+ran : (bs : List ℕ) (h : Configuration) → length (h .components) ≤ 64 → (c : Counters) (p d : ℕ) → RanWhole bs p d (runFrom h c p d (schedule bs))
 unfolding runFrom schedule
 ran [] h few c p d = stopped h c p d 0 [] at-end
 ran (zero ∷ bs) h few c p d = stopped h c p d 12 (0 ∷ bs) (kind-neither (omega arith) (omega arith))
 ran (suc zero ∷ []) h few c p d = stopped h c p d 13 (1 ∷ []) act-short
 ran (suc zero ∷ q ∷ bs) h few c p d =
-    met h c p d 2 (1 ∷ q ∷ bs) bs (act q) (answerTo h (act q)) refl (choice-reason h few (act q)) (λ n f. act-refused f)
+    met h c p d 2 (1 ∷ q ∷ bs) bs (act q) (transition h (act q)) refl (choice-reason h few (act q)) (λ n f. act-refused f)
     (λ r g fits. past-act q p d bs (runFrom g (counted r c) (p + 2) (suc d) (schedule bs)) (ran bs g fits (counted r c) (p + 2) (suc d)))
 ran (suc (suc zero) ∷ []) h few c p d = stopped h c p d 13 (2 ∷ []) inside-short
 ran (suc (suc zero) ∷ q ∷ []) h few c p d = stopped h c p d 13 (2 ∷ q ∷ []) node-short
 ran (suc (suc zero) ∷ q ∷ k ∷ bs) h few c p d =
-    met h c p d 3 (2 ∷ q ∷ k ∷ bs) bs (inside q k) (answerTo h (inside q k)) refl (choice-reason h few (inside q k)) (λ n f. inside-refused f)
+    met h c p d 3 (2 ∷ q ∷ k ∷ bs) bs (inside q k) (transition h (inside q k)) refl (choice-reason h few (inside q k)) (λ n f. inside-refused f)
     (λ r g fits. past-inside q k p d bs (runFrom g (counted r c) (p + 3) (suc d) (schedule bs)) (ran bs g fits (counted r c) (p + 3) (suc d)))
 ran (suc (suc (suc k)) ∷ bs) h few c p d = stopped h c p d 12 (suc (suc (suc k)) ∷ bs) (kind-neither (omega arith) (omega arith))
 
 -- a run from the start of its bytes
-whole : (bs : List ℕ) (a : RunAnswer) → Ran bs 0 0 a → RunStops bs a
+whole : (bs : List ℕ) (a : RunAnswer) → RanWhole bs 0 0 a → RunStops bs a
 whole bs a r =
     let here : a .place ≡ r .bytes = (let q = r .place in omega arith) in
     let done : a .done ≡ r .chosen = (let q = r .done in omega arith) in

@@ -8,14 +8,14 @@ use mathlib.Core.List.{List, [], _∷_, _++_}
 use lib.ListN.{length, getElem?, take}
 use Rattle.calculus.specs.Reduction.{Rule}
 use Rattle.semantics.specs.Definitions.Configuration.{Configuration}
-use Rattle.semantics.specs.Definitions.Moves.{Entry, act, inside, Answer, moved, refused, answerTo}
+use Rattle.semantics.specs.Definitions.Moves.{Entry, act, inside, Transition, moved, refused, transition}
 use Rattle.semantics.specs.Definitions.Run.{Counters, counted, schedule, scheduleBytes, RunAnswer, continueRun, runFrom, run, Step, steps, continueSteps, finalConfiguration}
 use Rattle.theorems.proofs.Lists.{none-found}
 
 -- entries accepted one after another, from one configuration to another
 pub data Runs : Configuration → List Entry → Configuration → Type 0 where
   rested : {h : Configuration} → Runs h [] h
-  ran : {h f g : Configuration} {e : Entry} {es : List Entry} (r : Rule) → answerTo h e ≡ moved r f → Runs f es g →
+  ran : {h f g : Configuration} {e : Entry} {es : List Entry} (r : Rule) → transition h e ≡ moved r f → Runs f es g →
       Runs h (e ∷ es) g
 
 -- entries behind entries
@@ -25,7 +25,7 @@ runs-append (ran r q x) y = ran r q (runs-append x y)
 
 -- what every accepted choice keeps, they keep
 pub runs-keep : (P : Configuration → Type 0) →
-    ((h : Configuration) (e : Entry) (r : Rule) (g : Configuration) → P h → answerTo h e ≡ moved r g → P g) →
+    ((h : Configuration) (e : Entry) (r : Rule) (g : Configuration) → P h → transition h e ≡ moved r g → P g) →
     {h g : Configuration} {es : List Entry} → Runs h es g → P h → P g
 runs-keep P step rested p = p
 runs-keep P step (ran {h = h} {f = f} {e = e} r q x) p = runs-keep P step x (step h e r f p q)
@@ -41,9 +41,9 @@ runs-steps (ran r q x) = let i = runs-steps x in rw q (ap suc (i .0), i .1)
 pub steps-run : (h : Configuration) (es : List Entry) → length (steps h es) ≡ length es → Runs h es (finalConfiguration h (steps h es))
 unfolding steps
 steps-run h [] e = rested
-steps-run h (d ∷ es) e = go (answerTo h d) refl (λ f. steps-run f es)
+steps-run h (d ∷ es) e = go (transition h d) refl (λ f. steps-run f es)
   where
-    go : (a : Answer) → answerTo h d ≡ a → ((f : Configuration) → length (steps f es) ≡ length es → Runs f es (finalConfiguration f (steps f es))) →
+    go : (a : Transition) → transition h d ≡ a → ((f : Configuration) → length (steps f es) ≡ length es → Runs f es (finalConfiguration f (steps f es))) →
         Runs h (d ∷ es) (finalConfiguration h (steps h (d ∷ es)))
     go (moved r f) q rest = rw q (ran r q (rest f (let k : suc (length (steps f es)) ≡ suc (length es) = rw q at e in omega arith)))
     go (refused n) q rest = absurd (let k : 0 ≡ suc (length es) = rw q at e in omega arith)
@@ -71,14 +71,14 @@ runs-prefix (ran r q x) zero = rested
 runs-prefix (ran r q x) (suc j) = rw q (ran r q (runs-prefix x j))
 
 -- what a run over bytes answers where all of its choices are accepted
-pub record Ran (a : RunAnswer) (total : ℕ) (g : Configuration) (d : Counters) : Type 0 where
+pub record RanWhole (a : RunAnswer) (total : ℕ) (g : Configuration) (d : Counters) : Type 0 where
   pub number : a .number ≡ 0
   pub done : a .done ≡ total
   pub configuration : a .configuration ≡ g
   pub counters : a .counters ≡ d
 
 -- the first choice of a list, read from its bytes and accepted
-entry-runs : (h f : Configuration) (r : Rule) (e : Entry) (es : List Entry) (c : Counters) (place before : ℕ) → answerTo h e ≡ moved r f →
+entry-runs : (h f : Configuration) (r : Rule) (e : Entry) (es : List Entry) (c : Counters) (place before : ℕ) → transition h e ≡ moved r f →
     (w : ℕ) × (runFrom h c place before (schedule (scheduleBytes (e ∷ es))) ≡ runFrom f (counted r c) (place + w) (suc before) (schedule (scheduleBytes es)))
 unfolding runFrom continueRun schedule scheduleBytes
 entry-runs h f r (act p) es c place before chosen = (2, rw chosen)
@@ -86,7 +86,7 @@ entry-runs h f r (inside p k) es c place before chosen = (3, rw chosen)
 
 -- and all of them, from a place in the schedule with so many entries done
 runs-answer : {h g : Configuration} {es : List Entry} → Runs h es g → (c : Counters) (place before : ℕ) →
-    Ran (runFrom h c place before (schedule (scheduleBytes es))) (before + length es) g (tallied c (steps h es))
+    RanWhole (runFrom h c place before (schedule (scheduleBytes es))) (before + length es) g (tallied c (steps h es))
 unfolding runFrom schedule scheduleBytes steps tallied
 runs-answer rested c place before = record { number = refl; done = omega arith; configuration = refl; counters = refl }
 runs-answer {h} (ran {f = f} {e = e} {es = es} r chosen rest) c place before =
@@ -96,26 +96,26 @@ runs-answer {h} (ran {f = f} {e = e} {es = es} r chosen rest) c place before =
     rw (total, step .1, chosen) k
 
 -- A run over the bytes of choices that are all accepted does them all.
-pub runs-whole : {h g : Configuration} {es : List Entry} → Runs h es g → (c : Counters) → Ran (run h c (scheduleBytes es)) (length es) g (tallied c (steps h es))
+pub runs-whole : {h g : Configuration} {es : List Entry} → Runs h es g → (c : Counters) → RanWhole (run h c (scheduleBytes es)) (length es) g (tallied c (steps h es))
 unfolding run
 runs-whole {es = es} m c = let total : 0 + length es ≡ length es = omega arith in rw total at (runs-answer m c 0 0)
 
 -- the step by number j of the steps ss of the entries es: an accepted choice, from where the steps before it lead
 abbrev pub StepAt : Configuration → List Entry → List Step → ℕ → Step → Type 0
 StepAt h es ss j s =
-    (s .before ≡ finalConfiguration h (take j ss)) × (answerTo (s .before) (s .chosen) ≡ moved (s .rule) (s .result)) ×
+    (s .before ≡ finalConfiguration h (take j ss)) × (transition (s .before) (s .chosen) ≡ moved (s .rule) (s .result)) ×
     (s .result ≡ finalConfiguration h (take (suc j) ss)) × (getElem? es j ≡ some (s .chosen))
 
 pub step-at : (h : Configuration) (es : List Entry) (j : ℕ) (s : Step) → getElem? (steps h es) j ≡ some s →
     StepAt h es (steps h es) j s
 unfolding steps
 step-at h [] j s f = absurd (none-found j s f)
-step-at h (e ∷ es) j s f = go (answerTo h e) refl j f (λ g i k. step-at g es i s k)
+step-at h (e ∷ es) j s f = go (transition h e) refl j f (λ g i k. step-at g es i s k)
   where
     next : Rule → Configuration → List Step
     next r g = record { chosen = e; rule = r; before = h; result = g } ∷ steps g es
 
-    go : (a : Answer) → answerTo h e ≡ a → (j : ℕ) → getElem? (continueSteps a next) j ≡ some s →
+    go : (a : Transition) → transition h e ≡ a → (j : ℕ) → getElem? (continueSteps a next) j ≡ some s →
         ((g : Configuration) (i : ℕ) → getElem? (steps g es) i ≡ some s → StepAt g es (steps g es) i s) →
         StepAt h (e ∷ es) (continueSteps a next) j s
     go (refused n) q j f rest = absurd (none-found j s f)

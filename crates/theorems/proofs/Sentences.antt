@@ -18,7 +18,7 @@ use Rattle.semantics.specs.Definitions.Sentence.{ascii, ruleWords, refusalWords
 use Rattle.semantics.specs.Claims.Sentences.{shortNumbers, replyNumbers, AllBytes, SentencesAreShort, SentencesArePrintable, SameChoiceAndReply, SentencesTellApart}
 use Rattle.semantics.specs.Checks.Sentences.{WordsEnd, ShortBuffersRefused, Stands, SentenceStands, RoomOfAShortage, LongestSentence, RoomIsLeft}
 use Rattle.theorems.proofs.Lists.{all-append, all-weaken}
-use Rattle.theorems.proofs.Reading.{and-true}
+use Rattle.theorems.proofs.ByteReads.{and-true}
 use Rattle.theorems.proofs.Decimals.{decimal-bytes, decimal-short, NoDigit, decimal-apart}
 
 -- ---- numbers without words

@@ -22,16 +22,16 @@ use Rattle.semantics.specs.Definitions.Table.{Table}
 use Rattle.semantics.specs.Definitions.Shortage.{Shortage}
 use Rattle.semantics.specs.Definitions.Logs.{emptyLog, readable, firstReadable, addToken, takeToken}
 use Rattle.semantics.specs.Definitions.Configuration.{Idle, taking, repeating, block, output, Tree, leaf, fork, Component, idle, transaction, Configuration, opens, opening}
-use Rattle.semantics.specs.Definitions.Moves.{Entry, act, inside, moved, answerTo, LocalAnswer, moves, blocked, takes, puts, commits, ends, acts, actsInside, Inner, evolves, noRule, outOfRange, inner, innerLocal, ruleNumber}
+use Rattle.semantics.specs.Definitions.Moves.{Entry, act, inside, moved, transition, ComponentAnswer, moves, blocked, takes, puts, commits, ends, acts, actsInside, NodeAnswer, evolves, noRule, outOfRange, moveAt, insideAnswer, ruleNumber}
 use Rattle.semantics.specs.Definitions.Run.{Counters, counted, saturatingSuc, scheduleBytes, run, steps, finalConfiguration}
 use Rattle.semantics.specs.Definitions.AtomicRun.{WithNote, Atomic, raised, withoutNote, atomicStart, replaceComponent, endAttempt, stepComponent, atomicStep, atomicRun}
 use Rattle.semantics.specs.Claims.NumberedRun.{Note, Numbered, numberedStart, numberedStep, numberedRun, unnumbered, NumberedIsAtomic}
 use Rattle.semantics.specs.Claims.InnerMoves.{Moves, unmoved, MovesSettleFirstPath}
 use Rattle.semantics.specs.Claims.Atomicity.{rolledBack}
-use Rattle.theorems.proofs.Reading.{by-cases}
+use Rattle.theorems.proofs.ByteReads.{by-cases}
 use Rattle.theorems.proofs.Lists.{found-map, found-map?, found-back, replaceAt-same, map-replaceAt, all-at, all-replaceAt, all-map, all-every, map-agree}
-use Rattle.theorems.proofs.Moves.{positionOf, localMove, Moving, accepted-inverts}
-use Rattle.theorems.proofs.InnerMoves.{moves-snoc, moves-settle-first-path, inner-rule}
+use Rattle.theorems.proofs.Moves.{positionOf, componentAnswer, Moving, accepted-inverts}
+use Rattle.theorems.proofs.InnerMoves.{moves-snoc, moves-settle-first-path, move-at-rule}
 use Rattle.theorems.proofs.Runs.{Runs, rested, ran, tallied, runs-prefix, runs-whole}
 
 -- ---- components with numbers
@@ -74,12 +74,12 @@ pub data Stepped (σ : State) (j : ℕ) : Live → Entry → Rule → State → 
       Stepped σ j (tries i n M s (leaf (endT e) δ)) (act p) ATFAIL σ (rests (block n M) ∷ [])
   committed : (p i n : ℕ) (M : Expression) (s : State) (e : ℕ) (δ : Log) → readable σ δ ≡ true →
       Stepped σ j (tries i n M s (leaf (endT e) δ)) (act p) (ATOK δ) (without σ (RD δ)) (map rests (map output (WT δ)))
-  evolved : {w : Shortage} (p k i n : ℕ) (M : Expression) (s : State) (u v : Tree) (r : Rule) → inner s u k ≡ evolves r w v →
+  evolved : {w : Shortage} (p k i n : ℕ) (M : Expression) (s : State) (u v : Tree) (r : Rule) → moveAt s u k ≡ evolves r w v →
       8 ≤ ruleNumber r →
       Stepped σ j (tries i n M s u) (inside p k) r σ (tries i n M s v ∷ [])
 
 -- the same of a component's own answer, where it moves
-abbrev Steps : State → ℕ → Live → Entry → LocalAnswer → Type 0
+abbrev Steps : State → ℕ → Live → Entry → ComponentAnswer → Type 0
 Steps σ j z e (moves r w σ′ cs) = (laid : List Live) × (cs ≡ map component laid) × Stepped σ j z e r σ′ laid
 Steps σ j z e (blocked n) = Unit {0}
 
@@ -103,19 +103,19 @@ ends-steps σ j p i n M s (fork l r) = tt
 
 -- kind 2 at an attempt
 inside-steps : (σ : State) (j p k i n : ℕ) (M : Expression) (s : State) (u : Tree) →
-    Steps σ j (tries i n M s u) (inside p k) (innerLocal σ n M s (inner s u k))
-unfolding innerLocal
-inside-steps σ j p k i n M s u = go (inner s u k) refl (inner-rule s u k)
+    Steps σ j (tries i n M s u) (inside p k) (insideAnswer σ n M s (moveAt s u k))
+unfolding insideAnswer
+inside-steps σ j p k i n M s u = go (moveAt s u k) refl (move-at-rule s u k)
   where
-    go : (x : Inner) → inner s u k ≡ x → Moving (λ t r u. 8 ≤ ruleNumber r) u x →
-        Steps σ j (tries i n M s u) (inside p k) (innerLocal σ n M s x)
+    go : (x : NodeAnswer) → moveAt s u k ≡ x → Moving (λ t r u. 8 ≤ ruleNumber r) u x →
+        Steps σ j (tries i n M s u) (inside p k) (insideAnswer σ n M s x)
     go (evolves r w v) e late = (tries i n M s v ∷ [], refl, evolved p k i n M s u v r e late)
     go noRule e late = tt
     go outOfRange e late = tt
 
 -- either kind at any component
-local-steps : (σ : State) (j : ℕ) (z : Live) (e : Entry) → Steps σ j z e (localMove σ (component z) e)
-unfolding localMove acts actsInside takes puts
+local-steps : (σ : State) (j : ℕ) (z : Live) (e : Entry) → Steps σ j z e (componentAnswer σ (component z) e)
+unfolding componentAnswer acts actsInside takes puts
 local-steps σ j (rests (taking n a P)) (act p) =
     by-cases (Steps σ j (rests (taking n a P)) (act p)) (eqb (count σ a) 0) _ _ (λ q. tt)
     (λ q. (map rests (opens P), idle-laid (opens P), took p n a P))
@@ -214,7 +214,7 @@ pub record PacedStep (h : Configuration) (a : Numbered) (zs : List Live) (e : En
   pub laid : List Live
   pub stepped : Stepped (h .counts) (a .next) one e r (g .counts) laid
   pub lacks : Shortage
-  pub local : localMove (h .counts) (component one) e ≡ moves r lacks (g .counts) (map component laid)
+  pub local : componentAnswer (h .counts) (component one) e ≡ moves r lacks (g .counts) (map component laid)
   pub fits : length (replaceAt (positionOf e) laid zs) ≤ 64
   pub paced : Paced g (numberedStep a e) (replaceAt (positionOf e) laid zs)
   pub counters : (numberedStep a e) .run .counters ≡ counted r (a .run .counters)
@@ -239,7 +239,7 @@ paced-by : {w : Shortage} (h : Configuration) (a : Numbered) (zs : List Live) (e
     Paced h a zs →
     (z : Live) → getElem? zs (positionOf e) ≡ some z → (laid : List Live) →
     Stepped (h .counts) (a .next) z e r (g .counts) laid →
-    localMove (h .counts) (component z) e ≡ moves r w (g .counts) (map component laid) →
+    componentAnswer (h .counts) (component z) e ≡ moves r w (g .counts) (map component laid) →
     g .components ≡ replaceAt (positionOf e) (map component laid) (h .components) → length (g .components) ≤ 64 →
     PacedStep h a zs e r g
 paced-by {w} h a zs e r g pace z found laid s own placed fits =
@@ -271,11 +271,11 @@ paced-by {w} h a zs e r g pace z found laid s own placed fits =
 -- every accepted choice
 pub paced-step : (h : Configuration) (a : Numbered) (zs : List Live) (e : Entry) (r : Rule) (g : Configuration) →
     Paced h a zs →
-    answerTo h e ≡ moved r g → PacedStep h a zs e r g
+    transition h e ≡ moved r g → PacedStep h a zs e r g
 paced-step h a zs e r g pace q =
     let m = accepted-inverts h e r g q in
     let at = found-back component zs (positionOf e) (m .component) (rw (← (pace .components)) (m .found)) in
-    let own : localMove (h .counts) (component (at .0)) e ≡ moves r (m .lacks) (g .counts) (m .laid) = rw (at .2) (m .local) in
+    let own : componentAnswer (h .counts) (component (at .0)) e ≡ moves r (m .lacks) (g .counts) (m .laid) = rw (at .2) (m .local) in
     let s : Steps (h .counts) (a .next) (at .0) e (moves r (m .lacks) (g .counts) (m .laid)) =
     rw own at (local-steps (h .counts) (a .next) (at .0) e) in
     paced-by h a zs e r g pace (at .0) (at .1) (s .0) (s .2) (own ∙ ap (moves r (m .lacks) (g .counts)) (s .1))

@@ -23,17 +23,17 @@ use Rattle.semantics.specs.Definitions.Logs.{emptyLog, readable, addToken, take
 use Rattle.semantics.specs.Definitions.Configuration.{taking, repeating, block, output, Tree, leaf, fork, Component, idle, transaction, Configuration, nodes, opens}
 use Rattle.semantics.specs.Definitions.Stored.{ComponentOk, WellFormed}
 use Rattle.semantics.specs.Claims.Denotation.{expr, proc, ongoingOf, componentProcess, Denotes, nothing, alone, beside}
-use Rattle.semantics.specs.Definitions.Moves.{Entry, act, inside, LocalAnswer, moves, blocked, ends, acts, Inner, evolves, noRule, outOfRange, atLeaf, atFork, atNode, inner, innerLocal, actsInside, Answer, moved, refused, answerTo, ruleNumber}
+use Rattle.semantics.specs.Definitions.Moves.{Entry, act, inside, ComponentAnswer, moves, blocked, ends, acts, NodeAnswer, evolves, noRule, outOfRange, atLeaf, atFork, atNode, moveAt, insideAnswer, actsInside, Transition, moved, refused, transition, ruleNumber}
 use Rattle.semantics.specs.Checks.AcceptedTables.{GoodTable}
 use Rattle.semantics.specs.Definitions.Run.{ScheduleItem, Counters, counted, runFrom, run, Step, continueSteps, steps, schedule, entries}
 use Rattle.semantics.specs.Claims.Correspondence.{OpeningDenotes, OneReduction, Soundness, AtChosen, Located, Chain, RunSoundness}
 use Rattle.theorems.proofs.Walk.{inLeft, inRight, node-induction}
 use Rattle.theorems.proofs.Lists.{none-found, found-left, found-right, replaceAt-left, replaceAt-right, all-at}
-use Rattle.theorems.proofs.Readable.{readable-included, unreadable-not-included}
-use Rattle.theorems.proofs.Moves.{positionOf, localMove, accepted-inverts, run-induction}
+use Rattle.theorems.proofs.ReadableLogs.{readable-included, unreadable-not-included}
+use Rattle.theorems.proofs.Moves.{positionOf, componentAnswer, accepted-inverts, run-induction}
 use Rattle.theorems.proofs.GoodTable.{accepted-is-good}
 use Rattle.theorems.proofs.WellFormedKept.{well-formed-step}
-use Rattle.theorems.proofs.Reading.{by-cases}
+use Rattle.theorems.proofs.ByteReads.{by-cases}
 
 -- ---- states
 
@@ -86,25 +86,25 @@ nodes-ongoing s (leaf M δ) = refl
 nodes-ongoing s (fork l r) = let h = nodes-ongoing s l in let g = nodes-ongoing s r in omega arith
 
 -- at node k it is one step of the ongoing expression at that node, or k lies past the tree
-abbrev InnerSound : State → Tree → ℕ → Inner → Type 0
-InnerSound s t k (evolves r w u) = EvolvesAt k r (ongoingOf s t) (ongoingOf s u)
-InnerSound s t k noRule = Unit {0}
-InnerSound s t k outOfRange = nodes t ≤ k
+abbrev NodeAnswerSound : State → Tree → ℕ → NodeAnswer → Type 0
+NodeAnswerSound s t k (evolves r w u) = EvolvesAt k r (ongoingOf s t) (ongoingOf s u)
+NodeAnswerSound s t k noRule = Unit {0}
+NodeAnswerSound s t k outOfRange = nodes t ≤ k
 
 -- at a leaf: ARDOK or ARDF, AWR, AOI
-atLeaf-sound : (s : State) (M : Expression) (δ : Log) → InnerSound s (leaf M δ) 0 (atLeaf s M δ)
+atLeaf-sound : (s : State) (M : Expression) (δ : Log) → NodeAnswerSound s (leaf M δ) 0 (atLeaf s M δ)
 unfolding atLeaf ongoingOf nodeOf
 atLeaf-sound s (endT n) δ = tt
 atLeaf-sound s (retryT n) δ = tt
 atLeaf-sound s (rdT n a M) δ =
-    by-cases (InnerSound s (leaf (rdT n a M) δ) 0) (readable s (δ ++ (rd a ∷ []))) _ _
+    by-cases (NodeAnswerSound s (leaf (rdT n a M) δ) 0) (readable s (δ ++ (rd a ∷ []))) _ _
     (λ q. (ardok (readable-included s (δ ++ (rd a ∷ [])) q), refl))
     (λ q. (ardf (unreadable-not-included s (δ ++ (rd a ∷ [])) q), refl))
 atLeaf-sound s (wtT n a M) δ = (awr, refl)
 atLeaf-sound s (orElseT n M N) δ = (aoi, refl)
 
 -- at a fork: AOF, AOE
-atFork-sound : (s : State) (l r : Tree) → InnerSound s (fork l r) 0 (atFork l r)
+atFork-sound : (s : State) (l r : Tree) → NodeAnswerSound s (fork l r) 0 (atFork l r)
 unfolding atFork ongoingOf nodeOf
 atFork-sound s (leaf (endT n) δ) r = (aoe, refl)
 atFork-sound s (leaf (retryT n) δ) r = (aof, refl)
@@ -114,37 +114,37 @@ atFork-sound s (leaf (orElseT n M N) δ) r = tt
 atFork-sound s (fork l m) r = tt
 
 -- in a fork's right side: AOR, behind the nodes of the left side
-inRight-sound : (s : State) (l r : Tree) (k : ℕ) (x : Inner) → InnerSound s r k x →
-    InnerSound s (fork l r) (suc (nodes l + k)) (inRight l x)
+inRight-sound : (s : State) (l r : Tree) (k : ℕ) (x : NodeAnswer) → NodeAnswerSound s r k x →
+    NodeAnswerSound s (fork l r) (suc (nodes l + k)) (inRight l x)
 unfolding inRight ongoingOf nodes nodeOf
 inRight-sound s l r k (evolves e w u) h = (aor (h .0), let n = nodes-ongoing s l in let m = h .1 in omega arith)
 inRight-sound s l r k noRule h = tt
 inRight-sound s l r k outOfRange h = omega arith
 
 -- in a fork's left side: AOL
-inLeft-sound : (s : State) (l r : Tree) (k : ℕ) → k < nodes l → (x : Inner) → InnerSound s l k x →
-    InnerSound s (fork l r) (suc k) (inLeft r x)
+inLeft-sound : (s : State) (l r : Tree) (k : ℕ) → k < nodes l → (x : NodeAnswer) → NodeAnswerSound s l k x →
+    NodeAnswerSound s (fork l r) (suc k) (inLeft r x)
 unfolding inLeft ongoingOf nodeOf
 inLeft-sound s l r k b (evolves e w u) h = (aol (h .0), ap suc (h .1))
 inLeft-sound s l r k b noRule h = tt
 inLeft-sound s l r k b outOfRange h = absurd (omega arith)
 
 -- at the root
-atNode-sound : (s : State) (t : Tree) → InnerSound s t 0 (atNode s t)
+atNode-sound : (s : State) (t : Tree) → NodeAnswerSound s t 0 (atNode s t)
 unfolding atNode
 atNode-sound s (leaf M δ) = atLeaf-sound s M δ
 atNode-sound s (fork l r) = atFork-sound s l r
 
 -- at any node
-inner-sound : (s : State) (t : Tree) (k : ℕ) → InnerSound s t k (inner s t k)
-inner-sound s =
-    node-induction s (λ t k x. InnerSound s t k x) (atNode-sound s) (inLeft-sound s) (inRight-sound s) (λ t k h. h)
+move-at-sound : (s : State) (t : Tree) (k : ℕ) → NodeAnswerSound s t k (moveAt s t k)
+move-at-sound s =
+    node-induction s (λ t k x. NodeAnswerSound s t k x) (atNode-sound s) (inLeft-sound s) (inRight-sound s) (λ t k h. h)
 
 -- ---- a move of one component
 
 -- kind 1: by one of the rules 1 to 7 it is one reduction of the process that the component stands for, to one that
 -- stands as what is laid down
-abbrev ActSound : State → Component → LocalAnswer → Type 0
+abbrev ActSound : State → Component → ComponentAnswer → Type 0
 ActSound σ c (moves r w τ cs) =
     (P : Process) × Reduces LogOrder (by r) (componentProcess c) σ P τ × (ruleNumber r ≤ 7) × Denotes P cs
 ActSound σ c (blocked n) = Unit {0}
@@ -183,23 +183,23 @@ acts-sound ts σ (idle (output a)) h k =
 acts-sound ts σ (transaction n M s t) h k = ends-sound σ n M s t
 
 -- kind 2: it is one step, at the node, of a transaction's ongoing expression, and leaves the counts
-abbrev InsideSound : State → Component → ℕ → LocalAnswer → Type 0
+abbrev InsideSound : State → Component → ℕ → ComponentAnswer → Type 0
 InsideSound σ c k (moves r w τ cs) =
     (n : ℕ) × (M : Expression) × (s : State) × (t : Tree) × (u : Tree) × (c ≡ transaction n M s t) ×
     EvolvesAt k r (ongoingOf s t) (ongoingOf s u) × (cs ≡ transaction n M s u ∷ []) × (τ ≡ σ)
 InsideSound σ c k (blocked n) = Unit {0}
 
-innerLocal-sound : (σ : State) (n : ℕ) (M : Expression) (s : State) (t : Tree) (k : ℕ) (x : Inner) → InnerSound s t k x →
-    InsideSound σ (transaction n M s t) k (innerLocal σ n M s x)
-unfolding innerLocal
-innerLocal-sound σ n M s t k (evolves r w u) h = (n, M, s, t, u, refl, h, refl, refl)
-innerLocal-sound σ n M s t k noRule h = tt
-innerLocal-sound σ n M s t k outOfRange h = tt
+insideAnswer-sound : (σ : State) (n : ℕ) (M : Expression) (s : State) (t : Tree) (k : ℕ) (x : NodeAnswer) → NodeAnswerSound s t k x →
+    InsideSound σ (transaction n M s t) k (insideAnswer σ n M s x)
+unfolding insideAnswer
+insideAnswer-sound σ n M s t k (evolves r w u) h = (n, M, s, t, u, refl, h, refl, refl)
+insideAnswer-sound σ n M s t k noRule h = tt
+insideAnswer-sound σ n M s t k outOfRange h = tt
 
 actsInside-sound : (σ : State) (c : Component) (k : ℕ) → InsideSound σ c k (actsInside σ c k)
 unfolding actsInside
 actsInside-sound σ (idle c) k = tt
-actsInside-sound σ (transaction n M s t) k = innerLocal-sound σ n M s t k (inner s t k) (inner-sound s t k)
+actsInside-sound σ (transaction n M s t) k = insideAnswer-sound σ n M s t k (moveAt s t k) (move-at-sound s t k)
 
 -- ---- at a position
 
@@ -234,8 +234,8 @@ reduces-at (beside {P = L} {Q = R} {cs = xs} {ds = ys} u v) p c ds f Q r s =
 
 -- an accepted choice on a well-formed configuration does one reduction, at the place that it names
 pub located-step : {ts : List Term} {h : Configuration} (e : Entry) {r : Rule} {g : Configuration} → WellFormed ts h →
-    answerTo h e ≡ moved r g → AtChosen h e r g
-unfolding AtChosen positionOf localMove
+    transition h e ≡ moved r g → AtChosen h e r g
+unfolding AtChosen positionOf componentAnswer
 located-step {ts} {h} (act p) {r} {g} ok q =
     let m = accepted-inverts h (act p) r g q in
     let c : ComponentOk ts (m .component) = all-at (ComponentOk ts) (h .components) p (m .component) (ok .each) (m .found) in
@@ -290,12 +290,12 @@ chosen-reduces h (inside p k) r g x =
     }
 
 pub one-reduces : {ts : List Term} {h : Configuration} (e : Entry) {r : Rule} {g : Configuration} → WellFormed ts h →
-    answerTo h e ≡ moved r g → OneReduces h r g
+    transition h e ≡ moved r g → OneReduces h r g
 one-reduces {h = h} e {r = r} {g = g} ok q = chosen-reduces h e r g (located-step e ok q)
 
 -- which is a reduction of whatever process the configuration stands for
 pub reduction-step : {ts : List Term} {h : Configuration} (e : Entry) {r : Rule} {g : Configuration} → WellFormed ts h →
-    answerTo h e ≡ moved r g → OneReduction h r g
+    transition h e ≡ moved r g → OneReduction h r g
 unfolding OneReduction
 reduction-step e ok q P s =
     let o = one-reduces e ok q in
@@ -327,12 +327,12 @@ run-chain {ts} good = run-induction
 steps-chosen : (h : Configuration) (es : List Entry) → map (λ s. s .chosen) (steps h es) ≡ take (length (steps h es)) es
 unfolding steps
 steps-chosen h [] = refl
-steps-chosen h (e ∷ es) = go (answerTo h e) (λ g. steps-chosen g es)
+steps-chosen h (e ∷ es) = go (transition h e) (λ g. steps-chosen g es)
   where
     next : Rule → Configuration → List Step
     next r g = record { chosen = e; rule = r; before = h; result = g } ∷ steps g es
 
-    go : (x : Answer) → ((g : Configuration) → map (λ s. s .chosen) (steps g es) ≡ take (length (steps g es)) es) →
+    go : (x : Transition) → ((g : Configuration) → map (λ s. s .chosen) (steps g es) ≡ take (length (steps g es)) es) →
         map (λ s. s .chosen) (continueSteps x next) ≡ take (length (continueSteps x next)) (e ∷ es)
     go (moved r g) rest = ap (_∷_ e) (rest g)
     go (refused n) rest = refl

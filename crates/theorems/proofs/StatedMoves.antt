@@ -17,13 +17,13 @@ use Rattle.semantics.specs.Definitions.Terms.{Expression, endT, retryT, rdT, wt
 use Rattle.semantics.specs.Definitions.Shortage.{Shortage, enough}
 use Rattle.semantics.specs.Definitions.Logs.{emptyLog, shortage, readable, addToken, takeToken}
 use Rattle.semantics.specs.Definitions.Configuration.{Idle, taking, repeating, block, output, Tree, leaf, fork, Component, idle, transaction, Configuration, opens, nodes}
-use Rattle.semantics.specs.Definitions.Moves.{Entry, act, inside, LocalAnswer, moves, blocked, takes, puts, commits, ends, acts, Inner, evolves, noRule, outOfRange, reads, atLeaf, atFork, atNode, inner, innerLocal, actsInside, does, respondTo, ruleNumber}
+use Rattle.semantics.specs.Definitions.Moves.{Entry, act, inside, ComponentAnswer, moves, blocked, takes, puts, commits, ends, acts, NodeAnswer, evolves, noRule, outOfRange, reads, atLeaf, atFork, atNode, moveAt, insideAnswer, actsInside, does, entryAnswer, ruleNumber}
 use Rattle.semantics.specs.Checks.StatedMoves.{OpensInto, nil-opens, put-opens, take-opens, repeat-opens, par-opens, atom-opens, GivesWay, at-first, further, NodeBecomes, at-root, at-left, at-right, NodeMoves, ardok8, ardf9, awr10, aoi11, aof12, aoe13, MoveAsStated, out1, in2, rep3, atst4, atre5, atfail6, atok7, inside8-13, OpensAsStated, MovesAsStated}
 use Rattle.theorems.proofs.Walk.{inLeft, inRight, left-evolves, right-evolves, node-induction}
 use Rattle.theorems.proofs.Lists.{none-found, found-below, length-replaceAt}
-use Rattle.theorems.proofs.Readable.{readable-included, included-readable, unreadable-short, short-unreadable}
-use Rattle.theorems.proofs.Reading.{by-cases}
-use Rattle.theorems.proofs.Moves.{positionOf, localMove, response-inverts, response-made}
+use Rattle.theorems.proofs.ReadableLogs.{readable-included, included-readable, unreadable-short, short-unreadable}
+use Rattle.theorems.proofs.ByteReads.{by-cases}
+use Rattle.theorems.proofs.Moves.{positionOf, componentAnswer, entry-answer-inverts, entry-answer-made}
 
 -- ---- what a process opens into
 
@@ -74,19 +74,19 @@ way-placed (further {d = d} w) = ap (_∷_ d) (way-placed w)
 -- ---- at a node
 
 -- from the definition: a node that is found, with its move
-abbrev pub InnerPrinted : State → Tree → ℕ → Inner → Type 0
-InnerPrinted s t k (evolves r w u) =
+abbrev pub NodeAnswerPrinted : State → Tree → ℕ → NodeAnswer → Type 0
+NodeAnswerPrinted s t k (evolves r w u) =
     (old : Tree) × (new : Tree) × NodeBecomes k old new t u × NodeMoves s old r (ruleNumber r) w new
-InnerPrinted s t k noRule = Unit {0}
-InnerPrinted s t k outOfRange = Unit {0}
+NodeAnswerPrinted s t k noRule = Unit {0}
+NodeAnswerPrinted s t k outOfRange = Unit {0}
 
 -- at a leaf
-leaf-printed : (s : State) (M : Expression) (δ : Log) → InnerPrinted s (leaf M δ) 0 (atLeaf s M δ)
+leaf-printed : (s : State) (M : Expression) (δ : Log) → NodeAnswerPrinted s (leaf M δ) 0 (atLeaf s M δ)
 unfolding atLeaf reads ruleNumber
 leaf-printed s (endT n) δ = tt
 leaf-printed s (retryT n) δ = tt
 leaf-printed s (rdT n a M) δ =
-    by-cases (InnerPrinted s (leaf (rdT n a M) δ) 0) (readable s (δ ++ (rd a ∷ [])))
+    by-cases (NodeAnswerPrinted s (leaf (rdT n a M) δ) 0) (readable s (δ ++ (rd a ∷ [])))
     (evolves ARDOK enough (leaf M (δ ++ (rd a ∷ [])))) (evolves ARDF (shortage s (δ ++ (rd a ∷ []))) (leaf (retryT 255) δ))
     (λ e. (leaf (rdT n a M) δ, leaf M (δ ++ (rd a ∷ [])), at-root, ardok8 (readable-included s (δ ++ (rd a ∷ [])) e)))
     (λ e. let (b, k, is, f) = unreadable-short s (δ ++ (rd a ∷ [])) e in (leaf (rdT n a M) δ, leaf (retryT 255) δ, at-root, rw is (ardf9 f)))
@@ -94,7 +94,7 @@ leaf-printed s (wtT n a M) δ = (leaf (wtT n a M) δ, leaf M (δ ++ (wt a ∷ []
 leaf-printed s (orElseT n M N) δ = (leaf (orElseT n M N) δ, fork (leaf M δ) (leaf N δ), at-root, aoi11)
 
 -- at a fork
-fork-printed : (s : State) (l r : Tree) → InnerPrinted s (fork l r) 0 (atFork l r)
+fork-printed : (s : State) (l r : Tree) → NodeAnswerPrinted s (fork l r) 0 (atFork l r)
 unfolding atFork ruleNumber
 fork-printed s (leaf (endT n) δ) r = (fork (leaf (endT n) δ) r, leaf (endT n) δ, at-root, aoe13)
 fork-printed s (leaf (retryT n) δ) r = (fork (leaf (retryT n) δ) r, r, at-root, aof12)
@@ -104,35 +104,35 @@ fork-printed s (leaf (orElseT n M N) δ) r = tt
 fork-printed s (fork l m) r = tt
 
 -- in a fork's right side
-right-printed : (s : State) (l r : Tree) (j : ℕ) (i : Inner) → InnerPrinted s r j i →
-    InnerPrinted s (fork l r) (suc (nodes l + j)) (inRight l i)
+right-printed : (s : State) (l r : Tree) (j : ℕ) (i : NodeAnswer) → NodeAnswerPrinted s r j i →
+    NodeAnswerPrinted s (fork l r) (suc (nodes l + j)) (inRight l i)
 unfolding inRight nodes
 right-printed s l r j (evolves e w v) (old, new, b, m) = (old, new, at-right b, m)
 right-printed s l r j noRule h = tt
 right-printed s l r j outOfRange h = tt
 
 -- in its left side
-left-printed : (s : State) (l r : Tree) (k : ℕ) (i : Inner) → InnerPrinted s l k i → InnerPrinted s (fork l r) (suc k) (inLeft r i)
+left-printed : (s : State) (l r : Tree) (k : ℕ) (i : NodeAnswer) → NodeAnswerPrinted s l k i → NodeAnswerPrinted s (fork l r) (suc k) (inLeft r i)
 unfolding inLeft
 left-printed s l r k (evolves e w v) (old, new, b, m) = (old, new, at-left b, m)
 left-printed s l r k noRule h = tt
 left-printed s l r k outOfRange h = tt
 
 -- at the root
-node-printed : (s : State) (t : Tree) → InnerPrinted s t 0 (atNode s t)
+node-printed : (s : State) (t : Tree) → NodeAnswerPrinted s t 0 (atNode s t)
 unfolding atNode
 node-printed s (leaf M δ) = leaf-printed s M δ
 node-printed s (fork l r) = fork-printed s l r
 
 -- at any node
-pub inner-printed : (s : State) (t : Tree) (k : ℕ) → InnerPrinted s t k (inner s t k)
-inner-printed s =
-    node-induction s (λ t k i. InnerPrinted s t k i) (node-printed s) (λ l r k h. left-printed s l r k) (right-printed s) (λ t k h. tt)
+pub move-at-printed : (s : State) (t : Tree) (k : ℕ) → NodeAnswerPrinted s t k (moveAt s t k)
+move-at-printed s =
+    node-induction s (λ t k i. NodeAnswerPrinted s t k i) (node-printed s) (λ l r k h. left-printed s l r k) (right-printed s) (λ t k h. tt)
 
 -- a node that moves as printed moves by itself
 root-moves : {s : State} {old new : Tree} {r : Rule} {n : ℕ} {w : Shortage} → NodeMoves s old r n w new →
-    (inner s old 0 ≡ evolves r w new) × (ruleNumber r ≡ n)
-unfolding inner atLeaf atFork reads ruleNumber
+    (moveAt s old 0 ≡ evolves r w new) × (ruleNumber r ≡ n)
+unfolding moveAt atLeaf atFork reads ruleNumber
 root-moves {s} (ardok8 {a = a} {δ = δ} i) = (rw (included-readable s (δ ++ (rd a ∷ [])) i), refl)
 root-moves {s} (ardf9 {a = a} {δ = δ} f) = let (fails, is) = short-unreadable s (δ ++ (rd a ∷ [])) f in (rw (fails, is), refl)
 root-moves awr10 = (refl, refl)
@@ -142,7 +142,7 @@ root-moves aoe13 = (refl, refl)
 
 -- and a node that moves by itself moves in its tree
 node-moves : {k : ℕ} {old new t u : Tree} {w : Shortage} (s : State) (r : Rule) → NodeBecomes k old new t u →
-    inner s old 0 ≡ evolves r w new → inner s t k ≡ evolves r w u
+    moveAt s old 0 ≡ evolves r w new → moveAt s t k ≡ evolves r w u
 node-moves s e at-root q = q
 node-moves s e (at-left {k = k} {l = l} {r = r} b) q = left-evolves s l r k (node-moves s e b q)
 node-moves s e (at-right {k = k} {l = l} {r = r} b) q = right-evolves s l r k (node-moves s e b q)
@@ -166,27 +166,27 @@ takes-none σ a r cs e = rw (eq-eqb (count σ a) 0 e)
 
 module _ (h : Configuration) (p : ℕ) where
   -- a component's own move is one as printed, where it leaves at most 64 components
-  abbrev LocalPrinted : Entry → LocalAnswer → Type 0
-  LocalPrinted e (moves r w σ cs) = length (replaceAt p cs (h .components)) ≤ 64 →
+  abbrev ComponentAnswerPrinted : Entry → ComponentAnswer → Type 0
+  ComponentAnswerPrinted e (moves r w σ cs) = length (replaceAt p cs (h .components)) ≤ 64 →
       MoveAsStated h e r (ruleNumber r) w (record { counts = σ; components = replaceAt p cs (h .components) })
-  LocalPrinted e (blocked n) = Unit {0}
+  ComponentAnswerPrinted e (blocked n) = Unit {0}
 
   -- IN and REP
   takes-printed : (a : Name) (r : Rule) (cs : List Idle) →
-      ((m : ℕ) → count (h .counts) a ≡ suc m → LocalPrinted (act p) (moves r enough (set (h .counts) a m) (map idle cs))) →
-      LocalPrinted (act p) (takes (h .counts) a r cs)
+      ((m : ℕ) → count (h .counts) a ≡ suc m → ComponentAnswerPrinted (act p) (moves r enough (set (h .counts) a m) (map idle cs))) →
+      ComponentAnswerPrinted (act p) (takes (h .counts) a r cs)
   takes-printed a r cs f = go (count (h .counts) a) refl
     where
-      go : (c : ℕ) → count (h .counts) a ≡ c → LocalPrinted (act p) (takes (h .counts) a r cs)
+      go : (c : ℕ) → count (h .counts) a ≡ c → ComponentAnswerPrinted (act p) (takes (h .counts) a r cs)
       go zero e = rw (takes-none (h .counts) a r cs e) tt
       go (suc m) e = rw (takes-one (h .counts) a r cs m e) (f m e)
 
   -- an attempt with one end or retry leaf
   ends-printed : (n : ℕ) (M : Expression) (s : State) (t : Tree) →
-      getElem? (h .components) p ≡ some (transaction n M s t) → LocalPrinted (act p) (ends (h .counts) n M t)
+      getElem? (h .components) p ≡ some (transaction n M s t) → ComponentAnswerPrinted (act p) (ends (h .counts) n M t)
   unfolding ends commits ruleNumber
   ends-printed n M s (leaf (endT i) δ) e =
-      by-cases (LocalPrinted (act p)) (readable (h .counts) δ)
+      by-cases (ComponentAnswerPrinted (act p)) (readable (h .counts) δ)
       (moves (ATOK δ) enough (without (h .counts) (RD δ)) (map (λ a. idle (output a)) (WT δ)))
       (moves ATFAIL (shortage (h .counts) δ) (h .counts) (idle (block n M) ∷ []))
       (λ t fits. atok7 (gives-way (h .components) p _ _ e) (readable-included (h .counts) δ t) fits)
@@ -198,7 +198,7 @@ module _ (h : Configuration) (p : ℕ) where
   ends-printed n M s (fork l r) e = tt
 
   -- kind 1
-  acts-printed : (c : Component) → getElem? (h .components) p ≡ some c → LocalPrinted (act p) (acts (h .counts) c)
+  acts-printed : (c : Component) → getElem? (h .components) p ≡ some c → ComponentAnswerPrinted (act p) (acts (h .counts) c)
   unfolding acts emptyLog puts addToken ruleNumber
   acts-printed (idle (taking n a P)) e =
       takes-printed a (IN a) (opens P) (λ m q fits. in2 (gives-way (h .components) p _ _ e) (opens-into P) q fits)
@@ -207,37 +207,37 @@ module _ (h : Configuration) (p : ℕ) where
       (λ m q fits. rep3 (gives-way (h .components) p _ _ e) (opens-into P) q fits)
   acts-printed (idle (block n M)) e = λ fits. atst4 (gives-way (h .components) p _ _ e)
   acts-printed (idle (output a)) e =
-      by-cases (LocalPrinted (act p)) (leb 255 (count (h .counts) a)) (blocked 20)
+      by-cases (ComponentAnswerPrinted (act p)) (leb 255 (count (h .counts) a)) (blocked 20)
       (moves (OUT a) enough (addToken (h .counts) a) [])
       (λ t. tt) (λ t fits. out1 (gives-way (h .components) p _ _ e) (leb-false 255 (count (h .counts) a) t))
   acts-printed (transaction n M s t) e = ends-printed n M s t e
 
   -- kind 2
   inside-printed : (k : ℕ) (c : Component) → getElem? (h .components) p ≡ some c →
-      LocalPrinted (inside p k) (actsInside (h .counts) c k)
-  unfolding actsInside innerLocal
+      ComponentAnswerPrinted (inside p k) (actsInside (h .counts) c k)
+  unfolding actsInside insideAnswer
   inside-printed k (idle c) e = tt
-  inside-printed k (transaction n M s t) e = go (inner s t k) (inner-printed s t k)
+  inside-printed k (transaction n M s t) e = go (moveAt s t k) (move-at-printed s t k)
     where
-      go : (i : Inner) → InnerPrinted s t k i → LocalPrinted (inside p k) (innerLocal (h .counts) n M s i)
+      go : (i : NodeAnswer) → NodeAnswerPrinted s t k i → ComponentAnswerPrinted (inside p k) (insideAnswer (h .counts) n M s i)
       go (evolves r w u) q = λ fits. inside8-13 (gives-way (h .components) p _ _ e) (q .2) (q .3)
       go noRule q = tt
       go outOfRange q = tt
 
 -- what an entry asks of the component at its position
-local-printed : (h : Configuration) (e : Entry) (c : Component) → getElem? (h .components) (positionOf e) ≡ some c →
-    LocalPrinted h (positionOf e) e (localMove (h .counts) c e)
-unfolding positionOf localMove
-local-printed h (act p) c f = acts-printed h p c f
-local-printed h (inside p k) c f = inside-printed h p k c f
+component-answer-printed : (h : Configuration) (e : Entry) (c : Component) → getElem? (h .components) (positionOf e) ≡ some c →
+    ComponentAnswerPrinted h (positionOf e) e (componentAnswer (h .counts) c e)
+unfolding positionOf componentAnswer
+component-answer-printed h (act p) c f = acts-printed h p c f
+component-answer-printed h (inside p k) c f = inside-printed h p k c f
 
 -- every accepted choice is a move as printed
-pub chosen-printed : (h : Configuration) (e : Entry) (r : Rule) (w : Shortage) (g : Configuration) → respondTo h e ≡ does r w g →
+pub chosen-printed : (h : Configuration) (e : Entry) (r : Rule) (w : Shortage) (g : Configuration) → entryAnswer h e ≡ does r w g →
     MoveAsStated h e r (ruleNumber r) w g
 chosen-printed h e r w g q =
-    let (a, told) = response-inverts h e r w g q in
-    let m : LocalPrinted h (positionOf e) e (moves r w (g .counts) (a .laid)) =
-    rw (a .local, told) at (local-printed h e (a .component) (a .found)) in
+    let (a, told) = entry-answer-inverts h e r w g q in
+    let m : ComponentAnswerPrinted h (positionOf e) e (moves r w (g .counts) (a .laid)) =
+    rw (a .local, told) at (component-answer-printed h e (a .component) (a .found)) in
     let fits : length (replaceAt (positionOf e) (a .laid) (h .components)) ≤ 64 = rw (← (a .placed)) (a .fits) in
     subst (λ cs. MoveAsStated h e r (ruleNumber r) w (record { counts = g .counts; components = cs })) (sym (a .placed))
     (m fits)
@@ -245,15 +245,15 @@ chosen-printed h e r w g q =
 -- ---- and back
 
 module _ {c : Component} {new cs : List Component} {w : Shortage} (h : Configuration) (e : Entry) (r : Rule) (σ : State)
-    (way : GivesWay (positionOf e) c new (h .components) cs) (local : localMove (h .counts) c e ≡ moves r w σ new) where
+    (way : GivesWay (positionOf e) c new (h .components) cs) (local : componentAnswer (h .counts) c e ≡ moves r w σ new) where
   -- a component's own move that leaves at most 64 components is accepted at its position
-  made : length cs ≤ 64 → respondTo h e ≡ does r w (record { counts = σ; components = cs })
+  made : length cs ≤ 64 → entryAnswer h e ≡ does r w (record { counts = σ; components = cs })
   made fits =
-      response-made h e r σ c new (way-found way) local (rw (way-placed way) fits) ∙
+      entry-answer-made h e r σ c new (way-found way) local (rw (way-placed way) fits) ∙
       ap (λ ds. does r w (record { counts = σ; components = ds })) (way-placed way)
 
   -- and one that lays down at most one component leaves no more than there were
-  kept : length (h .components) ≤ 64 → length new ≤ 1 → respondTo h e ≡ does r w (record { counts = σ; components = cs })
+  kept : length (h .components) ≤ 64 → length new ≤ 1 → entryAnswer h e ≡ does r w (record { counts = σ; components = cs })
   kept few one =
       let below = found-below (h .components) (positionOf e) c (way-found way) in
       let l : suc (length cs) ≡ length new + length (h .components) =
@@ -263,8 +263,8 @@ module _ {c : Component} {new cs : List Component} {w : Shortage} (h : Configura
 -- every move as printed is an accepted choice
 printed-chosen : (h : Configuration) → length (h .components) ≤ 64 →
     {e : Entry} {r : Rule} {n : ℕ} {v : Shortage} {g : Configuration} → MoveAsStated h e r n v g →
-    (respondTo h e ≡ does r v g) × (ruleNumber r ≡ n)
-unfolding localMove positionOf acts puts addToken ends commits actsInside innerLocal emptyLog ruleNumber
+    (entryAnswer h e ≡ does r v g) × (ruleNumber r ≡ n)
+unfolding componentAnswer positionOf acts puts addToken ends commits actsInside insideAnswer emptyLog ruleNumber
 printed-chosen h few (out1 {p} {a} w b) =
     (kept h (act p) (OUT a) _ w (rw (lt-leb 255 (count (h .counts) a) b)) few (omega arith), refl)
 printed-chosen h few (in2 {p} {m = m} {a = a} {ds = ds} w o q fits) =

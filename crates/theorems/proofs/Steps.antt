@@ -14,9 +14,9 @@ use Rattle.semantics.specs.Definitions.Table.{Table}
 use Rattle.semantics.specs.Definitions.Shortage.{enough, short}
 use Rattle.semantics.specs.Definitions.Configuration.{Configuration}
 use Rattle.semantics.specs.Definitions.Stored.{bytesOf}
-use Rattle.semantics.specs.Definitions.Moves.{Entry, act, inside, Response, does, refuses, respondTo, answerOf, answerTo, ruleNumber, replyOf}
+use Rattle.semantics.specs.Definitions.Moves.{Entry, act, inside, EntryAnswer, does, refuses, entryAnswer, transitionOf, transition, ruleNumber, replyOf}
 use Rattle.semantics.specs.Definitions.Run.{entry, schedule, entries, runFrom, run, steps}
-use Rattle.semantics.specs.Definitions.Calls.{Admission, admitted, notAdmitted, admission, Buffers, RunCall, runResult, runAdmitted, runCall, StepCall, stepRefused, stepResponse, stepKind, stepAdmitted, stepCall, stepBytes, stepChoice, callAnswer, callEntries}
+use Rattle.semantics.specs.Definitions.Calls.{Admission, admitted, notAdmitted, admission, Buffers, RunCall, runResult, runAdmitted, runCall, StepCall, stepRefused, stepEntry, stepKind, stepAdmitted, stepCall, stepBytes, stepChoice, callAnswer, callEntries}
 use Rattle.semantics.specs.Claims.Shortages.{FailuresAloneName}
 use Rattle.semantics.specs.Checks.Conditions.{TableNumbers, HallNumbers, ChoiceNumbers, RefusalNumbers}
 use Rattle.semantics.specs.Checks.Steps.{Names, names-act, names-inside, StepCallAsStated, not-admitted, kind-unknown, is-refused, has-moved, StepCallsAsStated, StepCallNumbers, stepReply, StepReplies, NodeOfKind1, StepIsCall}
@@ -30,10 +30,10 @@ use Rattle.theorems.proofs.CallsAsOne.{AnswerHigh, choose-high}
 
 -- ---- what a step gives
 
--- to a choice of so many bytes with this response, where the bytes of a configuration are lent
-unfoldable pub answered : Configuration → Buffers → (size : ℕ) → Response → StepCall
-unfolding stepResponse
-answered h l w a = stepResponse (record { hall = bytesOf h; counters = l .counters }) w a
+-- to a choice of so many bytes with this answer, where the bytes of a configuration are lent
+unfoldable pub answered : Configuration → Buffers → (size : ℕ) → EntryAnswer → StepCall
+unfolding stepEntry
+answered h l w a = stepEntry (record { hall = bytesOf h; counters = l .counters }) w a
 
 module _ (table : List ℕ) (l : Buffers) where
   -- table or hall is turned down
@@ -50,35 +50,35 @@ module _ (table : List ℕ) (l : Buffers) where
     step-unknown (suc (suc zero)) p k one two = absurd (two refl)
     step-unknown (suc (suc (suc kind))) p k one two = rw admits
 
-    -- else it is by the response to the choice
-    step-named : {kind p k w : ℕ} {e : Entry} → Names kind p k e w → stepCall table l kind p k ≡ stepResponse l w (respondTo h e)
+    -- else it is by the answer to the choice
+    step-named : {kind p k w : ℕ} {e : Entry} → Names kind p k e w → stepCall table l kind p k ≡ stepEntry l w (entryAnswer h e)
     unfolding stepCall stepAdmitted stepKind
     step-named (names-act {p} {k}) = rw admits
     step-named (names-inside {p} {k}) = rw admits
 
     pub step-answered : l .hall ≡ bytesOf h → {kind p k w : ℕ} {e : Entry} → Names kind p k e w →
-        stepCall table l kind p k ≡ answered h l w (respondTo h e)
+        stepCall table l kind p k ≡ answered h l w (entryAnswer h e)
     unfolding answered
     step-answered same {w = w} {e = e} named =
-        step-named named ∙ λ i. stepResponse (record { hall = same i; counters = l .counters }) w (respondTo h e)
+        step-named named ∙ λ i. stepEntry (record { hall = same i; counters = l .counters }) w (entryAnswer h e)
 
 -- ---- as printed
 
 module _ (table : List ℕ) (l : Buffers) where
   printed-so : (kind p k : ℕ) (a : StepCall) → StepCallAsStated table l kind p k a → stepCall table l kind p k ≡ a
-  unfolding stepResponse stepRefused
+  unfolding stepEntry stepRefused
   printed-so kind p k a (not-admitted {n} {p = q} e) = step-turned-down table l n q kind p k e
   printed-so kind p k a (kind-unknown {t} {h} e one two) = step-unknown table l t h e kind p k one two
-  printed-so kind p k a (is-refused {t} {h} {size = w} e named q) = step-named table l t h e named ∙ ap (stepResponse l w) q
-  printed-so kind p k a (has-moved {t} {h} {size = w} e named q) = step-named table l t h e named ∙ ap (stepResponse l w) q
+  printed-so kind p k a (is-refused {t} {h} {size = w} e named q) = step-named table l t h e named ∙ ap (stepEntry l w) q
+  printed-so kind p k a (has-moved {t} {h} {size = w} e named q) = step-named table l t h e named ∙ ap (stepEntry l w) q
 
   -- every step has one of the printed answers
   module _ (t : Table) (h : Configuration) (e : admission table (l .hall) ≡ admitted t h) where
     named-printed : {kind p k w : ℕ} (d : Entry) → Names kind p k d w → StepCallAsStated table l kind p k (stepCall table l kind p k)
-    unfolding stepResponse stepRefused
-    named-printed {kind} {p} {k} {w} d named = rw (step-named table l t h e named) (go (respondTo h d) refl)
+    unfolding stepEntry stepRefused
+    named-printed {kind} {p} {k} {w} d named = rw (step-named table l t h e named) (go (entryAnswer h d) refl)
       where
-        go : (a : Response) → respondTo h d ≡ a → StepCallAsStated table l kind p k (stepResponse l w a)
+        go : (a : EntryAnswer) → entryAnswer h d ≡ a → StepCallAsStated table l kind p k (stepEntry l w a)
         go (does r lacks g) q = has-moved e named q
         go (refuses n) q = is-refused e named q
 
@@ -138,7 +138,7 @@ Numbered l kind a =
 
 printed-numbered : (table : List ℕ) (l : Buffers) → Bytes table → Bytes (l .hall) → (kind p k : ℕ) (a : StepCall) →
     StepCallAsStated table l kind p k a → Numbered l kind a
-unfolding RefusalNumbers HallNumbers TableNumbers ChoiceNumbers FailuresAloneName answerTo answerOf
+unfolding RefusalNumbers HallNumbers TableNumbers ChoiceNumbers FailuresAloneName transition transitionOf
 printed-numbered table l tb hb kind p k a (not-admitted {n} {p = q} e) =
     let range = refusal-numbers table (l .hall) n q .3 e in
     ((λ ne. (refl, refl, refl), λ late. absurd (omega arith)), λ z. absurd (omega arith))
@@ -146,7 +146,7 @@ printed-numbered table l tb hb kind p k a (kind-unknown e one two) =
     ((λ ne. (refl, refl, refl), λ late. (refl, omega arith, λ z. omega arith)), λ z. absurd (omega arith))
 printed-numbered table l tb hb kind p k a (is-refused {t} {h} {e = d} {n = n} e named q) =
     let well = (hall-numbers table (l .hall) tb hb .1 t h) .0 e .1 in
-    let range = choice-range h n d (((choice-numbers (t .terms) h well d .0 n) .0 (ap answerOf q)) .0) in
+    let range = choice-range h n d (((choice-numbers (t .terms) h well d .0 n) .0 (ap transitionOf q)) .0) in
     ((λ ne. (refl, refl, refl), λ late. (refl, range .1, λ z. omega arith)), λ z. absurd (omega arith))
 printed-numbered table l tb hb kind p k a (has-moved {t} {h} {g} {e = d} {r = r} {w = w} e named q) =
     let there = (hall-numbers table (l .hall) tb hb .1 t h) .0 e in (
@@ -162,11 +162,11 @@ printed-numbered table l tb hb kind p k a (has-moved {t} {h} {g} {e = d} {r = r}
 
 -- what a step tells is the reply to its choice
 pub step-replies : StepReplies
-unfolding StepReplies stepResponse stepRefused replyOf answerTo answerOf
+unfolding StepReplies stepEntry stepRefused replyOf transition transitionOf
 step-replies table l t h admits kind p k size e named =
-    rw (step-named table l t h admits named) (go (respondTo h e) (choose-high h e))
+    rw (step-named table l t h admits named) (go (entryAnswer h e) (choose-high h e))
   where
-    go : (x : Response) → AnswerHigh (answerOf x) → stepReply (stepResponse l size x) ≡ replyOf x
+    go : (x : EntryAnswer) → AnswerHigh (transitionOf x) → stepReply (stepEntry l size x) ≡ replyOf x
     go (does r lacks g) high = refl
     go (refuses n) high = rw (ne-eqb n 0 (λ z. omega arith))
 
@@ -215,12 +215,12 @@ module _ (l : Buffers) (h : Configuration) where
 
   -- one entry
   one : (e : Entry) (w : ℕ) →
-      RunsOne Lent (stepResponse l w (respondTo h e)) (runResult (runFrom h (l .counters) 0 0 (entry e w ∷ []))) (rulesDone h (e ∷ []))
-  unfolding stepResponse runFrom runResult steps answerTo answerOf rulesDone
-  one e w = go (respondTo h e) refl (choose-high h e)
+      RunsOne Lent (stepEntry l w (entryAnswer h e)) (runResult (runFrom h (l .counters) 0 0 (entry e w ∷ []))) (rulesDone h (e ∷ []))
+  unfolding stepEntry runFrom runResult steps transition transitionOf rulesDone
+  one e w = go (entryAnswer h e) refl (choose-high h e)
     where
-      go : (a : Response) → respondTo h e ≡ a → AnswerHigh (answerOf a) →
-          RunsOne Lent (stepResponse l w a) (runResult (runFrom h (l .counters) 0 0 (entry e w ∷ []))) (rulesDone h (e ∷ []))
+      go : (a : EntryAnswer) → entryAnswer h e ≡ a → AnswerHigh (transitionOf a) →
+          RunsOne Lent (stepEntry l w a) (runResult (runFrom h (l .counters) 0 0 (entry e w ∷ []))) (rulesDone h (e ∷ []))
       go (does r lacks g) q high = rw q (
         refl,
         omega arith,

@@ -16,13 +16,13 @@ use Rattle.semantics.specs.Definitions.Basics.{Bytes, countUp, firstOf}
 use Rattle.semantics.specs.Definitions.Terms.{Expression, endT, retryT, rdT, wtT, orElseT}
 use Rattle.semantics.specs.Definitions.Table.{Table}
 use Rattle.semantics.specs.Definitions.Configuration.{Component, idle, transaction, leaf, fork, Configuration}
-use Rattle.semantics.specs.Definitions.Moves.{Entry, act, inside, Answer, moved, refused, answerTo, atPosition, applyAt, acts, actsInside, ends, noRule, inner, innerLocal, atLeaf, isMoved, isAccepted}
+use Rattle.semantics.specs.Definitions.Moves.{Entry, act, inside, Transition, moved, refused, transition, atPosition, applyAt, acts, actsInside, ends, noRule, moveAt, insideAnswer, atLeaf, isMoved, isAccepted}
 use Rattle.semantics.specs.Definitions.Run.{Counters, schedule, entryBytes, InBytes, RunAnswer, continueRun, runFrom, run, Quiescent}
 use Rattle.semantics.specs.Definitions.Calls.{rejected, checkHall, admissionVerdict, Admission, admitted, notAdmitted, admission, Buffers, runResult, runAdmitted, runCall}
 use Rattle.semantics.specs.Definitions.Suggestion.{entriesAt, entriesBelow, firstAccepted, SuggestAnswer, suggested, still, notSuggested, suggestFound, suggestAdmitted, suggestCall}
 use Rattle.semantics.specs.Checks.StatedSuggestions.{NoneAt, AnswerAsStated, act-first, inside-first, none-accepted, not-admitted, SuggestionAsStated}
 use Rattle.semantics.specs.Claims.Suggestions.{positionOf, Before, lower-position, lower-node, FirstDone, SuggestedIsFirst, KindsApart, KindsInEitherOrder, StillIsQuiescent, StillRunsNone, RefusedAsChecked}
-use Rattle.theorems.proofs.First.{Growing, mapped-grows, blocks-grow, firstSome, first-alone, first-of-both, passes-alone, fails-alone, alone-passes, alone-fails, none-below, none-in, first-block, found-in}
+use Rattle.theorems.proofs.FirstElements.{Growing, mapped-grows, blocks-grow, firstSome, first-alone, first-of-both, passes-alone, fails-alone, alone-passes, alone-fails, none-below, none-in, first-block, found-in}
 
 -- ---- the kinds
 
@@ -34,13 +34,13 @@ module _ (h : Configuration) (p : ℕ) where
   leaf-settled : (n : ℕ) (M N : Expression) (s : State) (δ : Log) →
       getElem? (h .components) p ≡ some (transaction n M s (leaf N δ)) → atLeaf s N δ ≡ noRule →
       (k : ℕ) → isAccepted h (inside p k) ≡ false
-  unfolding isAccepted isMoved answerTo atPosition applyAt actsInside inner innerLocal
+  unfolding isAccepted isMoved transition atPosition applyAt actsInside moveAt insideAnswer
   leaf-settled n M N s δ e q zero = rw (e, q) refl
   leaf-settled n M N s δ e q (suc k) = rw e refl
 
 -- kind 1 is accepted of what waits or puts, and of an attempt that is one end or retry leaf; kind 2 of neither
 act-excludes : (h : Configuration) (p k : ℕ) → isAccepted h (act p) ≡ true → isAccepted h (inside p k) ≡ false
-unfolding isAccepted isMoved answerTo atPosition applyAt acts ends actsInside inner innerLocal atLeaf
+unfolding isAccepted isMoved transition atPosition applyAt acts ends actsInside moveAt insideAnswer atLeaf
 act-excludes h p k a = go (getElem? (h .components) p) refl a
   where
     go : (o : Option Component) → getElem? (h .components) p ≡ o → isAccepted h (act p) ≡ true → isAccepted h (inside p k) ≡ false
@@ -254,7 +254,7 @@ kinds-in-either-order h =
 
 module _ (h : Configuration) (c : Counters) where
   -- a run of one choice does one exactly where it is accepted
-  answer-done : (a : Answer) (stopped : ℕ → RunAnswer) (next : Rule → Configuration → RunAnswer) →
+  answer-done : (a : Transition) (stopped : ℕ → RunAnswer) (next : Rule → Configuration → RunAnswer) →
       ((n : ℕ) → (stopped n) .done ≡ 0) → ((r : Rule) (g : Configuration) → (next r g) .done ≡ 1) →
       (continueRun a stopped next) .done ≡ cond (isMoved a) 1 0
   unfolding continueRun isMoved
@@ -264,11 +264,11 @@ module _ (h : Configuration) (c : Counters) where
   -- so for the bytes of a choice
   entry-done : (e : Entry) → (run h c (entryBytes e)) .done ≡ cond (isAccepted h e) 1 0
   unfolding run runFrom schedule entryBytes isAccepted
-  entry-done (act p) = answer-done (answerTo h (act p)) _ _ (λ n. refl) (λ r g. refl)
-  entry-done (inside p k) = answer-done (answerTo h (inside p k)) _ _ (λ n. refl) (λ r g. refl)
+  entry-done (act p) = answer-done (transition h (act p)) _ _ (λ n. refl) (λ r g. refl)
+  entry-done (inside p k) = answer-done (transition h (inside p k)) _ _ (λ n. refl) (λ r g. refl)
 
   -- a run whose first choice is refused does nothing
-  stops-at-once : (a : Answer) (stopped : ℕ → RunAnswer) (next : Rule → Configuration → RunAnswer) →
+  stops-at-once : (a : Transition) (stopped : ℕ → RunAnswer) (next : Rule → Configuration → RunAnswer) →
       ((n : ℕ) → (stopped n) .done ≡ 0) → isMoved a ≡ false → (continueRun a stopped next) .done ≡ 0
   unfolding continueRun isMoved
   stops-at-once (moved r g) stopped next z m = absurd (false≢true (sym m))
@@ -280,11 +280,11 @@ module _ (h : Configuration) (c : Counters) where
   nothing-done q [] b = refl
   nothing-done q (zero ∷ bs) b = refl
   nothing-done q (suc zero ∷ []) b = refl
-  nothing-done q (suc zero ∷ p ∷ bs) b = stops-at-once (answerTo h (act p)) _ _ (λ n. refl) (q (act p) (b .1 .0))
+  nothing-done q (suc zero ∷ p ∷ bs) b = stops-at-once (transition h (act p)) _ _ (λ n. refl) (q (act p) (b .1 .0))
   nothing-done q (suc (suc zero) ∷ []) b = refl
   nothing-done q (suc (suc zero) ∷ p ∷ []) b = refl
   nothing-done q (suc (suc zero) ∷ p ∷ k ∷ bs) b =
-      stops-at-once (answerTo h (inside p k)) _ _ (λ n. refl) (q (inside p k) (b .1 .0, b .1 .1 .0))
+      stops-at-once (transition h (inside p k)) _ _ (λ n. refl) (q (inside p k) (b .1 .0, b .1 .1 .0))
   nothing-done q (suc (suc (suc n)) ∷ bs) b = refl
 
 -- ---- the call
@@ -403,21 +403,21 @@ refused-as-checked table hall n p = go (admission table hall) refl
 -- ---- as stated
 
 -- a choice that is never accepted is refused, and one that is accepted moves
-never-moved : (a : Answer) → ((r : Rule) (g : Configuration) → a ≡ moved r g → ⊥) ↔ (isMoved a ≡ false)
+never-moved : (a : Transition) → ((r : Rule) (g : Configuration) → a ≡ moved r g → ⊥) ↔ (isMoved a ≡ false)
 unfolding isMoved
 never-moved (moved r g) = (λ m. absurd (m r g refl), λ e. absurd (false≢true (sym e)))
 never-moved (refused n) = (λ m. refl, λ e r g q. let z : _≡_ {A = ℕ} 0 1 = cc in omega arith)
 
 module _ (h : Configuration) where
-  moves-accepted : (e : Entry) {r : Rule} {g : Configuration} → answerTo h e ≡ moved r g → isAccepted h e ≡ true
+  moves-accepted : (e : Entry) {r : Rule} {g : Configuration} → transition h e ≡ moved r g → isAccepted h e ≡ true
   unfolding isAccepted isMoved
   moves-accepted e q = ap isMoved q
 
-  accepted-moves : (e : Entry) → isAccepted h e ≡ true → (r : Rule) × (g : Configuration) × (answerTo h e ≡ moved r g)
+  accepted-moves : (e : Entry) → isAccepted h e ≡ true → (r : Rule) × (g : Configuration) × (transition h e ≡ moved r g)
   unfolding isAccepted isMoved
-  accepted-moves e m = go (answerTo h e) refl m
+  accepted-moves e m = go (transition h e) refl m
     where
-      go : (a : Answer) → answerTo h e ≡ a → isMoved a ≡ true → (r : Rule) × (g : Configuration) × (answerTo h e ≡ moved r g)
+      go : (a : Transition) → transition h e ≡ a → isMoved a ≡ true → (r : Rule) × (g : Configuration) × (transition h e ≡ moved r g)
       go (moved r g) q m = (r, g, q)
       go (refused n) q m = absurd (false≢true m)
 
@@ -425,12 +425,12 @@ module _ (h : Configuration) where
   unfolding isAccepted
   quiet-stated p = (
     λ n. record {
-      outside = never-moved (answerTo h (act p)) .0 (n .no-act);
-      within = λ k l. never-moved (answerTo h (inside p k)) .0 (n .no-inside k l);
+      outside = never-moved (transition h (act p)) .0 (n .no-act);
+      within = λ k l. never-moved (transition h (inside p k)) .0 (n .no-inside k l);
     },
     λ q. record {
-      no-act = never-moved (answerTo h (act p)) .1 (q .outside);
-      no-inside = λ k l. never-moved (answerTo h (inside p k)) .1 (q .within k l);
+      no-act = never-moved (transition h (act p)) .1 (q .outside);
+      no-inside = λ k l. never-moved (transition h (inside p k)) .1 (q .within k l);
     },
   )
 
@@ -447,7 +447,7 @@ module _ (table hall : List ℕ) where
       let (b, c) = f .in-bytes in
       let (r, g, q) = accepted-moves h (inside p k) (f .accepted) in
       inside-first z b c q (λ i l. quiet-stated h i .1 (quiet-below h (inside p k) f i l (omega arith)))
-      (λ j l. never-moved (answerTo h (inside p j)) .1 (f .none-before (inside p j) (b, omega arith) (lower-node l)))
+      (λ j l. never-moved (transition h (inside p j)) .1 (f .none-before (inside p j) (b, omega arith) (lower-node l)))
 
   found-stated : (t : Table) (h : Configuration) → admission table hall ≡ admitted t h → (o : Option Entry) →
       firstAccepted h ≡ o → AnswerAsStated table hall (suggestFound o)
@@ -480,7 +480,7 @@ module _ (table hall : List ℕ) where
       admitted-suggests table hall t h z
       ∙ ap suggestFound (first-found h (inside p k)
       (first-inside h p k b c (λ i l. quiet-stated h i .0 (below i l))
-      (moves-accepted h (inside p k) q) (λ j l. never-moved (answerTo h (inside p j)) .0 (lower j l))))
+      (moves-accepted h (inside p k) q) (λ j l. never-moved (transition h (inside p j)) .0 (lower j l))))
   stated-call (none-accepted {t} {h} z below) =
       admitted-suggests table hall t h z
       ∙ ap suggestFound (quiescent-none h (λ d b. quiet-entry h d b (quiet-stated h (positionOf d) .0 (below (positionOf d) (position-in-bytes d b)))))

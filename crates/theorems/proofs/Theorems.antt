@@ -49,7 +49,7 @@ use Rattle.semantics.proofs.Examples as RowsExamples
 use Rattle.semantics.proofs.GainExamples as RowsGainExamples
 use Rattle.semantics.proofs.LineExamples as RowsLineExamples
 use Rattle.semantics.proofs.MeasureExamples as RowsMeasureExamples
-use Rattle.semantics.proofs.MovesWorked as RowsMovesWorked
+use Rattle.semantics.proofs.MoveExamples as RowsMovesWorked
 use Rattle.semantics.proofs.Promises as RowsPromises
 use Rattle.semantics.proofs.Sentences as RowsSentences
 use Rattle.semantics.proofs.ShortageExamples as RowsShortageExamples

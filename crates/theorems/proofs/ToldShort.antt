@@ -22,7 +22,7 @@ use Rattle.semantics.specs.Definitions.Terms.{Expression, rdT, Term}
 use Rattle.semantics.specs.Definitions.Logs.{emptyLog, shortage, readable}
 use Rattle.semantics.specs.Definitions.Configuration.{Tree, leaf, fork, transaction, Configuration, preorder}
 use Rattle.semantics.specs.Definitions.Stored.{channelOf, TreeOk, ComponentOk, WellFormed}
-use Rattle.semantics.specs.Definitions.Moves.{Entry, inside, does, respondTo, ruleNumber}
+use Rattle.semantics.specs.Definitions.Moves.{Entry, inside, does, entryAnswer, ruleNumber}
 use Rattle.semantics.specs.Claims.Shortages.{ShortageIsLowest, ShortageIsExact, EnoughIsIncluded, Tests, commit-tests, read-tests, FailuresTellTheirTest, FailuresAloneName, ShortagesAreSmall}
 use Rattle.semantics.specs.Claims.InnerMoves.{Moves}
 use Rattle.semantics.specs.Checks.AcceptedTables.{GoodTable}
@@ -30,7 +30,7 @@ use Rattle.semantics.specs.Checks.StatedMoves.{NodeBecomes, at-root, at-left, a
 use Rattle.theorems.proofs.Lists.{found-below, all-at, all-append}
 use Rattle.theorems.proofs.GoodTable.{accepted-is-good}
 use Rattle.theorems.proofs.Shortages.{Found, shortage-found, found-is}
-use Rattle.theorems.proofs.Readable.{readable-included, included-readable}
+use Rattle.theorems.proofs.ReadableLogs.{readable-included, included-readable}
 use Rattle.theorems.proofs.WellFormedKept.{leaf-parts}
 use Rattle.theorems.proofs.Walk.{length-preorder, node-left, node-right}
 use Rattle.theorems.proofs.StatedMoves.{way-found, chosen-printed}
@@ -230,7 +230,7 @@ printed-small {ts} {h} good ok (inside8-13 {p} {s = s} w b (ardf9 {n} {a = a} {M
     log-small (δ ++ (rd a ∷ [])) s (omega arith) (all-append (λ α. channelOf α < 16) δ (rd a ∷ []) (here .2) (channel, tt)) f
 
 pub shortage-small : {ts : List Term} (h g : Configuration) (e : Entry) (r : Rule) {a k : ℕ} → GoodTable ts → WellFormed ts h →
-    respondTo h e ≡ does r (short a k) g → (a < 16) × (1 ≤ k) × (k ≤ 16)
+    entryAnswer h e ≡ does r (short a k) g → (a < 16) × (1 ≤ k) × (k ≤ 16)
 shortage-small h g e r {a} {k} good ok q = printed-small good ok (chosen-printed h e r (short a k) g q)
 
 pub shortages-are-small : ShortagesAreSmall

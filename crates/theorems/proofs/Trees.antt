@@ -18,7 +18,7 @@ use Rattle.semantics.specs.Definitions.Configuration.{Tree, leaf, fork, branche
 use Rattle.semantics.specs.Definitions.Stored.{actionByte, treeBytes, leafExpression, channelOf, TreeOk, splitBytes, actionOf, logOf, leafFrom, NodeKind, forkN, leafN, otherN, nodeKind, nodeFrom, treeFrom}
 use Rattle.semantics.specs.Checks.AcceptedTables.{termNumber, GoodTable}
 use Rattle.theorems.proofs.Measures.{branches-positive}
-use Rattle.theorems.proofs.Reading.{and-true, given-some, provided-some, zeros-replicate, replicate-zeros}
+use Rattle.theorems.proofs.ByteReads.{and-true, given-some, provided-some, zeros-replicate, replicate-zeros}
 use Rattle.theorems.proofs.Lists.{all-append, all-replicate, found-below}
 
 -- ---- lists of bytes

@@ -16,7 +16,8 @@ use Rattle.semantics.specs.Definitions.Calls.{rejected, checkTable, tableVerdic
 use Rattle.semantics.specs.Definitions.Turns.{turn, waitingAfter, listed, laidBy, pastEnd, notTurned, showNext, turnTested, turnCall}
 use Rattle.semantics.specs.Claims.Turns.{opensAll, turnsToGo, leaning, shownBy, leftBy, LaidThenWaiting, TurnsFall, TurnsEnd, WaitingFits, StackSuffices, LeaningNeedsItsWidth, CallsShowTurns, CallsShowTheOpening, OneATurn, TurnsRefusedAsChecked}
 use Rattle.semantics.specs.Checks.Conditions.{RefusalNumbers}
-use Rattle.theorems.proofs.First.{blocks-grow}
+use Rattle.theorems.specs.Widths.{widths}
+use Rattle.theorems.proofs.FirstElements.{blocks-grow}
 use Rattle.theorems.proofs.GoodTable.{accepted-is-good}
 use Rattle.theorems.proofs.HallConditions.{refusal-numbers}
 
@@ -31,11 +32,6 @@ width-some (takeT n a P) = omega arith
 width-some (repeatT n a P) = omega arith
 width-some (parT n P Q) = let p = width-some P in omega arith
 width-some (atomT n M) = omega arith
-
--- what terms are wide in all
-unfoldable pub widths : List Program → ℕ
-widths [] = 0
-widths (P ∷ Ps) = width P + widths Ps
 
 -- what a turn lays down, and what it leaves open, are what was open
 turn-opens : (P : Program) (Ps : List Program) → listed (turn P Ps .laid) ++ opensAll (turn P Ps .waiting) ≡ opensAll (P ∷ Ps)

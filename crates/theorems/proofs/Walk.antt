@@ -14,7 +14,7 @@ use Rattle.calculus.specs.Reduction.{Rule}
 use Rattle.semantics.specs.Definitions.Shortage.{Shortage}
 use Rattle.semantics.specs.Definitions.Terms.{Expression}
 use Rattle.semantics.specs.Definitions.Configuration.{Tree, leaf, fork, nodes, preorder}
-use Rattle.semantics.specs.Definitions.Moves.{Inner, evolves, noRule, outOfRange, atNode, putBackMove, inner}
+use Rattle.semantics.specs.Definitions.Moves.{NodeAnswer, evolves, noRule, outOfRange, atNode, putBackMove, moveAt}
 use Rattle.theorems.proofs.Lists.{found-left, found-right, found-below}
 
 -- ---- the nodes of a fork
@@ -34,31 +34,31 @@ node-right l r j = rw (← (length-preorder l)) (found-right (preorder l) (preor
 
 -- ---- a move of a side is a move of the fork
 
-unfoldable pub inLeft : Tree → Inner → Inner
+unfoldable pub inLeft : Tree → NodeAnswer → NodeAnswer
 inLeft r (evolves e w u) = evolves e w (fork u r)
 inLeft r noRule = noRule
 inLeft r outOfRange = outOfRange
 
-unfoldable pub inRight : Tree → Inner → Inner
+unfoldable pub inRight : Tree → NodeAnswer → NodeAnswer
 inRight l (evolves e w u) = evolves e w (fork l u)
 inRight l noRule = noRule
 inRight l outOfRange = outOfRange
 
 -- what is put back at the root stands alone; in a fork it stands in the left side, or in the right one
-put-root : (t : Tree) (i : Inner) → putBackMove t 0 i ≡ i
+put-root : (t : Tree) (i : NodeAnswer) → putBackMove t 0 i ≡ i
 unfolding putBackMove
 put-root (leaf M δ) (evolves e w u) = refl
 put-root (fork l r) (evolves e w u) = refl
 put-root t noRule = refl
 put-root t outOfRange = refl
 
-put-left : (l r : Tree) (k : ℕ) → k < nodes l → (i : Inner) → putBackMove (fork l r) (suc k) i ≡ inLeft r (putBackMove l k i)
+put-left : (l r : Tree) (k : ℕ) → k < nodes l → (i : NodeAnswer) → putBackMove (fork l r) (suc k) i ≡ inLeft r (putBackMove l k i)
 unfolding putBackMove inLeft
 put-left l r k h (evolves e w u) = rw (lt-ltb k (nodes l) h)
 put-left l r k h noRule = refl
 put-left l r k h outOfRange = refl
 
-put-right : (l r : Tree) (j : ℕ) (i : Inner) → putBackMove (fork l r) (suc (nodes l + j)) i ≡ inRight l (putBackMove r j i)
+put-right : (l r : Tree) (j : ℕ) (i : NodeAnswer) → putBackMove (fork l r) (suc (nodes l + j)) i ≡ inRight l (putBackMove r j i)
 unfolding putBackMove inRight
 put-right l r j (evolves e w u) =
     let back : nodes l + j - nodes l ≡ j = omega arith in rw (le-ltb (nodes l + j) (nodes l) (omega arith), back)
@@ -67,15 +67,15 @@ put-right l r j outOfRange = refl
 
 module _ (s : State) where
   -- at the root
-  pub inner-root : (t : Tree) → inner s t 0 ≡ atNode s t
-  unfolding inner
-  inner-root (leaf M δ) = put-root (leaf M δ) (atNode s (leaf M δ))
-  inner-root (fork l r) = put-root (fork l r) (atNode s (fork l r))
+  pub move-at-root : (t : Tree) → moveAt s t 0 ≡ atNode s t
+  unfolding moveAt
+  move-at-root (leaf M δ) = put-root (leaf M δ) (atNode s (leaf M δ))
+  move-at-root (fork l r) = put-root (fork l r) (atNode s (fork l r))
 
   -- in the left side
-  pub inner-left : (l r : Tree) (k : ℕ) → k < nodes l → inner s (fork l r) (suc k) ≡ inLeft r (inner s l k)
-  unfolding inner inLeft
-  inner-left l r k h = rw (node-left l r k h) (go (getElem? (preorder l) k))
+  pub move-at-left : (l r : Tree) (k : ℕ) → k < nodes l → moveAt s (fork l r) (suc k) ≡ inLeft r (moveAt s l k)
+  unfolding moveAt inLeft
+  move-at-left l r k h = rw (node-left l r k h) (go (getElem? (preorder l) k))
     where
       go : (o : Option Tree) →
           Option·elim o outOfRange (λ u. putBackMove (fork l r) (suc k) (atNode s u))
@@ -84,9 +84,9 @@ module _ (s : State) where
       go (some u) = put-left l r k h (atNode s u)
 
   -- in the right side
-  pub inner-right : (l r : Tree) (j : ℕ) → inner s (fork l r) (suc (nodes l + j)) ≡ inRight l (inner s r j)
-  unfolding inner inRight
-  inner-right l r j = rw (node-right l r j) (go (getElem? (preorder r) j))
+  pub move-at-right : (l r : Tree) (j : ℕ) → moveAt s (fork l r) (suc (nodes l + j)) ≡ inRight l (moveAt s r j)
+  unfolding moveAt inRight
+  move-at-right l r j = rw (node-right l r j) (go (getElem? (preorder r) j))
     where
       go : (o : Option Tree) →
           Option·elim o outOfRange (λ u. putBackMove (fork l r) (suc (nodes l + j)) (atNode s u))
@@ -95,13 +95,13 @@ module _ (s : State) where
       go (some u) = put-right l r j (atNode s u)
 
   -- past a leaf
-  pub inner-past-leaf : (M : Expression) (δ : Log) (k : ℕ) → inner s (leaf M δ) (suc k) ≡ outOfRange
-  unfolding inner
-  inner-past-leaf M δ k = refl
+  pub move-at-past-leaf : (M : Expression) (δ : Log) (k : ℕ) → moveAt s (leaf M δ) (suc k) ≡ outOfRange
+  unfolding moveAt
+  move-at-past-leaf M δ k = refl
 
   -- a node that moves is one of the tree's
-  pub evolves-below : (t : Tree) (k : ℕ) {u : Tree} {e : Rule} {w : Shortage} → inner s t k ≡ evolves e w u → k < nodes t
-  unfolding inner
+  pub evolves-below : (t : Tree) (k : ℕ) {u : Tree} {e : Rule} {w : Shortage} → moveAt s t k ≡ evolves e w u → k < nodes t
+  unfolding moveAt
   evolves-below t k {u} {e} {w} q = go (getElem? (preorder t) k) refl q
     where
       go : (o : Option Tree) → getElem? (preorder t) k ≡ o →
@@ -110,35 +110,35 @@ module _ (s : State) where
       go (some v) f q = let b = found-below (preorder t) k v f in let n = length-preorder t in omega arith
 
   -- a side's move, as the fork's
-  pub left-evolves : (l r : Tree) (k : ℕ) {u : Tree} {e : Rule} {w : Shortage} → inner s l k ≡ evolves e w u →
-      inner s (fork l r) (suc k) ≡ evolves e w (fork u r)
+  pub left-evolves : (l r : Tree) (k : ℕ) {u : Tree} {e : Rule} {w : Shortage} → moveAt s l k ≡ evolves e w u →
+      moveAt s (fork l r) (suc k) ≡ evolves e w (fork u r)
   unfolding inLeft
-  left-evolves l r k q = inner-left l r k (evolves-below l k q) ∙ rw q
+  left-evolves l r k q = move-at-left l r k (evolves-below l k q) ∙ rw q
 
-  pub right-evolves : (l r : Tree) (j : ℕ) {u : Tree} {e : Rule} {w : Shortage} → inner s r j ≡ evolves e w u →
-      inner s (fork l r) (suc (nodes l + j)) ≡ evolves e w (fork l u)
+  pub right-evolves : (l r : Tree) (j : ℕ) {u : Tree} {e : Rule} {w : Shortage} → moveAt s r j ≡ evolves e w u →
+      moveAt s (fork l r) (suc (nodes l + j)) ≡ evolves e w (fork l u)
   unfolding inRight
-  right-evolves l r j q = inner-right l r j ∙ rw q
+  right-evolves l r j q = move-at-right l r j ∙ rw q
 
 -- ---- induction over the nodes
 
 -- what holds at the root, goes up from either side, and holds past the last node, holds of every node
-module _ (s : State) (Q : Tree → ℕ → Inner → Type 0)
+module _ (s : State) (Q : Tree → ℕ → NodeAnswer → Type 0)
     (root : (t : Tree) → Q t 0 (atNode s t))
-    (left : (l r : Tree) (k : ℕ) → k < nodes l → (i : Inner) → Q l k i → Q (fork l r) (suc k) (inLeft r i))
-    (right : (l r : Tree) (j : ℕ) (i : Inner) → Q r j i → Q (fork l r) (suc (nodes l + j)) (inRight l i))
+    (left : (l r : Tree) (k : ℕ) → k < nodes l → (i : NodeAnswer) → Q l k i → Q (fork l r) (suc k) (inLeft r i))
+    (right : (l r : Tree) (j : ℕ) (i : NodeAnswer) → Q r j i → Q (fork l r) (suc (nodes l + j)) (inRight l i))
     (past : (t : Tree) (k : ℕ) → nodes t ≤ k → Q t k outOfRange) where
-  side : (l r : Tree) (k : ℕ) → Q l k (inner s l k) → ((j : ℕ) → Q r j (inner s r j)) → Q (fork l r) (suc k) (inner s (fork l r) (suc k))
+  side : (l r : Tree) (k : ℕ) → Q l k (moveAt s l k) → ((j : ℕ) → Q r j (moveAt s r j)) → Q (fork l r) (suc k) (moveAt s (fork l r) (suc k))
   side l r k x y = elim (decLt k (nodes l)) [
-    | yes h ↦ rw (inner-left s l r k h) (left l r k h (inner s l k) x)
+    | yes h ↦ rw (move-at-left s l r k h) (left l r k h (moveAt s l k) x)
     | no h ↦ let e : nodes l + (k - nodes l) ≡ k = omega arith in
-        subst (λ m. Q (fork l r) (suc m) (inner s (fork l r) (suc m))) e
-        (rw (inner-right s l r (k - nodes l)) (right l r (k - nodes l) (inner s r (k - nodes l)) (y (k - nodes l))))
+        subst (λ m. Q (fork l r) (suc m) (moveAt s (fork l r) (suc m))) e
+        (rw (move-at-right s l r (k - nodes l)) (right l r (k - nodes l) (moveAt s r (k - nodes l)) (y (k - nodes l))))
   ]
 
-  pub node-induction : (t : Tree) (k : ℕ) → Q t k (inner s t k)
+  pub node-induction : (t : Tree) (k : ℕ) → Q t k (moveAt s t k)
   unfolding nodes
-  node-induction (leaf M δ) zero = rw (inner-root s (leaf M δ)) (root (leaf M δ))
-  node-induction (leaf M δ) (suc k) = rw (inner-past-leaf s M δ k) (past (leaf M δ) (suc k) (omega arith))
-  node-induction (fork l r) zero = rw (inner-root s (fork l r)) (root (fork l r))
+  node-induction (leaf M δ) zero = rw (move-at-root s (leaf M δ)) (root (leaf M δ))
+  node-induction (leaf M δ) (suc k) = rw (move-at-past-leaf s M δ k) (past (leaf M δ) (suc k) (omega arith))
+  node-induction (fork l r) zero = rw (move-at-root s (fork l r)) (root (fork l r))
   node-induction (fork l r) (suc k) = side l r k (node-induction l k) (node-induction r)

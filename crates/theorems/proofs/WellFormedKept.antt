@@ -20,14 +20,14 @@ use Rattle.semantics.specs.Definitions.Logs.{emptyLog, readable, addToken}
 use Rattle.semantics.specs.Definitions.Configuration.{Idle, taking, repeating, block, output, Tree, leaf, fork, Component, idle, transaction, Configuration, branchesOf, opens}
 use Rattle.semantics.specs.Definitions.Stored.{ByteCounts, leafExpression, channelOf, TreeOk, ComponentOk, WellFormed}
 use Rattle.semantics.specs.Checks.AcceptedTables.{GoodTable, ExpressionIn, SubtermsIn, ChannelBelow}
-use Rattle.semantics.specs.Definitions.Moves.{Entry, act, inside, LocalAnswer, moves, blocked, takes, puts, ends, acts, Inner, evolves, noRule, outOfRange, inner, innerLocal, actsInside, moved, answerTo}
+use Rattle.semantics.specs.Definitions.Moves.{Entry, act, inside, ComponentAnswer, moves, blocked, takes, puts, ends, acts, NodeAnswer, evolves, noRule, outOfRange, moveAt, insideAnswer, actsInside, moved, transition}
 use Rattle.semantics.specs.Claims.Correspondence.{KeepsWellFormed}
 use Rattle.theorems.proofs.Measures.{branches-positive}
 use Rattle.theorems.proofs.GoodTable.{accepted-is-good}
 use Rattle.theorems.proofs.RoundTrip.{stored-fits, opens-ok}
 use Rattle.theorems.proofs.Lists.{found-below, all-append, all-at, all-replaceAt, all-set, all-getD, all-map}
-use Rattle.theorems.proofs.Moves.{positionOf, localMove, accepted-inverts, Moving, inner-induction}
-use Rattle.theorems.proofs.Reading.{by-cases}
+use Rattle.theorems.proofs.Moves.{positionOf, componentAnswer, accepted-inverts, Moving, inner-induction}
+use Rattle.theorems.proofs.ByteReads.{by-cases}
 
 -- ---- counts
 
@@ -75,9 +75,9 @@ abbrev pub StaysOk : List Term → Tree → Rule → Tree → Type 0
 StaysOk ts t r u = TreeOk ts t → TreeOk ts u × (branchesOf u ≤ branchesOf t)
 
 -- what a move of one component leaves: counts that are bytes, and well-formed components
-abbrev pub LocalOk : List Term → LocalAnswer → Type 0
-LocalOk ts (moves r w σ cs) = ByteCounts σ × All (ComponentOk ts) cs
-LocalOk ts (blocked n) = Unit {0}
+abbrev pub ComponentAnswerOk : List Term → ComponentAnswer → Type 0
+ComponentAnswerOk ts (moves r w σ cs) = ByteCounts σ × All (ComponentOk ts) cs
+ComponentAnswerOk ts (blocked n) = Unit {0}
 
 module _ {ts : List Term} (good : GoodTable ts) where
   -- ---- terms
@@ -112,9 +112,9 @@ module _ {ts : List Term} (good : GoodTable ts) where
       let e = leaf-entry ts M other (h .0) in (good .subterms (number M) (expression M) e, good .channel (number M) (expression M) e)
 
   -- a move inside keeps a tree well formed, and its branches do not grow in number
-  pub inner-ok : (s : State) (t : Tree) (k : ℕ) → Moving (StaysOk ts) t (inner s t k)
+  pub move-at-ok : (s : State) (t : Tree) (k : ℕ) → Moving (StaysOk ts) t (moveAt s t k)
   unfolding TreeOk branchesOf
-  inner-ok s = inner-induction (record {
+  move-at-ok s = inner-induction (record {
     ardok = λ n a M δ e h.
         let p = leaf-parts (rdT n a M) δ (λ q. let z : _≡_ {A = ℕ} 0 1 = cc in omega arith) h in
         (one-action (rd a) M δ (p .0) (p .1) (h .1) (h .2), omega arith);
@@ -135,15 +135,15 @@ module _ {ts : List Term} (good : GoodTable ts) where
   -- ---- a move of one component
 
   -- IN and REP
-  takes-ok : (σ : State) (a : Name) (r : Rule) (cs : List Idle) → ByteCounts σ → All (λ c. ComponentOk ts (idle c)) cs → LocalOk ts (takes σ a r cs)
+  takes-ok : (σ : State) (a : Name) (r : Rule) (cs : List Idle) → ByteCounts σ → All (λ c. ComponentOk ts (idle c)) cs → ComponentAnswerOk ts (takes σ a r cs)
   unfolding takes
   takes-ok σ a r cs h k =
-      by-cases (LocalOk ts) (eqb (count σ a) 0) _ _ (λ q. tt) (λ q. (without-bytes (a ∷ []) σ h, all-map idle (ComponentOk ts) cs k))
+      by-cases (ComponentAnswerOk ts) (eqb (count σ a) 0) _ _ (λ q. tt) (λ q. (without-bytes (a ∷ []) σ h, all-map idle (ComponentOk ts) cs k))
 
   -- OUT
-  puts-ok : (σ : State) (a : Name) → ByteCounts σ → LocalOk ts (puts σ a)
+  puts-ok : (σ : State) (a : Name) → ByteCounts σ → ComponentAnswerOk ts (puts σ a)
   unfolding puts
-  puts-ok σ a h = by-cases (LocalOk ts) (leb 255 (count σ a)) _ _ (λ q. tt) (λ q. (gained-bytes σ a h (leb-false 255 (count σ a) q), tt))
+  puts-ok σ a h = by-cases (ComponentAnswerOk ts) (leb 255 (count σ a)) _ _ (λ q. tt) (λ q. (gained-bytes σ a h (leb-false 255 (count σ a) q), tt))
 
   -- the writes of a log are outputs on channels
   outputs-ok : (δ : Log) → All (λ β. channelOf β < 16) δ → All (λ a. ComponentOk ts (idle (output a))) (WT δ)
@@ -153,10 +153,10 @@ module _ {ts : List Term} (good : GoodTable ts) where
   outputs-ok (wt a ∷ δ) h = (h .0, outputs-ok δ (h .1))
 
   -- ATOK, ATFAIL and ATRE
-  ends-ok : (σ : State) (n : ℕ) (M : Expression) (t : Tree) → ByteCounts σ → ComponentOk ts (idle (block n M)) → TreeOk ts t → LocalOk ts (ends σ n M t)
+  ends-ok : (σ : State) (n : ℕ) (M : Expression) (t : Tree) → ByteCounts σ → ComponentOk ts (idle (block n M)) → TreeOk ts t → ComponentAnswerOk ts (ends σ n M t)
   unfolding ends TreeOk
   ends-ok σ n M (leaf (endT e) δ) h b k =
-      by-cases (LocalOk ts) (readable σ δ) _ _
+      by-cases (ComponentAnswerOk ts) (readable σ δ) _ _
       (λ q. (without-bytes (RD δ) σ h, all-map (λ a. idle (output a)) (ComponentOk ts) (WT δ) (outputs-ok δ (k .2))))
       (λ q. (h, (b, tt)))
   ends-ok σ n M (leaf (retryT e) δ) h b k = (h, (b, tt))
@@ -174,7 +174,7 @@ module _ {ts : List Term} (good : GoodTable ts) where
       (b, h, (entry-leaf M e, omega arith, tt), l .0)
 
   -- kind 1 at a component
-  acts-ok : (σ : State) (c : Component) → ByteCounts σ → ComponentOk ts c → LocalOk ts (acts σ c)
+  acts-ok : (σ : State) (c : Component) → ByteCounts σ → ComponentOk ts c → ComponentAnswerOk ts (acts σ c)
   unfolding acts ComponentOk
   acts-ok σ (idle (taking n a P)) h k = takes-ok σ a _ (opens P) h (opens-ok good P (good .subterms n (process (takeT n a P)) k))
   acts-ok σ (idle (repeating n a P)) h k =
@@ -185,36 +185,36 @@ module _ {ts : List Term} (good : GoodTable ts) where
   acts-ok σ (transaction n M s t) h k = ends-ok σ n M t h (k .0) (k .2)
 
   -- a transaction after a move inside it
-  innerLocal-ok : (σ : State) (n : ℕ) (M : Expression) (s : State) (t : Tree) (x : Inner) → ByteCounts σ → ComponentOk ts (transaction n M s t) →
-      Moving (StaysOk ts) t x → LocalOk ts (innerLocal σ n M s x)
-  unfolding innerLocal ComponentOk
-  innerLocal-ok σ n M s t (evolves r w u) h k i =
+  insideAnswer-ok : (σ : State) (n : ℕ) (M : Expression) (s : State) (t : Tree) (x : NodeAnswer) → ByteCounts σ → ComponentOk ts (transaction n M s t) →
+      Moving (StaysOk ts) t x → ComponentAnswerOk ts (insideAnswer σ n M s x)
+  unfolding insideAnswer ComponentOk
+  insideAnswer-ok σ n M s t (evolves r w u) h k i =
       let (tree, fewer) = i (k .2) in
       let few = k .3 in (h, ((k .0, k .1, tree, omega arith), tt))
-  innerLocal-ok σ n M s t noRule h k i = tt
-  innerLocal-ok σ n M s t outOfRange h k i = tt
+  insideAnswer-ok σ n M s t noRule h k i = tt
+  insideAnswer-ok σ n M s t outOfRange h k i = tt
 
   -- kind 2 at a component
-  actsInside-ok : (σ : State) (c : Component) (j : ℕ) → ByteCounts σ → ComponentOk ts c → LocalOk ts (actsInside σ c j)
+  actsInside-ok : (σ : State) (c : Component) (j : ℕ) → ByteCounts σ → ComponentOk ts c → ComponentAnswerOk ts (actsInside σ c j)
   unfolding actsInside ComponentOk
   actsInside-ok σ (idle c) j h k = tt
-  actsInside-ok σ (transaction n M s t) j h k = innerLocal-ok σ n M s t (inner s t j) h k (inner-ok s t j)
+  actsInside-ok σ (transaction n M s t) j h k = insideAnswer-ok σ n M s t (moveAt s t j) h k (move-at-ok s t j)
 
   -- what an entry asks of a well-formed component leaves well-formed counts and components
-  pub localMove-ok : (σ : State) (c : Component) (e : Entry) → ByteCounts σ → ComponentOk ts c → LocalOk ts (localMove σ c e)
-  unfolding localMove
-  localMove-ok σ c (act p) h k = acts-ok σ c h k
-  localMove-ok σ c (inside p j) h k = actsInside-ok σ c j h k
+  pub componentAnswer-ok : (σ : State) (c : Component) (e : Entry) → ByteCounts σ → ComponentOk ts c → ComponentAnswerOk ts (componentAnswer σ c e)
+  unfolding componentAnswer
+  componentAnswer-ok σ c (act p) h k = acts-ok σ c h k
+  componentAnswer-ok σ c (inside p j) h k = actsInside-ok σ c j h k
 
 -- ---- at a position
 
 -- an accepted choice keeps a configuration well formed
 pub well-formed-step : {ts : List Term} {h : Configuration} (e : Entry) {r : Rule} {g : Configuration} → GoodTable ts → WellFormed ts h →
-    answerTo h e ≡ moved r g → WellFormed ts g
+    transition h e ≡ moved r g → WellFormed ts g
 well-formed-step {ts} {h} e {r} {g} good ok q =
     let m = accepted-inverts h e r g q in
     let c : ComponentOk ts (m .component) = all-at (ComponentOk ts) (h .components) (positionOf e) (m .component) (ok .each) (m .found) in
-    let l : ByteCounts (g .counts) × All (ComponentOk ts) (m .laid) = rw (m .local) at (localMove-ok good (h .counts) (m .component) e (ok .channelCounts) c) in
+    let l : ByteCounts (g .counts) × All (ComponentOk ts) (m .laid) = rw (m .local) at (componentAnswer-ok good (h .counts) (m .component) e (ok .channelCounts) c) in
     record { channelCounts = l .0; few = m .fits; each = rw (m .placed) (all-replaceAt (ComponentOk ts) (h .components) (m .laid) (positionOf e) (ok .each) (l .1)) }
 
 -- and in its stored form

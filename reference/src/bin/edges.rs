@@ -1,7 +1,7 @@
 //! Reads the list of edges from standard input and prints what each gives. In
 //! the repository's top folder,
 //!
-//! `cargo run --release --offline --manifest-path reference/Cargo.toml --bin edges < crates/edges/stdin > crates/edges/stdout`
+//! `cargo run --release --offline --manifest-path reference/Cargo.toml --bin edges < crates/program_edges/stdin > crates/program_edges/stdout`
 //!
 //! makes the expected output of the proved program again.
 

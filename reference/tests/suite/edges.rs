@@ -8,7 +8,7 @@ use reference::edges::{lines, printed, Line};
 use reference::run::Tally;
 
 fn file(name: &str) -> String {
-    let folder = Path::new(env!("CARGO_MANIFEST_DIR")).join("../crates/edges");
+    let folder = Path::new(env!("CARGO_MANIFEST_DIR")).join("../crates/program_edges");
     fs::read_to_string(folder.join(name)).expect("a file of the list")
 }
 
@@ -162,7 +162,7 @@ fn the_expected_output_is_what_is_printed_now() {
     // Not assert_eq: the texts would fill many screens.
     assert!(
         printed == file("stdout"),
-        "crates/edges/stdout is to be made again"
+        "crates/program_edges/stdout is to be made again"
     );
 }
 

@@ -9,11 +9,11 @@ use Rattle.calculus.specs.Reduction.{Rule, ARDOK, ARDF, AWR, AOI, AOF, A
 use Rattle.calculus.specs.Checks.Notation.{few}
 
 -- a reduction of Table 3: its node, its rule, what it leads to
-pub data Step : Type 0 where
-  step : ℕ → Rule → Ongoing → Step
+pub data InnerStep : Type 0 where
+  step : ℕ → Rule → Ongoing → InnerStep
 
 -- the reductions of an expression are these, and it has no other
-abbrev pub Steps : Ongoing → List Step → Type 0
+abbrev pub Steps : Ongoing → List InnerStep → Type 0
 Steps A ss = (k : ℕ) (r : Rule) (A′ : Ongoing) → EvolvesAt k r A A′ ↔ List·Memᴰ (step k r A′) ss
 
 -- rd 1.end and wt 0.end, begun with one 2 and two 1s, and what they come to

@@ -1,43 +1,20 @@
--- `ruonfidd_suggest` meets its contract: what the call answers is set as numbers.
+-- `ruonfidd_suggest` meets its contract: what its call answers is told.
 -- Assumes nothing.
+use Rattle.theorems.proofs.Theorems.{promised}
+use Rattle.answers.proofs.Theorems.{told-suggestions}
 use borrow.Author.Needs.{needs}
-use Rattle.ruonfidd.proofs.Choices.{suggestion-made, suggestion-still, suggestion-refused}
+use Rattle.ruonfidd.proofs.Exports.{suggestion-told}
 use Rattle.ruonfidd.proofs.ruonfidd_suggest.Statement.{statement}
 use Rattle.ruonfidd.proofs.ruonfidd_suggest.Tie as tie
 
 suggest-requires : tie.Need-suggest-requires
 suggest-requires c κs = search needs
 
-enum-known-entry : tie.Need-enum-known-entry
-enum-known-entry c = search needs
-
-choice-of-requires : tie.Need-choice-of-requires
-choice-of-requires c κs = search needs
-
-enum-told : tie.Need-enum-told
-enum-told c = search needs
-
-enum-known-number : tie.Need-enum-known-number
-enum-known-number c = search needs
+tell-suggestion-requires : tie.Need-tell-suggestion-requires
+tell-suggestion-requires c κs = search needs
 
 returns : tie.Need-returns
-returns c = search suggestion-made
-
-returns-2 : tie.Need-returns-2
-returns-2 c = search suggestion-still
-
-returns-3 : tie.Need-returns-3
-returns-3 c = search suggestion-refused
+returns c = (search suggestion-told, promised told-suggestions)
 
 pub ruonfidd-suggest-spec : {M : Type 1} → statement M
-ruonfidd-suggest-spec =
-    tie.close
-    (tie.spec
-    suggest-requires
-    enum-known-entry
-    choice-of-requires
-    enum-told
-    enum-known-number
-    returns
-    returns-2
-    returns-3)
+ruonfidd-suggest-spec = tie.close (tie.spec suggest-requires tell-suggestion-requires returns)

@@ -17,7 +17,7 @@ use Rattle.semantics.specs.Definitions.Terms.{Expression, endT, retryT, 
 use Rattle.semantics.specs.Definitions.Table.{Kind, kindByNumber, Field, channelF, programF, expressionF, amountF, fields, Reading, Content, termRecord, tokensRecord, startRecord, recordContent, Table, accepted, refusedAt, readTable}
 use Rattle.semantics.specs.Definitions.Configuration.{Idle, taking, repeating, output, Tree, leaf, fork, idle, transaction, Configuration, opens, opening, nodes, preorder}
 use Rattle.semantics.specs.Definitions.Stored.{WellFormed, bytesOf}
-use Rattle.semantics.specs.Definitions.Moves.{Entry, act, inside, refused, answerTo, isAccepted}
+use Rattle.semantics.specs.Definitions.Moves.{Entry, act, inside, refused, transition, isAccepted}
 use Rattle.semantics.specs.Definitions.Run.{Counters, RunAnswer, run, schedule, entries, scheduleBytes}
 use Rattle.semantics.specs.Definitions.Calls.{Verdict, ok, rejected, checkTable, admitted, notAdmitted, admission, checkHall, opened, notOpened, Opening, openHall, Buffers, runCall}
 use Rattle.semantics.specs.Claims.ConverseRuns.{EmptyChannel, TooManyComponents, FullChannel}
@@ -277,7 +277,7 @@ unfoldable pub ChoiceNumbers : Type 0
 unfolding isAccepted
 ChoiceNumbers =
     (ts : List Term) (h : Configuration) → WellFormed ts h → (e : Entry) →
-    ((n : ℕ) → (answerTo h e ≡ refused n) ↔ FirstCondition (λ m. ChoiceCondition h m e) n) ×
+    ((n : ℕ) → (transition h e ≡ refused n) ↔ FirstCondition (λ m. ChoiceCondition h m e) n) ×
     ((isAccepted h e ≡ true) ↔ ((n : ℕ) → ChoiceCondition h n e → ⊥))
 
 -- why a run stops with this number, before these bytes, at this configuration: 0 at the end, 12 at a byte that is

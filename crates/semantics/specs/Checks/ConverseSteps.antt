@@ -16,7 +16,7 @@ use Rattle.semantics.specs.Definitions.Terms.{Expression}
 use Rattle.semantics.specs.Definitions.Table.{Table}
 use Rattle.semantics.specs.Definitions.Logs.{paths}
 use Rattle.semantics.specs.Definitions.Configuration.{block, output, Configuration, opening}
-use Rattle.semantics.specs.Definitions.Moves.{act, inside, moved, answerTo, ruleNumber}
+use Rattle.semantics.specs.Definitions.Moves.{act, inside, moved, transition, ruleNumber}
 use Rattle.semantics.specs.Definitions.Run.{steps, finalConfiguration}
 use Rattle.semantics.specs.Claims.ConverseRuns.{PlainState, plainStart, replacing, ConverseStep, ConverseSteps, idleConfiguration}
 
@@ -30,11 +30,11 @@ StartIsOpening = (t : Table) → idleConfiguration (plainStart t) ≡ opening t
 unfoldable pub DoneAt : PlainState → ℕ → Configuration → Type 0
 unfolding idleConfiguration
 DoneAt s p g =
-    ((r : Rule) × (answerTo (idleConfiguration s) (act p) ≡ moved r g) × (ruleNumber r ≤ 3)) ⊎
+    ((r : Rule) × (transition (idleConfiguration s) (act p) ≡ moved r g) × (ruleNumber r ≤ 3)) ⊎
     ((δ : Log) × (ks : List ℕ) ×
     (let es = act p ∷ map (inside p) ks in
     let ss = steps (idleConfiguration s) es in
-    (length ss ≡ length es) × (answerTo (finalConfiguration (idleConfiguration s) ss) (act p) ≡ moved (ATOK δ) g)))
+    (length ss ≡ length es) × (transition (finalConfiguration (idleConfiguration s) ss) (act p) ≡ moved (ATOK δ) g)))
 
 -- a step is within the limits: choices that do it are all accepted. And none is missing: what such choices do is a step
 unfoldable pub ConverseStepsAreMoves : Type 0

@@ -24,7 +24,7 @@ use Rattle.semantics.specs.Definitions.Basics.{All, countUp}
 use mathlib.Core.List.{flatten}
 use Rattle.semantics.specs.Definitions.Table.{TableAnswer, accepted, refusedAt, readTable}
 use Rattle.semantics.specs.Definitions.Configuration.{Idle, taking, repeating, block, output, Configuration}
-use Rattle.semantics.specs.Definitions.Moves.{Entry, act, inside, Answer, moved, refused, answerTo}
+use Rattle.semantics.specs.Definitions.Moves.{Entry, act, inside, Transition, moved, refused, transition}
 use Rattle.semantics.specs.Definitions.Run.{Counters, schedule, entries, entryBytes, steps}
 use Rattle.semantics.specs.Definitions.AtomicRun.{atomicStart, atomicRun}
 use Rattle.semantics.specs.Definitions.Calls.{Verdict, ok, rejected, checkTable, Admission, admitted, notAdmitted, admission, admissionVerdict}
@@ -90,15 +90,15 @@ unfoldable pub everyChoice : ℕ → List Entry
 unfolding countUp flatten
 everyChoice n = flatten (map (λ p. act p ∷ map (inside p) (countUp 0 16)) (countUp 0 (suc n)))
 
-unfoldable pub whereMoved : Answer → Entry → List ℕ
+unfoldable pub whereMoved : Transition → Entry → List ℕ
 unfolding entryBytes
 whereMoved (moved r h) e = entryBytes e
 whereMoved (refused n) e = []
 
 unfoldable pub acceptedOn : Admission → List ℕ
-unfolding everyChoice whereMoved answerTo flatten
+unfolding everyChoice whereMoved transition flatten
 acceptedOn (notAdmitted n p) = []
-acceptedOn (admitted t h) = flatten (map (λ e. whereMoved (answerTo h e) e) (everyChoice (length (h .components))))
+acceptedOn (admitted t h) = flatten (map (λ e. whereMoved (transition h e) e) (everyChoice (length (h .components))))
 
 unfoldable pub stationBytes : Idle → List ℕ
 stationBytes (taking n a P) = 20 ∷ n ∷ []

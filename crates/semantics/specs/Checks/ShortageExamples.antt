@@ -10,7 +10,7 @@ use Rattle.semantics.specs.Definitions.Basics.{countUp}
 use Rattle.semantics.specs.Definitions.Shortage.{Shortage, enough, short, shortageOf}
 use Rattle.semantics.specs.Definitions.Terms.{Expression, endT, retryT, rdT, wtT}
 use Rattle.semantics.specs.Definitions.Configuration.{Tree, leaf, fork, transaction}
-use Rattle.semantics.specs.Definitions.Moves.{Entry, act, inside, Response, does, refuses, respondTo}
+use Rattle.semantics.specs.Definitions.Moves.{Entry, act, inside, EntryAnswer, does, refuses, entryAnswer}
 use Rattle.semantics.specs.Checks.Examples.{numbers, trays}
 
 -- ---- reads and counts
@@ -32,16 +32,16 @@ pub record ReadsShort : Type 0 where
 
 -- ---- choices
 
--- the shortage that a response tells; a refusal tells none
-unfoldable pub shortageIn : Response → Shortage
+-- the shortage that an answer tells; a refusal tells none
+unfoldable pub shortageIn : EntryAnswer → Shortage
 shortageIn (does r w h) = w
 shortageIn (refuses n) = enough
 
 -- an attempt alone, with the counts of now and those of its snapshot: what a choice tells
 unfoldable pub toldOn : (present snapshot : State) → Tree → Entry → Shortage
-unfolding shortageIn respondTo
+unfolding shortageIn entryAnswer
 toldOn σ s t e =
-    shortageIn (respondTo (record { counts = σ; components = transaction 5 (endT 0) s t ∷ [] }) e)
+    shortageIn (entryAnswer (record { counts = σ; components = transaction 5 (endT 0) s t ∷ [] }) e)
 
 -- rd 5, and then end
 unfoldable pub readFive : Expression

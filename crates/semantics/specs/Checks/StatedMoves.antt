@@ -15,7 +15,7 @@ use Rattle.semantics.specs.Definitions.Terms.{Expression, endT, retryT, 
 use Rattle.semantics.specs.Definitions.Shortage.{Shortage, enough, short}
 use Rattle.semantics.specs.Definitions.Configuration.{Idle, taking, repeating, block, output, Tree, leaf, fork, Component, idle, transaction, Configuration, opens, nodes}
 use Rattle.semantics.specs.Definitions.Stored.{WellFormed}
-use Rattle.semantics.specs.Definitions.Moves.{Entry, act, inside, does, respondTo, ruleNumber}
+use Rattle.semantics.specs.Definitions.Moves.{Entry, act, inside, does, entryAnswer, ruleNumber}
 
 -- ---- what a process opens into
 
@@ -129,11 +129,11 @@ OpensAsStated = (P : Program) (cs : List Idle) → (opens P ≡ cs) ↔ OpensInt
 -- on every well-formed hall, also one that no run reached: a choice is accepted by a rule of this number, told this
 -- shortage, with this hall afterwards, exactly where that is a move as printed
 unfoldable pub MovesAsStated : Type 0
-unfolding respondTo ruleNumber
+unfolding entryAnswer ruleNumber
 MovesAsStated =
     (ts : List Term) (h : Configuration) → WellFormed ts h →
     (e : Entry) (r : Rule) (n : ℕ) (w : Shortage) (g : Configuration) →
-    ((respondTo h e ≡ does r w g) × (ruleNumber r ≡ n)) ↔ MoveAsStated h e r n w g
+    ((entryAnswer h e ≡ does r w g) × (ruleNumber r ≡ n)) ↔ MoveAsStated h e r n w g
 
 -- ---- each worked out once, to the number
 
@@ -148,9 +148,9 @@ both = parT 7 (atomT 5 tried) (putT 6 1)
 -- a station alone, one token in tray 0 and none in tray 1: the choice, its rule, what is short, the counts and stations
 -- afterwards
 unfoldable pub GivesTold : Component → Entry → Rule → Shortage → State → List Component → Type 0
-unfolding respondTo
+unfolding entryAnswer
 GivesTold c e r w σ cs =
-    respondTo (record { counts = 1 ∷ 0 ∷ []; components = c ∷ [] }) e ≡
+    entryAnswer (record { counts = 1 ∷ 0 ∷ []; components = c ∷ [] }) e ≡
     does r w (record { counts = σ; components = cs })
 
 abbrev pub Gives : Component → Entry → Rule → State → List Component → Type 0

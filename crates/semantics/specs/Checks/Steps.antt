@@ -15,7 +15,7 @@ use Rattle.semantics.specs.Definitions.Table.{Table}
 use Rattle.semantics.specs.Definitions.Shortage.{Shortage, enough, short}
 use Rattle.semantics.specs.Definitions.Configuration.{Configuration}
 use Rattle.semantics.specs.Definitions.Stored.{bytesOf}
-use Rattle.semantics.specs.Definitions.Moves.{Entry, act, inside, does, refuses, respondTo, ruleNumber, Reply, movedBy, refusedBy, replyOf}
+use Rattle.semantics.specs.Definitions.Moves.{Entry, act, inside, does, refuses, entryAnswer, ruleNumber, Reply, movedBy, refusedBy, replyOf}
 use Rattle.semantics.specs.Definitions.Run.{counted, steps}
 use Rattle.semantics.specs.Definitions.Calls.{admitted, notAdmitted, admission, Buffers, StepCall, stepCall, stepChoice, callAnswer, callEntries}
 
@@ -35,12 +35,12 @@ pub data StepCallAsStated (table : List ℕ) (l : Buffers) (kind position node :
       StepCallAsStated table l kind position node (record { number = 12; place = 0; rule = 0; shortage = enough; buffers = l })
   -- the choice is refused: its number, at the choice's first byte
   is-refused : {t : Table} {h : Configuration} {e : Entry} {size n : ℕ} → admission table (l .hall) ≡ admitted t h →
-      Names kind position node e size → respondTo h e ≡ refuses n →
+      Names kind position node e size → entryAnswer h e ≡ refuses n →
       StepCallAsStated table l kind position node (record { number = n; place = 0; rule = 0; shortage = enough; buffers = l })
   -- it moved: the number of its rule, the shortage told, the hall behind it, the tally with that rule counted; its
   -- place is its end
   has-moved : {t : Table} {h g : Configuration} {e : Entry} {size : ℕ} {r : Rule} {w : Shortage} →
-      admission table (l .hall) ≡ admitted t h → Names kind position node e size → respondTo h e ≡ does r w g →
+      admission table (l .hall) ≡ admitted t h → Names kind position node e size → entryAnswer h e ≡ does r w g →
       StepCallAsStated table l kind position node
       (record {
         number = 0;
@@ -79,7 +79,7 @@ unfoldable pub StepReplies : Type 0
 StepReplies =
     (table : List ℕ) (l : Buffers) (t : Table) (h : Configuration) → admission table (l .hall) ≡ admitted t h →
     (kind position node size : ℕ) (e : Entry) → Names kind position node e size →
-    stepReply (stepCall table l kind position node) ≡ replyOf (respondTo h e)
+    stepReply (stepCall table l kind position node) ≡ replyOf (entryAnswer h e)
 
 -- kind 1 with any node is one and the same call
 unfoldable pub NodeOfKind1 : Type 0

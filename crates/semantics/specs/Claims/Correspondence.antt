@@ -16,7 +16,7 @@ use Rattle.semantics.specs.Definitions.Terms.{Expression}
 use Rattle.semantics.specs.Definitions.Table.{Table, accepted, readTable}
 use Rattle.semantics.specs.Definitions.Configuration.{Tree, Component, transaction, Configuration, opening}
 use Rattle.semantics.specs.Definitions.Stored.{WellFormed, bytesOf, hallBytes}
-use Rattle.semantics.specs.Definitions.Moves.{Entry, act, inside, moved, answerTo, effectOf, ruleNumber}
+use Rattle.semantics.specs.Definitions.Moves.{Entry, act, inside, moved, transition, effectOf, ruleNumber}
 use Rattle.semantics.specs.Definitions.Run.{Counters, Step, run, steps, schedule, entries, InBytes, Quiescent}
 use Rattle.semantics.specs.Claims.Denotation.{proc, ongoingOf, componentProcess, Denotes, inOrder, WithinLimits}
 
@@ -30,7 +30,7 @@ EveryHall Q = (bs : List ℕ) (t : Table) → AcceptsTable bs t → (h : Configu
 
 -- said of every choice e accepted on such a hall h, with the rule r that it answers and the hall g after it
 abbrev pub EveryMove : (Table → Configuration → Entry → Rule → Configuration → Type 0) → Type 0
-EveryMove Q = EveryHall (λ t h. (e : Entry) (r : Rule) (g : Configuration) → answerTo h e ≡ moved r g → Q t h e r g)
+EveryMove Q = EveryHall (λ t h. (e : Entry) (r : Rule) (g : Configuration) → transition h e ≡ moved r g → Q t h e r g)
 
 -- ---- what a hall stands for
 
@@ -104,8 +104,8 @@ TakesOne a r = (effectOf r) .taken ≡ a ∷ []
 unfoldable pub HandoverIsCOM : Type 0
 unfolding TakesOne WithinLimits
 HandoverIsCOM = EveryHall (λ t h.
-    (a : Name) (e : Entry) (f : Configuration) → answerTo h e ≡ moved (OUT a) f →
-    (d : Entry) (r : Rule) (g : Configuration) → answerTo f d ≡ moved r g → TakesOne a r →
+    (a : Name) (e : Entry) (f : Configuration) → transition h e ≡ moved (OUT a) f →
+    (d : Entry) (r : Rule) (g : Configuration) → transition f d ≡ moved r g → TakesOne a r →
     (P : Process) → Denotes P (h .components) →
     (P′ : Process) × Reduces AnyOrder (COM a) P (h .counts) P′ (h .counts) × (g .counts ≡ h .counts) ×
     Denotes P′ (g .components) × WithinLimits (COM a) (h .counts) P′ (h .counts))
@@ -114,7 +114,7 @@ HandoverIsCOM = EveryHall (λ t h.
 abbrev pub Chain : Configuration → List Step → Configuration → Type 0
 Chain h [] g = h ≡ g
 Chain h (s ∷ ss) g =
-    (s .before ≡ h) × (answerTo (s .before) (s .chosen) ≡ moved (s .rule) (s .result)) ×
+    (s .before ≡ h) × (transition (s .before) (s .chosen) ≡ moved (s .rule) (s .result)) ×
     OneReduction (s .before) (s .rule) (s .result) × AtChosen (s .before) (s .chosen) (s .rule) (s .result) ×
     Chain (s .result) ss g
 
@@ -136,11 +136,11 @@ RunSoundness = EveryHall (λ t h.
 unfoldable pub HasChoices : Label → Configuration → Process → State → Type 0
 unfolding InBytes TakesOne
 HasChoices (by r) h P′ σ′ =
-    (e : Entry) × (g : Configuration) × InBytes e × (answerTo h e ≡ moved r g) ×
+    (e : Entry) × (g : Configuration) × InBytes e × (transition h e ≡ moved r g) ×
     (g .counts ≡ σ′) × Denotes P′ (g .components)
 HasChoices (COM a) h P′ σ′ =
     (e : Entry) × (f : Configuration) × (d : Entry) × (r : Rule) × (g : Configuration) × InBytes e × InBytes d ×
-    (answerTo h e ≡ moved (OUT a) f) × (answerTo f d ≡ moved r g) × TakesOne a r ×
+    (transition h e ≡ moved (OUT a) f) × (transition f d ≡ moved r g) × TakesOne a r ×
     (g .counts ≡ σ′) × Denotes P′ (g .components)
 
 -- demand 2, second half: no reduction within the limits is without its choices; ATOK's outputs in log order

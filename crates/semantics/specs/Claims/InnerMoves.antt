@@ -14,7 +14,7 @@ use Rattle.semantics.specs.Definitions.Shortage.{Shortage}
 use Rattle.semantics.specs.Definitions.Terms.{Expression, endT, retryT, rdT, wtT, orElseT}
 use Rattle.semantics.specs.Definitions.Logs.{emptyLog, firstReadable}
 use Rattle.semantics.specs.Definitions.Configuration.{Tree, leaf, fork, transaction, Configuration}
-use Rattle.semantics.specs.Definitions.Moves.{inside, moved, answerTo, evolves, inner}
+use Rattle.semantics.specs.Definitions.Moves.{inside, moved, transition, evolves, moveAt}
 use Rattle.semantics.specs.Claims.Correspondence.{EveryHall}
 
 -- the measure: 1 for an action, 2 for an orElse, of which 1 stays with the fork that it becomes
@@ -42,7 +42,7 @@ Settled (fork l r) = ⊥
 -- some moves inside, one after another, in any order
 pub data Moves (s : State) : Tree → Tree → Type 0 where
   unmoved : {t : Tree} → Moves s t t
-  movedOn : {t u v : Tree} {w : Shortage} (k : ℕ) (r : Rule) → inner s t k ≡ evolves r w u → Moves s u v → Moves s t v
+  movedOn : {t u v : Tree} {w : Shortage} (k : ℕ) (r : Rule) → moveAt s t k ≡ evolves r w u → Moves s u v → Moves s t v
 
 -- on every well-formed hall: a move inside the attempt at p is one of its nodes', lowers its measure and changes
 -- nothing else
@@ -50,8 +50,8 @@ unfoldable pub MovesLowerWeight : Type 0
 unfolding weight
 MovesLowerWeight = EveryHall (λ t h.
     (p k n : ℕ) (M : Expression) (s : State) (u : Tree) → getElem? (h .components) p ≡ some (transaction n M s u) →
-    (r : Rule) (g : Configuration) → answerTo h (inside p k) ≡ moved r g →
-    (w : Shortage) × (v : Tree) × (inner s u k ≡ evolves r w v) × (weight v < weight u) ×
+    (r : Rule) (g : Configuration) → transition h (inside p k) ≡ moved r g →
+    (w : Shortage) × (v : Tree) × (moveAt s u k ≡ evolves r w v) × (weight v < weight u) ×
     (g ≡ record { counts = h .counts; components = replaceAt p (transaction n M s v ∷ []) (h .components) }))
 
 -- an attempt that is not settled yet can move at one of its nodes
@@ -60,12 +60,12 @@ unfolding InBytes
 MovesGoOn = EveryHall (λ t h.
     (p n : ℕ) (M : Expression) (s : State) (u : Tree) → getElem? (h .components) p ≡ some (transaction n M s u) →
     ¬ Settled u →
-    (k : ℕ) × (r : Rule) × (g : Configuration) × InBytes (inside p k) × (answerTo h (inside p k) ≡ moved r g))
+    (k : ℕ) × (r : Rule) × (g : Configuration) × InBytes (inside p k) × (transition h (inside p k) ≡ moved r g))
 
 -- and a single end or retry leaf has none
 unfoldable pub SettledHasNoRule : Type 0
 SettledHasNoRule =
-    (s : State) (u : Tree) → Settled u → (k : ℕ) (r : Rule) (w : Shortage) (v : Tree) → inner s u k ≡ evolves r w v → ⊥
+    (s : State) (u : Tree) → Settled u → (k : ℕ) (r : Rule) (w : Shortage) (v : Tree) → moveAt s u k ≡ evolves r w v → ⊥
 
 -- whatever the order of the moves, one and the same tree stands at the end, its log and its term number included; from
 -- every tree, also one that no run reached

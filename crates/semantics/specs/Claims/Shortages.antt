@@ -19,7 +19,7 @@ use Rattle.semantics.specs.Definitions.Shortage.{Shortage, enough, short
 use Rattle.semantics.specs.Definitions.Logs.{shortage, readable}
 use Rattle.semantics.specs.Definitions.Configuration.{Tree, leaf, transaction, Configuration, preorder}
 use Rattle.semantics.specs.Definitions.Stored.{configurationOf}
-use Rattle.semantics.specs.Definitions.Moves.{Entry, act, inside, does, respondTo, ruleNumber}
+use Rattle.semantics.specs.Definitions.Moves.{Entry, act, inside, does, entryAnswer, ruleNumber}
 use Rattle.semantics.specs.Definitions.Run.{Counters}
 use Rattle.semantics.specs.Definitions.Calls.{Call}
 use Rattle.semantics.specs.Claims.Correspondence.{AcceptsTable, EveryHall}
@@ -65,31 +65,31 @@ pub data Tests (h : Configuration) : Entry → State → Log → Type 0 where
 
 -- rules 6 and 9 tell what that log is short of at those counts
 unfoldable pub FailuresTellTheirTest : Type 0
-unfolding respondTo ruleNumber shortage
+unfolding entryAnswer ruleNumber shortage
 FailuresTellTheirTest =
-    (h g : Configuration) (e : Entry) (r : Rule) (w : Shortage) → respondTo h e ≡ does r w g →
+    (h g : Configuration) (e : Entry) (r : Rule) (w : Shortage) → entryAnswer h e ≡ does r w g →
     (ruleNumber r ≡ 6) ⊎ (ruleNumber r ≡ 9) → (σ : State) × (δ : Log) × Tests h e σ δ × (w ≡ shortage σ δ)
 
 -- and a tray is named by them alone: none is, exactly where the rule is neither
 unfoldable pub FailuresAloneName : Type 0
-unfolding respondTo ruleNumber
+unfolding entryAnswer ruleNumber
 FailuresAloneName =
-    (h g : Configuration) (e : Entry) (r : Rule) (w : Shortage) → respondTo h e ≡ does r w g →
+    (h g : Configuration) (e : Entry) (r : Rule) (w : Shortage) → entryAnswer h e ≡ does r w g →
     (w ≡ enough) ↔ ((ruleNumber r ≢ 6) × (ruleNumber r ≢ 9))
 
 -- on a hall that calls have led to from its opening, a read that fails lacks one of the tray that it reads
 unfoldable pub ReadLacksOne : Type 0
-unfolding finalBuffers respondTo
+unfolding finalBuffers entryAnswer
 ReadLacksOne =
     (table : List ℕ) (t : Table) → AcceptsTable table t → (buffer : List ℕ) → length buffer ≡ hallBytes →
     (first : Counters) (cs : List Call) (h g : Configuration) →
     configurationOf (t .terms) (finalBuffers table t buffer first cs .hall) ≡ some h →
-    (p k : ℕ) (w : Shortage) → respondTo h (inside p k) ≡ does ARDF w g →
+    (p k : ℕ) (w : Shortage) → entryAnswer h (inside p k) ≡ does ARDF w g →
     (s : State) × (δ : Log) × (a : Name) × Tests h (inside p k) s (δ ++ (rd a ∷ [])) × (w ≡ short a 1)
 
 -- on a well-formed hall the tray is one of the 16, and it lacks between 1 and 16 tokens
 unfoldable pub ShortagesAreSmall : Type 0
-unfolding respondTo
+unfolding entryAnswer
 ShortagesAreSmall = EveryHall (λ t h.
-    (e : Entry) (r : Rule) (a k : ℕ) (g : Configuration) → respondTo h e ≡ does r (short a k) g →
+    (e : Entry) (r : Rule) (a k : ℕ) (g : Configuration) → entryAnswer h e ≡ does r (short a k) g →
     (a < 16) × (1 ≤ k) × (k ≤ 16))

@@ -11,7 +11,7 @@ use Rattle.semantics.specs.Definitions.Layout.{maxByte}
 use Rattle.semantics.specs.Definitions.Basics.{Bytes, countUp, firstOf}
 use Rattle.semantics.specs.Definitions.Table.{Table}
 use Rattle.semantics.specs.Definitions.Configuration.{Configuration}
-use Rattle.semantics.specs.Definitions.Moves.{Entry, act, inside, moved, answerTo, isAccepted}
+use Rattle.semantics.specs.Definitions.Moves.{Entry, act, inside, moved, transition, isAccepted}
 use Rattle.semantics.specs.Definitions.Run.{entryBytes, InBytes, Quiescent}
 use Rattle.semantics.specs.Definitions.Calls.{rejected, checkHall, admitted, admission, Buffers, runCall}
 use Rattle.semantics.specs.Definitions.Suggestion.{firstAccepted, suggested, still, notSuggested, suggestCall}
@@ -46,7 +46,7 @@ SuggestedIsFirst =
 unfoldable pub KindsApart : Type 0
 KindsApart =
     (h f g : Configuration) (p k : ℕ) (r s : Rule) →
-    answerTo h (act p) ≡ moved r f → answerTo h (inside p k) ≡ moved s g → ⊥
+    transition h (act p) ≡ moved r f → transition h (inside p k) ≡ moved s g → ⊥
 
 -- so, with kind 2 listed before kind 1 at each position, the same entry is found
 unfoldable pub KindsInEitherOrder : Type 0

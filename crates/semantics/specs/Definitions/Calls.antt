@@ -11,7 +11,7 @@ use Rattle.semantics.specs.Definitions.Table.{Table, TableAnswer, accept
 use Rattle.semantics.specs.Definitions.Shortage.{Shortage, enough}
 use Rattle.semantics.specs.Definitions.Configuration.{Configuration, opening}
 use Rattle.semantics.specs.Definitions.Stored.{hallBytes, bytesOf, configurationOf}
-use Rattle.semantics.specs.Definitions.Moves.{Entry, act, inside, Response, does, refuses, respondTo, ruleNumber}
+use Rattle.semantics.specs.Definitions.Moves.{Entry, act, inside, EntryAnswer, does, refuses, entryAnswer, ruleNumber}
 use Rattle.semantics.specs.Definitions.Run.{Counters, freshCounters, counted, RunAnswer, run, schedule, entries}
 
 -- accepted, or refused with a number and a place
@@ -154,21 +154,21 @@ pub record StepCall : Type 0 where
 unfoldable pub stepRefused : Buffers → (number place : ℕ) → StepCall
 stepRefused l n p = record { number = n; place = p; rule = 0; shortage = enough; buffers = l }
 
--- by the response to a choice of so many bytes. Refused: at its first byte. Moved: the place is behind it; its rule, the
+-- by the answer to a choice of so many bytes. Refused: at its first byte. Moved: the place is behind it; its rule, the
 -- shortage told (document 02, Q-3), the hall after it, and the tally with that rule counted
-unfoldable pub stepResponse : Buffers → (size : ℕ) → Response → StepCall
+unfoldable pub stepEntry : Buffers → (size : ℕ) → EntryAnswer → StepCall
 unfolding stepRefused ruleNumber bytesOf counted
-stepResponse l size (refuses n) = stepRefused l n 0
-stepResponse l size (does r w h) =
+stepEntry l size (refuses n) = stepRefused l n 0
+stepEntry l size (does r w h) =
     let after : Buffers = record { hall = bytesOf h; counters = counted r (l .counters) } in
     record { number = 0; place = size; rule = ruleNumber r; shortage = w; buffers = after }
 
 -- kind 1 has a position, and kind 2 a position and a node; refusal 12 for every other kind
 unfoldable pub stepKind : Buffers → Configuration → (kind position node : ℕ) → StepCall
-unfolding stepRefused stepResponse respondTo
+unfolding stepRefused stepEntry entryAnswer
 stepKind l h zero p k = stepRefused l 12 0
-stepKind l h (suc zero) p k = stepResponse l 2 (respondTo h (act p))
-stepKind l h (suc (suc zero)) p k = stepResponse l 3 (respondTo h (inside p k))
+stepKind l h (suc zero) p k = stepEntry l 2 (entryAnswer h (act p))
+stepKind l h (suc (suc zero)) p k = stepEntry l 3 (entryAnswer h (inside p k))
 stepKind l h (suc (suc (suc n))) p k = stepRefused l 12 0
 
 -- table or hall is not admitted: their number and place

@@ -9,7 +9,7 @@ use lib.IntN.{ℤ, pos, _-ℤ_}
 use Rattle.calculus.specs.Reduction.{Rule}
 use Rattle.semantics.specs.Definitions.Layout.{counterTop, maxByte}
 use Rattle.semantics.specs.Definitions.Configuration.{Configuration}
-use Rattle.semantics.specs.Definitions.Moves.{Entry, act, inside, Answer, moved, refused, answerTo, isAccepted, ruleNumber}
+use Rattle.semantics.specs.Definitions.Moves.{Entry, act, inside, Transition, moved, refused, transition, isAccepted, ruleNumber}
 
 -- ---- the bytes of a schedule
 
@@ -99,18 +99,18 @@ pub record RunAnswer : Type 0 where
   pub configuration : Configuration
   pub counters : Counters
 
-unfoldable pub continueRun : Answer → (ℕ → RunAnswer) → (Rule → Configuration → RunAnswer) → RunAnswer
+unfoldable pub continueRun : Transition → (ℕ → RunAnswer) → (Rule → Configuration → RunAnswer) → RunAnswer
 continueRun (moved r h) stopped next = next r h
 continueRun (refused n) stopped next = stopped n
 
 -- the rest of a run, from a place in the schedule with so many entries done
 unfoldable pub runFrom : Configuration → Counters → (place done : ℕ) → List ScheduleItem → RunAnswer
-unfolding continueRun answerTo counted
+unfolding continueRun transition counted
 runFrom h t p d [] = record { number = 0; place = p; done = d; configuration = h; counters = t }
 runFrom h t p d (malformed n ∷ items) = record { number = n; place = p; done = d; configuration = h; counters = t }
 runFrom h t p d (entry e w ∷ items) =
     continueRun
-    (answerTo h e)
+    (transition h e)
     (λ n. record { number = n; place = p; done = d; configuration = h; counters = t })
     (λ r h′. runFrom h′ (counted r t) (p + w) (suc d) items)
 
@@ -127,16 +127,16 @@ pub record Step : Type 0 where
   pub before : Configuration
   pub result : Configuration
 
-unfoldable pub continueSteps : Answer → (Rule → Configuration → List Step) → List Step
+unfoldable pub continueSteps : Transition → (Rule → Configuration → List Step) → List Step
 continueSteps (moved r h) next = next r h
 continueSteps (refused n) next = []
 
 -- the steps of a list of entries, up to the first refused
 unfoldable pub steps : Configuration → List Entry → List Step
-unfolding continueSteps answerTo
+unfolding continueSteps transition
 steps h [] = []
 steps h (e ∷ es) =
-    continueSteps (answerTo h e) (λ r h′. record { chosen = e; rule = r; before = h; result = h′ } ∷ steps h′ es)
+    continueSteps (transition h e) (λ r h′. record { chosen = e; rule = r; before = h; result = h′ } ∷ steps h′ es)
 
 -- the configuration that a list of steps leads to
 abbrev pub finalConfiguration : Configuration → List Step → Configuration

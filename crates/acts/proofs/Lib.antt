@@ -1,3 +1,0 @@
-pub mod Occupancy
-pub mod Looking
-pub mod Making

@@ -1,0 +1,7 @@
+pub mod RisingCounters
+pub mod Cases
+pub mod TurnCases
+pub mod SentenceBytes
+pub mod Injective
+pub mod Zeros
+pub mod Theorems

@@ -1,0 +1,3 @@
+pub mod AcceptedTables
+pub mod AdmissionTests
+pub mod Admitted

@@ -1,0 +1,3 @@
+pub mod Occupancy
+pub mod ActReplies
+pub mod ActMoves

@@ -1,0 +1,2 @@
+pub mod InsideReplies
+pub mod InsideMoves

@@ -1,0 +1,3 @@
+pub mod MadeEntries
+pub mod RunSteps
+pub mod RunEnds

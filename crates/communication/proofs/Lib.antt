@@ -1,4 +1,0 @@
-pub mod Acting
-pub mod TokenMoves
-pub mod Putting
-pub mod Taking

@@ -1,0 +1,4 @@
+pub mod Zeros
+pub mod TreeScans
+pub mod ComponentScans
+pub mod HallScans

@@ -1,0 +1,6 @@
+pub mod Starts
+pub mod Holds
+pub mod Replacements
+pub mod MovesInPlace
+pub mod AcceptedActs
+pub mod Choices

@@ -1,0 +1,4 @@
+pub mod Processes
+pub mod Stack
+pub mod Opening
+pub mod ShownTurns

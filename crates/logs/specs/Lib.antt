@@ -1,4 +1,0 @@
-pub mod Needs
-pub mod Writes
-pub mod Values
-pub mod Places

@@ -1,0 +1,2 @@
+pub mod TransactionBegin
+pub mod TransactionEnd

@@ -1,0 +1,3 @@
+pub mod LeafBytes
+pub mod FoundMoves
+pub mod MadeMoves

@@ -1,0 +1,4 @@
+pub mod Needs
+pub mod Writes
+pub mod Values
+pub mod LogOffsets

@@ -1,0 +1,4 @@
+pub mod TokenReplies
+pub mod TokenMoves
+pub mod TokenPuts
+pub mod TokenTakes

@@ -1,4 +1,0 @@
-pub mod Processes
-pub mod Stack
-pub mod Opening
-pub mod Shown

@@ -1,3 +1,0 @@
-pub mod Shapes
-pub mod Classes
-pub mod FieldTests

@@ -1,2 +1,0 @@
--- The laws of a schedule's bytes, for whoever goes through one.
-pub mod Heads

@@ -1,3 +1,0 @@
-pub mod Phrases
-pub mod Parts
-pub mod Told

@@ -1,4 +1,0 @@
-pub mod RecordTests
-pub mod RecordRead
-pub mod TableRead
-pub mod Verdicts

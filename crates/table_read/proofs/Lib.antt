@@ -1,0 +1,3 @@
+pub mod RecordTests
+pub mod RecordRead
+pub mod TableRead

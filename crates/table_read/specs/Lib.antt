@@ -1,0 +1,3 @@
+pub mod ReadAnswers
+pub mod RecordTests
+pub mod RecordRead

@@ -1,3 +1,0 @@
-pub mod Bytes
-pub mod Finding
-pub mod Moving

@@ -1,4 +1,0 @@
-pub mod Zeros
-pub mod Trees
-pub mod Components
-pub mod Forms
