@@ -1,6 +1,8 @@
 /* The hall engine for C and C++: rule tables, halls, choices, sentences.
  *
- * Link with target/staticlib/libruonfidd.a, which `rt staticlib ruonfidd` writes (x86-64 Linux).
+ * `make install` puts this file beside the library, static and shared, for x86-64 Linux:
+ * `pkg-config --cflags --libs ruonfidd` has what a compiler needs.  Without it, link with
+ * target/staticlib/libruonfidd.a, which `rt staticlib ruonfidd` writes.
  * The library is proved to answer as the definitions in crates/semantics/specs/Definitions say; this
  * file says the same in plain words.
  *
@@ -16,31 +18,15 @@
  * and needs a few KB of stack, ruonfidd_report some 20.  The same bytes always get the same answer.
  *
  * The table is tested first, record by record, each record by the numbers in their order; then the
- * hall; then the choices, one by one.  A place is an offset in bytes.  The bytes of tables, halls
- * and choices, width, branches and length, and the words of a sentence are explained in
- * docs/FORMAT.md.
+ * hall; then the choices, one by one.  The bytes of tables, halls and choices, width, branches and
+ * length, and the words of a sentence are explained in docs/FORMAT.md.  RUONFIDD_REFUSALS below lists
+ * every number with its name and its words.  A place is an offset in bytes:
  *
- *    1  a record's kind is not 1 to 13            place of 1 to 8: the record's first byte
- *    2  the bytes end inside a record
- *    3  a term after 200 terms
- *    4  a tray over 15
- *    5  a term is named that does not stand earlier
- *    6  a process is named where an expression belongs, or the other way round
- *    7  a term over 64 wide, with over 8 branches, or over 16 long
- *    8  tokens of count 0, or for a tray that was given some before
- *    9  a byte behind the start record (place: that byte), or no start record (place: the length)
- *   10  the hall is not RUONFIDD_HALL_BYTES long  place of 10 and 11: 0
- *   11  the bytes are no hall of this table
- *   12  a choice of another kind than 1 and 2     place of 12 to 20: the choice's first byte
- *   13  the bytes end inside a choice
- *   14  the position is past the last station
- *   15  kind 1: an attempt that still has moves inside; kind 2: a station that is no attempt
- *   16  no node of this number
- *   17  the node has no move: a finished leaf (end or retry), or a fork with an unfinished left side
- *   18  a take from an empty tray
- *   19  over 64 stations would stand afterwards
- *   20  a put on a tray that holds 255
- *   21  a sentence's buffer is too short          place of 21: 0, which the call does not set
+ *    1 to 8    the first byte of the record that is refused
+ *    9         the byte behind the start record; the table's length where it has no start record
+ *   10, 11     0
+ *   12 to 20   the first byte of the choice that is refused
+ *   21         0, which the call does not set
  *
  * 21 is of ruonfidd_sentence alone, which tests nothing else.
  * Refused by 1 to 11, hall and tally are as they were.  Where a choice is refused, 12 to 20, those
@@ -71,6 +57,111 @@
 #ifdef __cplusplus
 extern "C" {
 #endif
+
+/* The version of this header and of the library that belongs to it.  It is said here alone: the
+ * library's file, its soname and the pkg-config file are made with it. */
+#define RUONFIDD_VERSION_MAJOR 0
+#define RUONFIDD_VERSION_MINOR 1
+#define RUONFIDD_VERSION_PATCH 0
+/* The same as text, "MAJOR.MINOR.PATCH". */
+#define RUONFIDD_VERSION                                                                            \
+    RUONFIDD_DOTTED_(RUONFIDD_VERSION_MAJOR, RUONFIDD_VERSION_MINOR, RUONFIDD_VERSION_PATCH)
+/* A name with _ at its end is for this header's own use. */
+#define RUONFIDD_DOTTED_(major, minor, patch)                                                       \
+    RUONFIDD_TEXT_(major) "." RUONFIDD_TEXT_(minor) "." RUONFIDD_TEXT_(patch)
+#define RUONFIDD_TEXT_(number) #number
+
+/* Every refusal, in the order of the tests: its name, its number, the words that a sentence has for it
+ * (none for 21), and the reason.
+ * EACH is a macro of four arguments, which is written out once for each refusal.
+ * A record's kind is 1 to 13, a choice's 1 or 2; a term is at most 64 wide, with 8 branches, and 16 long.
+ * 15 is, for kind 1, an attempt that still has moves inside; for kind 2, a station that is no attempt.
+ * 17 is a finished leaf, end or retry, or a fork with an unfinished left side. */
+#define RUONFIDD_REFUSALS(EACH)                                                                     \
+    EACH(RUONFIDD_REFUSAL_UNKNOWN_KIND, 1, "table: unknown record",                                 \
+         "a record begins with a byte that is no kind")                                             \
+    EACH(RUONFIDD_REFUSAL_RECORD_CUT_SHORT, 2, "table: record cut short",                           \
+         "the bytes end inside a record")                                                           \
+    EACH(RUONFIDD_REFUSAL_TOO_MANY_TERMS, 3, "table: too many terms",                               \
+         "more than 200 terms")                                                                     \
+    EACH(RUONFIDD_REFUSAL_UNKNOWN_TRAY, 4, "table: no such tray",                                   \
+         "a tray above 15")                                                                         \
+    EACH(RUONFIDD_REFUSAL_NOT_EARLIER, 5, "table: term not earlier",                                \
+         "a reference to a term that has not come yet")                                             \
+    EACH(RUONFIDD_REFUSAL_WRONG_CLASS, 6, "table: wrong term class",                                \
+         "a process where an expression belongs, or the other way round")                           \
+    EACH(RUONFIDD_REFUSAL_TERM_TOO_LARGE, 7, "table: term too large",                               \
+         "a term is too wide, has too many branches or is too long")                                \
+    EACH(RUONFIDD_REFUSAL_BAD_TOKENS, 8, "table: wrong tokens",                                     \
+         "tokens of no count, or for a tray that has some already")                                 \
+    EACH(RUONFIDD_REFUSAL_START_NOT_LAST, 9, "table: no start at end",                              \
+         "no start record, or something behind it")                                                 \
+    EACH(RUONFIDD_REFUSAL_HALL_LENGTH, 10, "hall: wrong length",                                    \
+         "a hall of another length than 11,344")                                                    \
+    EACH(RUONFIDD_REFUSAL_HALL_FORM, 11, "hall: not well formed",                                   \
+         "bytes that are no hall of this table")                                                    \
+    EACH(RUONFIDD_REFUSAL_CHOICE_KIND, 12, "no such kind",                                          \
+         "a choice begins with a byte that is no kind")                                             \
+    EACH(RUONFIDD_REFUSAL_CHOICE_CUT_SHORT, 13, "choice cut short",                                 \
+         "the bytes end inside a choice")                                                           \
+    EACH(RUONFIDD_REFUSAL_NO_STATION, 14, "no such station",                                        \
+         "no station at the position")                                                              \
+    EACH(RUONFIDD_REFUSAL_WRONG_STATION, 15, "station cannot do this",                              \
+         "a station that takes no choice of this kind as it stands")                                \
+    EACH(RUONFIDD_REFUSAL_NO_NODE, 16, "no such node",                                              \
+         "no node of this number")                                                                  \
+    EACH(RUONFIDD_REFUSAL_NO_RULE, 17, "no move at this node",                                      \
+         "a node to which no rule applies")                                                         \
+    EACH(RUONFIDD_REFUSAL_EMPTY_TRAY, 18, "tray empty",                                             \
+         "a take from a tray without tokens")                                                       \
+    EACH(RUONFIDD_REFUSAL_TOO_MANY_STATIONS, 19, "too many stations",                               \
+         "more than 64 stations afterwards")                                                        \
+    EACH(RUONFIDD_REFUSAL_FULL_TRAY, 20, "tray full",                                               \
+         "a put on a tray that holds 255 tokens")                                                   \
+    EACH(RUONFIDD_REFUSAL_BUFFER_TOO_SHORT, 21, "",                                                 \
+         "a sentence's buffer of fewer than 96 bytes")
+
+/* Every rule by which a choice moves: its name, its number, the words that a sentence has for it.
+ * EACH is a macro of three arguments. */
+#define RUONFIDD_RULES(EACH)                                                                        \
+    EACH(RUONFIDD_RULE_OUT, 1, "token put")                                                         \
+    EACH(RUONFIDD_RULE_IN, 2, "token taken")                                                        \
+    EACH(RUONFIDD_RULE_REP, 3, "token taken, repeats")                                              \
+    EACH(RUONFIDD_RULE_ATST, 4, "attempt begun")                                                    \
+    EACH(RUONFIDD_RULE_ATRE, 5, "attempt given up")                                                 \
+    EACH(RUONFIDD_RULE_ATFAIL, 6, "commit failed")                                                  \
+    EACH(RUONFIDD_RULE_ATOK, 7, "block committed")                                                  \
+    EACH(RUONFIDD_RULE_ARDOK, 8, "read noted")                                                      \
+    EACH(RUONFIDD_RULE_ARDF, 9, "read failed")                                                      \
+    EACH(RUONFIDD_RULE_AWR, 10, "write noted")                                                      \
+    EACH(RUONFIDD_RULE_AOI, 11, "two ways opened")                                                  \
+    EACH(RUONFIDD_RULE_AOF, 12, "second way kept")                                                  \
+    EACH(RUONFIDD_RULE_AOE, 13, "first way kept")
+
+/* The numbers by name, as RUONFIDD_REFUSAL_NO_STATION and RUONFIDD_RULE_ATOK. */
+#define RUONFIDD_REFUSAL_CONSTANT_(name, number, said, reason) name = number,
+#define RUONFIDD_RULE_CONSTANT_(name, number, said) name = number,
+enum ruonfidd_refusal { RUONFIDD_REFUSALS(RUONFIDD_REFUSAL_CONSTANT_) };
+enum ruonfidd_rule { RUONFIDD_RULES(RUONFIDD_RULE_CONSTANT_) };
+
+/* The reason of a refusal in words, for any number that a call returns. */
+#define RUONFIDD_REFUSAL_REASON_(name, number, said, reason)                                        \
+    case number:                                                                                    \
+        return reason;
+static inline const char *ruonfidd_refusal_reason(uint8_t refusal) {
+    switch (refusal) {
+    case 0:
+        return "nothing is refused";
+        RUONFIDD_REFUSALS(RUONFIDD_REFUSAL_REASON_)
+    default:
+        return "a number without words here";
+    }
+}
+
+/* The kinds of a choice.  A suggestion has RUONFIDD_CHOICE_NONE where the hall is still. */
+#define RUONFIDD_CHOICE_NONE 0
+#define RUONFIDD_CHOICE_ACT 1
+#define RUONFIDD_CHOICE_INSIDE 2
 
 /* The length of a stored hall: 16 counts, the stations in order, zeros. */
 #define RUONFIDD_HALL_BYTES 11344
@@ -136,8 +227,7 @@ uint8_t ruonfidd_run(const uint8_t *table, size_t table_length, uint8_t *hall, s
  * fails, which tray was short.  For kind 1 the node counts for nothing.  Kind, position and node are
  * bytes: C cuts a larger number down to one.
  *
- * Done: 0; the place is the choice's length in a list, 2 or 3; the rule is 1 OUT, 2 IN, 3 REP,
- * 4 ATST, 5 ATRE, 6 ATFAIL, 7 ATOK, 8 ARDOK, 9 ARDF, 10 AWR, 11 AOI, 12 AOF or 13 AOE.
+ * Done: 0; the place is the choice's length in a list, 2 or 3; the rule is one of RUONFIDD_RULES.
  * shortage: by rules 6 and 9 a tray, 0 to 15, and by how many it was short, 1 to 16.  By rule 6 the
  * reads of the log were held against the counts of now, by rule 9 the reads of the log and this one
  * against the attempt's snapshot; of all trays that have fewer it is the lowest.  In a hall that calls

@@ -20,7 +20,7 @@ fn main() {
             "The engine's static library is not there: {}",
             file.display()
         );
-        eprintln!("Run `rt staticlib ruonfidd` in the repository's top folder first,");
+        eprintln!("Run `make` in the repository's top folder first,");
         eprintln!("or let {FOLDER_VARIABLE} name the folder that holds {FILE}.");
         exit(1);
     }

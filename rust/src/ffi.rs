@@ -1,11 +1,16 @@
 //! The library's calls as they are declared for C, and over each of them one
 //! function that takes references and gives the bare numbers.
 //!
-//! The functions are safe to call and are public for this package's tests
-//! alone; they are no part of its interface. All unsafe code of the package is
-//! here. In the library's calls a `&[u8]` or `&mut [u8]` is a pointer and a
-//! length, a `&mut` of a number is a pointer; a call returns the number of the
-//! refusal, 0 for none, and sets the place (a sentence has none).
+//! All unsafe code of the package is here, and none of this is part of its
+//! interface. The functions are safe to call. The package's suite of tests takes
+//! this file as a module of its own, to see what the calls set.
+//!
+//! In the library's calls a `&[u8]` or `&mut [u8]` is a pointer and a length, a
+//! `&mut` of a number or of an array is a pointer. A call returns the number of
+//! the refusal, 0 for none, and sets the place (a sentence has none).
+//! `include/ruonfidd.h` says what a caller owes: memory that may be read, and
+//! written where it is not const; no overlap with what is written; no other
+//! thread that writes what was lent or reads what is written meanwhile.
 
 #![allow(unsafe_code)]
 
@@ -13,6 +18,9 @@ use std::ptr::addr_of_mut;
 
 use crate::REPORT_BYTES;
 
+/// Each function is declared as in `include/ruonfidd.h`: the same name, and the
+/// same parameters in the same order. Numbers have C's widths: `u8` is `uint8_t`,
+/// `u32` is `uint32_t`, and `usize` is `size_t` where the library runs.
 mod library {
     use crate::REPORT_BYTES;
 
@@ -100,19 +108,22 @@ mod library {
 }
 
 /// The number, and in `place` the place: 0 where the number is 0.
-pub fn check_table(table: &[u8], place: &mut usize) -> u8 {
-    // SAFETY: the pointer and the length are those of one slice, which the
-    // call only reads; `place` is a number of the caller's that nothing else
-    // can reach meanwhile. The call keeps neither of them.
+pub(crate) fn check_table(table: &[u8], place: &mut usize) -> u8 {
+    // SAFETY: `table` is one live slice, whose pointer and length go together.
+    // The call only reads it, and while it is borrowed nobody writes it.
+    // `place` is borrowed alone: it may be written, nobody else sees it, and it
+    // overlaps nothing. The call keeps no pointer.
     unsafe { library::ruonfidd_check_table(table.as_ptr(), table.len(), place) }
 }
 
 /// The number, and in `place` the place: 0 where the number is 0. `hall` is
 /// written then, and else not.
-pub fn open_hall(table: &[u8], hall: &mut [u8], place: &mut usize) -> u8 {
-    // SAFETY: each pointer and length are those of one slice; the table is only
-    // read, and the hall and `place` are the caller's alone meanwhile. The call
-    // keeps none of them.
+pub(crate) fn open_hall(table: &[u8], hall: &mut [u8], place: &mut usize) -> u8 {
+    // SAFETY: `table` and `hall` are live slices, each with its own pointer and
+    // length. The call only reads `table`, and while that is borrowed nobody
+    // writes it. `hall` and `place` are each borrowed alone: they may be
+    // written, nobody else sees them, and they overlap nothing. The call keeps
+    // no pointer.
     unsafe {
         library::ruonfidd_open_hall(
             table.as_ptr(),
@@ -130,7 +141,7 @@ pub fn open_hall(table: &[u8], hall: &mut [u8], place: &mut usize) -> u8 {
 /// where nothing is laid down, 1 where a station is, 2 where there is no such
 /// turn; in `station` the two bytes of that station, 0 and 0 for none; in `left`
 /// how many terms are left to open then. What is not said is 0.
-pub fn opening_turn(
+pub(crate) fn opening_turn(
     table: &[u8],
     turn: usize,
     laid: &mut u8,
@@ -138,9 +149,11 @@ pub fn opening_turn(
     left: &mut usize,
     place: &mut usize,
 ) -> u8 {
-    // SAFETY: the pointer and the length are those of one slice, which the call
-    // only reads; all that is written is the caller's alone meanwhile. The call
-    // keeps none of them.
+    // SAFETY: `table` is one live slice, whose pointer and length go together.
+    // The call only reads it, and while it is borrowed nobody writes it.
+    // `laid`, `station`, which has the two bytes that the call sets, `left` and
+    // `place` are each borrowed alone: they may be written, nobody else sees
+    // them, and they overlap nothing. The call keeps no pointer.
     unsafe {
         library::ruonfidd_opening_turn(
             table.as_ptr(),
@@ -155,8 +168,12 @@ pub fn opening_turn(
 }
 
 /// The number, and in `place` the place: 0 where the number is 0.
-pub fn check_hall(table: &[u8], hall: &[u8], place: &mut usize) -> u8 {
-    // SAFETY: as above; the call reads both slices and writes neither.
+pub(crate) fn check_hall(table: &[u8], hall: &[u8], place: &mut usize) -> u8 {
+    // SAFETY: `table` and `hall` are live slices, each with its own pointer and
+    // length. The call only reads them, so that they may overlap, and while
+    // they are borrowed nobody writes them. `place` is borrowed alone: it may
+    // be written, nobody else sees it, and it overlaps nothing. The call keeps
+    // no pointer.
     unsafe {
         library::ruonfidd_check_hall(
             table.as_ptr(),
@@ -169,10 +186,10 @@ pub fn check_hall(table: &[u8], hall: &[u8], place: &mut usize) -> u8 {
 }
 
 /// Commits, failed and retries of the fresh tally.
-#[must_use]
-pub fn fresh_tally() -> [u32; 3] {
+pub(crate) fn fresh_tally() -> [u32; 3] {
     let mut tally = [u32::MAX; 3];
-    // SAFETY: the call writes the three numbers and keeps no pointer.
+    // SAFETY: the pointer is that of a local array of three numbers, which the
+    // call writes and nobody else sees. The call keeps no pointer.
     unsafe { library::ruonfidd_fresh_tally(addr_of_mut!(tally)) };
     tally
 }
@@ -180,7 +197,7 @@ pub fn fresh_tally() -> [u32; 3] {
 /// The number; in `place` its place, or where it is 0 the length of the
 /// choices; in `done` how many choices were done. Hall and tally are as those
 /// choices have made them, and as they were where the number is 1 to 11.
-pub fn run(
+pub(crate) fn run(
     table: &[u8],
     hall: &mut [u8],
     choices: &[u8],
@@ -188,9 +205,12 @@ pub fn run(
     place: &mut usize,
     done: &mut usize,
 ) -> u8 {
-    // SAFETY: each pointer and length are those of one slice; table and choices
-    // are only read, and all that is written is the caller's alone meanwhile.
-    // The call keeps none of them.
+    // SAFETY: `table`, `hall` and `choices` are live slices, each with its own
+    // pointer and length. The call only reads `table` and `choices`, so that
+    // these two may overlap, and while they are borrowed nobody writes them.
+    // `hall`, `tally`, which has the three numbers that the call sets, `place`
+    // and `done` are each borrowed alone: they may be written, nobody else sees
+    // them, and they overlap nothing. The call keeps no pointer.
     unsafe {
         library::ruonfidd_run(
             table.as_ptr(),
@@ -212,7 +232,7 @@ pub fn run(
 /// in `rule` the number of the rule done, 0 for none; in `shortage` the tray that
 /// was short and by how many, 0 and 0 for none. Hall and tally are as the choice
 /// has made them, and as they were where the number is not 0.
-pub fn step(
+pub(crate) fn step(
     table: &[u8],
     hall: &mut [u8],
     [kind, position, node]: [u8; 3],
@@ -221,7 +241,12 @@ pub fn step(
     shortage: &mut [u8; 2],
     place: &mut usize,
 ) -> u8 {
-    // SAFETY: as for a run.
+    // SAFETY: `table` and `hall` are live slices, each with its own pointer and
+    // length. The call only reads `table`, and while that is borrowed nobody
+    // writes it. `hall`, `tally`, which has the three numbers that the call
+    // sets, `rule`, `shortage`, which has the two bytes that it sets, and
+    // `place` are each borrowed alone: they may be written, nobody else sees
+    // them, and they overlap nothing. The call keeps no pointer.
     unsafe {
         library::ruonfidd_step(
             table.as_ptr(),
@@ -242,10 +267,13 @@ pub fn step(
 /// The number, and in `place` the place: 0 where the number is 0. In `choice`
 /// the kind, position and node of the first accepted choice; what is not said
 /// is 0.
-pub fn suggest(table: &[u8], hall: &[u8], choice: &mut [u8; 3], place: &mut usize) -> u8 {
-    // SAFETY: each pointer and length are those of one slice, which the call
-    // only reads; `choice` and `place` are the caller's alone meanwhile. The
-    // call keeps none of them.
+pub(crate) fn suggest(table: &[u8], hall: &[u8], choice: &mut [u8; 3], place: &mut usize) -> u8 {
+    // SAFETY: `table` and `hall` are live slices, each with its own pointer and
+    // length. The call only reads them, so that they may overlap, and while
+    // they are borrowed nobody writes them. `choice`, which has the three bytes
+    // that the call sets, and `place` are each borrowed alone: they may be
+    // written, nobody else sees them, and they overlap nothing. The call keeps
+    // no pointer.
     unsafe {
         library::ruonfidd_suggest(
             table.as_ptr(),
@@ -260,11 +288,12 @@ pub fn suggest(table: &[u8], hall: &[u8], choice: &mut [u8; 3], place: &mut usiz
 
 /// In `written` how many bytes the report has; it stands at the front of the
 /// output, and what follows it there is as it was.
-pub fn report(input: &[u8], output: &mut [u8; REPORT_BYTES], written: &mut usize) {
-    // SAFETY: the pointer and the length are those of one slice, which the call
-    // only reads; the array, whose length is the one that the call asks for,
-    // and `written` are the caller's alone meanwhile. The call keeps none of
-    // them.
+pub(crate) fn report(input: &[u8], output: &mut [u8; REPORT_BYTES], written: &mut usize) {
+    // SAFETY: `input` is one live slice, whose pointer and length go together.
+    // The call only reads it, and while it is borrowed nobody writes it.
+    // `output`, an array of the length that the call asks for, and `written`
+    // are each borrowed alone: they may be written, nobody else sees them, and
+    // they overlap nothing. The call keeps no pointer.
     unsafe { library::ruonfidd_report(input.as_ptr(), input.len(), output, written) }
 }
 
@@ -279,7 +308,7 @@ pub fn report(input: &[u8], output: &mut [u8; REPORT_BYTES], written: &mut usize
 /// buffer and its length in `length`; what follows it in the buffer is as it was.
 /// Where it is 21, neither was written: this call alone does not always set what
 /// it was given to set.
-pub fn sentence(
+pub(crate) fn sentence(
     [kind, position, node]: [u8; 3],
     moved: u8,
     number: u8,
@@ -287,8 +316,9 @@ pub fn sentence(
     buffer: &mut [u8],
     length: &mut usize,
 ) -> u8 {
-    // SAFETY: the pointer and the length are those of one slice; it and `length`
-    // are the caller's alone meanwhile. The call keeps neither of them.
+    // SAFETY: `buffer` is one live slice, whose pointer and length go together.
+    // It and `length` are each borrowed alone: they may be written, nobody else
+    // sees them, and they overlap nothing. The call keeps no pointer.
     unsafe {
         library::ruonfidd_sentence(
             kind,

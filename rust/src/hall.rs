@@ -14,9 +14,10 @@ const TRAYS: usize = 16;
 ///
 /// It holds its [`HALL_BYTES`] bytes and nothing else: the calls on it take the
 /// rule table with them, and another table is refused where the hall does not
-/// fit it. The tally is no part of it and is lent to each call beside it.
-/// Callers that keep a hall in memory of their own lend it to [`open_hall`],
-/// [`run`] and the others instead.
+/// fit it. The tally is no part of it and is lent to each call beside it. That
+/// these are always the same ones is up to the caller; a
+/// [`Session`](crate::Session) owns all three. Callers that keep a hall in memory
+/// of their own lend it to [`open_hall`], [`run`] and the others instead.
 ///
 /// ```
 /// use ruonfidd::{Hall, Refusal};

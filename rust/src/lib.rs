@@ -5,20 +5,31 @@
 //! its answers: only its number and its place become a [`Result`], those of a
 //! step with its choice, and two bytes an optional [`Shortage`] or [`Station`].
 //!
+//! # Which calls to use
+//!
+//! - A [`Session`] owns a table, its hall and its tally. It is the one to begin
+//!   with: nobody else can write what it owns, so that all that is proved holds.
+//! - A [`Hall`] owns its bytes alone; table and tally are lent to each call. It is
+//!   for programs that keep many halls of one table, as a search does.
+//! - [`open_hall`], [`run`], [`step`] and the others take lent bytes, for programs
+//!   with memory of their own.
+//!
 //! # Linking
 //!
-//! `rt staticlib ruonfidd`, run in the repository's top folder, writes the
-//! library to `target/staticlib`, where this package looks for it. Another
-//! folder can be named in the environment variable `RUONFIDD_LIB_DIR`, as an
-//! absolute path or from this package's folder on. The library is part of the
-//! program that is built: nothing has to be installed beside it.
+//! `make`, run in the repository's top folder, writes the library to
+//! `target/staticlib`, where this package looks for it. Another folder can be
+//! named in the environment variable `RUONFIDD_LIB_DIR`, as an absolute path or
+//! from this package's folder on: the folder `lib` of an installation will do. The
+//! library is part of the program that is built: nothing has to be installed
+//! beside it.
 //!
 //! # What a call may be relied on for
 //!
 //! - It takes any bytes. There is no input on which it stops the program.
 //! - It keeps nothing from one call to the next and needs little stack, a
-//!   printed run some 20 KB, so any thread may call it at any time. A [`Hall`]
-//!   and a [`Printed`] own memory for their bytes; nothing else is allocated.
+//!   printed run some 20 KB, so any thread may call it at any time. A [`Session`],
+//!   a [`Hall`] and a [`Printed`] own memory for their bytes, and a session copies
+//!   some where it asks or prints; nothing else is allocated.
 //! - The same bytes always get the same answer.
 //! - An opening lays its stations down by turns, at most one a turn, in the order
 //!   of the hall. [`opening_turn`] gives any of them, [`opening_stations`] the
@@ -37,37 +48,37 @@
 //! What is proved of a whole list of calls, that each committed block acts in
 //! one moment, is proved of calls with the same table, and with hall and tally as
 //! the last call left them. It says nothing where somebody else has written
-//! hall or tally in between. The tally is no part of the hall and is kept beside it.
+//! hall or tally in between. A [`Session`] sees to that. With the other calls it is
+//! the caller's duty; the tally is no part of the hall and is kept beside it.
 //!
 //! # Example
 //!
 //! ```
-//! use ruonfidd::{Choice, Hall, Moved, Refusal};
+//! use ruonfidd::{Choice, Moved, Refusal, Session};
 //!
 //! // A block that reads a token from tray 0 and writes one to tray 1; tray 0
 //! // holds one token.
 //! let table = [7, 10, 1, 0, 9, 0, 1, 6, 2, 12, 0, 1, 13, 3];
-//! let (mut hall, mut tally) = Hall::open(&table)?;
-//! assert_eq!(hall.counts()[..2], [1, 0]);
+//! let mut session = Session::open(&table)?;
+//! assert_eq!(session.counts()[..2], [1, 0]);
 //!
 //! // The block begins; its attempt reads, writes and is committed; the token
 //! // is put.
 //! let choices = [1, 0, 2, 0, 0, 2, 0, 0, 1, 0, 1, 0];
-//! assert_eq!(hall.run(&table, &choices, &mut tally), Ok(5));
-//! assert_eq!(hall.counts()[..2], [0, 1]);
-//! assert_eq!(tally.commits, 1);
+//! assert_eq!(session.run(&choices), Ok(5));
+//! assert_eq!(session.counts()[..2], [0, 1]);
+//! assert_eq!(session.tally().commits, 1);
 //!
 //! // Nothing is left to do.
-//! assert_eq!(hall.suggest(&table), Ok(None));
-//! let refused = hall.step(&table, Choice::Act { position: 0 }, &mut tally).unwrap_err();
+//! assert_eq!(session.suggest(), None);
+//! let refused = session.step(Choice::Act { position: 0 }).unwrap_err();
 //! assert_eq!(refused.refusal.number, Refusal::NO_STATION);
 //! assert_eq!(refused.to_string(), "Kind 1 at station 0 met refusal 14, no such station.");
 //!
 //! // The same by suggestions, step by step, and no more than a hundred.
-//! let (mut hall, mut tally) = Hall::open(&table)?;
+//! let mut session = Session::open(&table)?;
 //! let (mut rules, mut board) = (Vec::new(), String::new());
-//! for step in hall.suggested_steps(&table, &mut tally).take(100) {
-//!     let moved = step?;
+//! for moved in session.suggested_steps().take(100) {
 //!     rules.push(moved.rule);
 //!     board += &format!("{moved}\n");
 //! }
@@ -81,17 +92,17 @@
 //!      Kind 1 at station 0 moved by rule 7, block committed.\n\
 //!      Kind 1 at station 0 moved by rule 1, token put.\n"
 //! );
-//! assert_eq!(hall.counts()[..2], [0, 1]);
+//! assert_eq!(session.counts()[..2], [0, 1]);
 //! # Ok::<(), Refusal>(())
 //! ```
 
 mod choice;
-#[doc(hidden)]
-pub mod ffi;
+mod ffi;
 mod hall;
 mod printed;
 mod refusal;
 mod sentence;
+mod session;
 mod shortage;
 mod suggested;
 mod tally;
@@ -102,6 +113,7 @@ pub use hall::Hall;
 pub use printed::Printed;
 pub use refusal::Refusal;
 pub use sentence::{Answer, Sentence};
+pub use session::{Session, SessionSteps};
 pub use shortage::Shortage;
 pub use suggested::{Followed, SuggestedSteps};
 pub use tally::Tally;

@@ -1,7 +1,9 @@
 //! Answers of the engine, each compared with the second implementation's.
 
 use reference::calls;
-use ruonfidd::{ffi, Hall, Refusal, Tally, HALL_BYTES};
+use ruonfidd::{Hall, Refusal, Tally, HALL_BYTES};
+
+use crate::ffi;
 
 /// A number (0 for none) and a place.
 pub(crate) type Answer = (u8, usize);

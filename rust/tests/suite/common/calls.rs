@@ -9,7 +9,9 @@ use reference::hall::{decode, Station};
 use reference::moves::{ATOK, IN, REP};
 use reference::run::{run_choices, Tally};
 use reference::table::{read_table, Term};
-use ruonfidd::{ffi, HALL_BYTES};
+use ruonfidd::HALL_BYTES;
+
+use crate::ffi;
 
 use super::choices::step_bytes;
 use super::shortages::{told_bytes, Seen, ShortMet, Told};

@@ -7,7 +7,9 @@ use reference::calls;
 use reference::hall::Station;
 use reference::table::{byte_of, width, Table, Term};
 use reference::turns::Turn;
-use ruonfidd::{ffi, opening_turn};
+use ruonfidd::opening_turn;
+
+use crate::ffi;
 
 use super::answers::Answer;
 use super::by_hand::{PUTTING, WAITING};

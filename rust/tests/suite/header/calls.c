@@ -35,6 +35,7 @@ static uint8_t report[RUONFIDD_REPORT_BYTES];
 static uint8_t board[RUONFIDD_SENTENCE_BYTES + 1], untouched[RUONFIDD_SENTENCE_BYTES + 1];
 static const char begun[] = "Kind 1 at station 0 moved by rule 4, attempt begun.";
 static const char by_none[] = "Kind 1 at station 0 moved by rule 4, attempt begun, tray 3 short by 0.";
+static const char no_kind[] = "a choice begins with a byte that is no kind";
 static const char unknown[] = "Kind 255 at station 0, node 9 met refusal 12, no such kind.";
 /* Two blocks that read tray 0 twice, and two tokens: both begin and read, the first is committed. */
 static const uint8_t rivals[] = {7, 9, 0, 0, 9, 0, 1, 6, 2, 5, 3, 3, 12, 0, 2, 13, 4};
@@ -136,7 +137,8 @@ int main(void) {
     MUST(choice[0] == 2 && choice[1] == 0 && choice[2] == 0);
     MUST(step(table, sizeof table, hall, choice[0], choice[1], choice[2]) == 0);
     MUST(rule == 8 && shortage[0] == 0 && shortage[1] == 0 && place == 3);
-    MUST(step(table, sizeof table, hall, 255, 0, 0) == 12);
+    MUST(step(table, sizeof table, hall, 255, 0, 0) == RUONFIDD_REFUSAL_CHOICE_KIND);
+    MUST(strcmp(ruonfidd_refusal_reason(RUONFIDD_REFUSAL_CHOICE_KIND), no_kind) == 0);
     MUST(rule == 0 && shortage[0] == 0 && shortage[1] == 0 && place == 0);
     MUST(sentence(255, 0, 9, 0, 12, shortage[0], shortage[1], board, sizeof board) == 0);
     MUST(reads(unknown));

@@ -4,12 +4,13 @@ use reference::build::Builder;
 use reference::edges::{lines, Line};
 use reference::generator::{self, Random};
 use reference::print::printed_run;
-use ruonfidd::{ffi, print_run, print_run_into, REPORT_BYTES};
+use ruonfidd::{print_run, print_run_into, REPORT_BYTES};
 
 use crate::common::seeds::{say, seeds};
+use crate::ffi;
 
 /// The list of edges that the proved program runs.
-const EDGES: &str = include_str!("../../../../crates/edges/stdin");
+const EDGES: &str = include_str!("../../../../crates/program_edges/stdin");
 
 /// A document with examples.
 const FORMAT: &str = include_str!("../../../../docs/FORMAT.md");

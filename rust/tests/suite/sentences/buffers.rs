@@ -1,7 +1,9 @@
 //! The lent buffer: how long it may be, what is written of it, what is left.
 
 use reference::calls;
-use ruonfidd::{ffi, say_into, Answer, Refusal, SENTENCE_BYTES};
+use ruonfidd::{say_into, Answer, Refusal, SENTENCE_BYTES};
+
+use crate::ffi;
 
 use super::{bare_forms, moved_short, reply, Bare, Choice};
 

@@ -11,7 +11,9 @@ mod threads;
 
 use reference::sentence::{sentence, Reply};
 use reference::shortage::Shortage as SecondShortage;
-use ruonfidd::{ffi, say, say_into, Answer, Shortage, SENTENCE_BYTES};
+use ruonfidd::{say, say_into, Answer, Shortage, SENTENCE_BYTES};
+
+use crate::ffi;
 
 /// Kind, position and node, any bytes.
 type Choice = [u8; 3];

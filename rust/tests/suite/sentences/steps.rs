@@ -19,7 +19,7 @@ use crate::common::by_hand::EXAMPLE;
 use crate::common::seeds::{say, seeds};
 
 /// The list of edges that the proved program runs.
-const EDGES: &str = include_str!("../../../../crates/edges/stdin");
+const EDGES: &str = include_str!("../../../../crates/program_edges/stdin");
 
 /// How often each rule moved, and each refusal was met.
 #[derive(Debug, Default)]

@@ -1,11 +1,12 @@
 //! Rules and refusals that tell nothing. Both bytes are set to others before each
 //! call, so that one left as it was would be seen.
 
-use ruonfidd::{ffi, step, Choice, Moved, Tally, HALL_BYTES};
+use ruonfidd::{step, Choice, Moved, Tally, HALL_BYTES};
 
 use super::{hall_of, reads, END};
 use crate::common::by_hand::{attempt, each_kind, hall, joined, leaf, leaning_right};
 use crate::common::by_hand::{BARE_RETRY, FORK, PUTTING, WAITING};
+use crate::ffi;
 
 /// What a step answers and sets, called with two bytes that it has to set:
 /// number, rule and both bytes.

@@ -7,10 +7,10 @@ mod of_several;
 
 use reference::choice::Choice;
 use reference::run::Tally;
-use ruonfidd::ffi;
 
 use crate::common::by_hand::{each_kind, hall};
 use crate::common::calls::Sequence;
+use crate::ffi;
 
 /// A hall of the table with a term of each kind.
 fn sequence(counts: &[u8], stations: &[u8]) -> Sequence {
