@@ -4,7 +4,7 @@
 use crate::measures::measures;
 use crate::rehearsal::Moment;
 use crate::stations::{takes, Attempt, Leaf, Node, Station};
-use crate::style::{Style, WIDTH};
+use crate::style::{hung, width, Style};
 use crate::table::{Counts, Table, Term};
 use crate::text::tree::Program;
 use crate::ways::{
@@ -36,7 +36,12 @@ pub struct Board<'a> {
     pub program: &'a Program,
     /// Colour.
     pub style: Style,
+    /// Whether equal stations share a line.
+    pub folds: bool,
 }
+
+/// So many equal stations share a line.
+const FEWEST_FOLDED: usize = 3;
 
 impl Board<'_> {
     /// The lines of a board, each behind so many spaces.
@@ -60,7 +65,7 @@ impl Board<'_> {
         for tray in numbers {
             let count = count_of(&now.counts, tray);
             let words = format!("   {} {count}", self.program.tray_name(tray));
-            if line.len() > empty && line.len() + words.len() > WIDTH {
+            if line.len() > empty && line.len() + words.len() > width() {
                 let next = " ".repeat(empty);
                 lines.push(std::mem::replace(&mut line, next));
             }
@@ -75,28 +80,61 @@ impl Board<'_> {
         if now.stations.is_empty() {
             return vec![format!("{margin}stations  none")];
         }
-        let names: Vec<String> = (0..now.stations.len())
-            .map(|position| now.names.name(position))
+        let told: Vec<(usize, String, usize)> = (0..now.stations.len())
+            .filter_map(|position| self.told_name(now, position))
             .collect();
-        let widest = names.iter().map(String::len).max().unwrap_or(0);
+        let widest = told.iter().map(|(_, name, _)| name.len()).max();
+        let widest = widest.unwrap_or(0);
         let mut lines = Vec::new();
-        for (position, (station, name)) in now.stations.iter().zip(&names).enumerate() {
-            let word = if position == 0 { "stations" } else { "" };
+        for (position, name, alike) in &told {
+            let Some(station) = now.stations.get(*position) else {
+                continue;
+            };
+            let word = if lines.is_empty() { "stations" } else { "" };
             let padding = " ".repeat(widest - name.len());
             let from = now
                 .names
-                .origin(position)
+                .origin(*position)
                 .map_or(String::new(), |from| format!(" (from {from})"));
-            lines.push(format!(
-                "{margin}{word:<8}  {position:>2}  {}{padding}  {}{from}",
-                self.style.bold(name),
-                self.station(station, now)
-            ));
+            let alike = match alike {
+                0 | 1 => String::new(),
+                _ => format!(" ({alike} alike)"),
+            };
+            let front = format!("{margin}{word:<8}  {position:>2}  {name}{padding}  ");
+            let words = format!("{}{from}{alike}", self.station(station, now));
+            let roomy = front.len() + 24 <= width();
+            let hang = if roomy { front.len() } else { indent + 16 };
+            let mut further = hung(&front, hang, &words, width()).into_iter();
+            let first = further.next().unwrap_or_default();
+            lines.push(first.replacen(name, &self.style.bold(name), 1));
+            lines.extend(further);
             if let Station::Attempt(attempt) = station {
                 lines.extend(self.attempt(attempt, now, indent + 14));
             }
         }
         lines
+    }
+
+    /// The position, the name and how many share the line; none where an equal
+    /// station before it has it.
+    fn told_name(&self, now: &Moment, position: usize) -> Option<(usize, String, usize)> {
+        let name = now.names.name(position);
+        let station = now.stations.get(position)?;
+        if !self.folds || matches!(station, Station::Attempt(_)) {
+            return Some((position, name, 1));
+        }
+        let equal: Vec<usize> = (0..now.stations.len())
+            .filter(|other| {
+                now.stations.get(*other) == Some(station) && now.names.alike(position, *other)
+            })
+            .collect();
+        match equal.as_slice() {
+            [first, .., last] if equal.len() >= FEWEST_FOLDED => {
+                let name = format!("{name} .. {}", now.names.name(*last));
+                (*first == position).then_some((position, name, equal.len()))
+            }
+            _ => Some((position, name, 1)),
+        }
     }
 
     fn station(&self, station: &Station, now: &Moment) -> String {
@@ -141,9 +179,9 @@ impl Board<'_> {
             let front = format!("{margin}node {number:<2} {branch}");
             let words = match node {
                 Node::Fork { right } => self.fork(attempt, number, *right),
-                Node::Leaf(leaf) => self.leaf(attempt, leaf, WIDTH.saturating_sub(front.len())),
+                Node::Leaf(leaf) => self.leaf(attempt, leaf, width().saturating_sub(front.len())),
             };
-            lines.push(format!("{front}{words}"));
+            lines.extend(fitted(&front, &words));
         }
         if let Some(leaf) = attempt.single_leaf() {
             if self.is_end(leaf) {
@@ -220,9 +258,12 @@ impl Board<'_> {
         let trays = trays_counted(&needs);
         if trays.is_empty() {
             let verdict = self.style.good("it can commit now");
-            return vec![format!("{margin}needs      nothing   <- {verdict}")];
+            return fitted(
+                &format!("{margin}needs      "),
+                &format!("nothing   <- {verdict}"),
+            );
         }
-        let row = |word: &str, counts: &Counts| {
+        let row = |word: &str, counts: &Counts, verdict: &str| {
             let cells: Vec<String> = trays
                 .iter()
                 .map(|tray| {
@@ -230,7 +271,9 @@ impl Board<'_> {
                     format!("{name} {:<3}", count_of(counts, *tray))
                 })
                 .collect();
-            format!("{margin}{word:<11}{}", cells.join("  ").trim_end())
+            let cells = cells.join("  ");
+            let words = format!("{}{verdict}", cells.trim_end());
+            fitted(&format!("{margin}{word:<11}"), &words)
         };
         let verdict = if within(&needs, &now.counts) {
             format!("enough: {}", self.style.good("it can commit now"))
@@ -238,11 +281,23 @@ impl Board<'_> {
             let short = shortage_words(self.program, &shortages(&needs, &now.counts));
             format!("{short}: {}", self.style.bad("it will fail"))
         };
-        vec![
-            row("needs", &needs),
-            row("at opening", &attempt.remembers),
-            format!("{}   <- {verdict}", row("now", &now.counts)),
+        let verdict = format!("   <- {verdict}");
+        [
+            row("needs", &needs, ""),
+            row("at opening", &attempt.remembers, ""),
+            row("now", &now.counts, &verdict),
         ]
+        .concat()
+    }
+}
+
+/// Words behind something, as they are where they fit, else in several lines.
+fn fitted(front: &str, words: &str) -> Vec<String> {
+    let line = format!("{front}{words}");
+    if line.len() <= width() {
+        vec![line]
+    } else {
+        hung(front, front.len() + 2, words, width())
     }
 }
 
@@ -287,7 +342,7 @@ fn branches_drawn(nodes: &[Node]) -> Vec<String> {
 mod tests {
     use super::Board;
     use crate::lesson::Lesson;
-    use crate::style::Style;
+    use crate::style::{width, Style};
     use crate::text::source::Source;
     use crate::text::understand;
     use ruonfidd::Choice;
@@ -307,6 +362,7 @@ mod tests {
             table,
             program,
             style,
+            folds: false,
         };
         board.lines(lesson.now(), 0)
     }
@@ -363,10 +419,12 @@ mod tests {
         let text = format!("tray a has 9\ntray b\nstart block ({step}end)");
         let cut = board(&text, &[0, 0]);
         let line = cut.iter().find(|line| line.contains("node 0")).unwrap();
-        assert!(line.len() <= 96 && line.ends_with(" ..."), "{line}");
+        assert!(line.len() <= width() && line.ends_with(" ..."), "{line}");
         let all = board(&text, &[0; 16]);
-        let line = all.iter().find(|line| line.contains("node 0")).unwrap();
-        assert_eq!(line.matches("take a").count(), 8, "{line}");
+        assert!(all.iter().all(|line| line.len() <= width()), "{all:?}");
+        let words = all.join(" ");
+        let words: Vec<&str> = words.split_whitespace().collect();
+        assert_eq!(words.join(" ").matches("take a").count(), 8, "{all:?}");
         let text = format!("tray b\nstart block ({}end)", "put b, ".repeat(16));
         let counted = board(&text, &[0, 0, 0]);
         let line = counted.iter().find(|line| line.contains("node 0")).unwrap();

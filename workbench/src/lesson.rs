@@ -6,9 +6,9 @@
 use ruonfidd::{Choice, Hall, Refusal, Tally};
 
 use crate::names::Lost;
-use crate::rehearsal::{Happened, Moment, Rehearsal, Unmade};
+use crate::rehearsal::{position_of, Happened, Moment, Rehearsal, Unmade};
 use crate::table::Table;
-use crate::text::choices::{Ask, Called};
+use crate::text::choices::{Ask, Called, Line};
 use crate::text::tree::Program;
 
 /// What the engine said to a choice.
@@ -18,6 +18,15 @@ pub enum Answer {
     Moved(Box<Happened>),
     /// It was refused, and the call is over.
     Refused(Refusal),
+}
+
+/// What came of a step that was made whole.
+#[derive(Clone, Debug, PartialEq, Eq)]
+pub struct Whole {
+    /// The choices that moved, in order.
+    pub moved: Vec<Happened>,
+    /// The choice behind them that was refused, where the step has no end.
+    pub refused: Option<(Choice, Refusal)>,
 }
 
 /// The choices of one call, and how it ended.
@@ -89,7 +98,8 @@ impl<'a> Lesson<'a> {
         refused.count()
     }
 
-    /// The choice that a line asks for; none where it asks for no choice.
+    /// The choice that a line asks for, of several the first; none where it asks
+    /// for no choice.
     ///
     /// # Errors
     ///
@@ -103,6 +113,7 @@ impl<'a> Lesson<'a> {
                 position: self.position(called)?,
                 node: *node,
             }),
+            Ask::Do(called) => Some(self.rehearsal.next_of(self.position(called)?)),
             Ask::Board | Ask::Why(_) => None,
         })
     }
@@ -113,7 +124,8 @@ impl<'a> Lesson<'a> {
     ///
     /// Where they lead to no station.
     pub fn position(&self, called: &Called) -> Result<u8, Lost> {
-        let position = self.now().names.find(called)?;
+        let program = self.rehearsal.program();
+        let position = self.now().names.find(program, called)?;
         Ok(u8::try_from(position).unwrap_or(u8::MAX))
     }
 
@@ -138,6 +150,53 @@ impl<'a> Lesson<'a> {
             }
             Err(Unmade::Contradiction) => Err(NAMES),
         }
+    }
+
+    /// Makes a put, a take or an attempt to its end, from where it stands.
+    ///
+    /// # Errors
+    ///
+    /// Where this program and the engine are at odds.
+    pub fn make_whole(&mut self, position: u8) -> Result<Whole, Contradiction> {
+        let mut moved = Vec::new();
+        loop {
+            let choice = self.rehearsal.next_of(position);
+            match self.make(choice)? {
+                Answer::Moved(happened) => {
+                    let over = happened.rule.ends_step();
+                    moved.push(*happened);
+                    if over {
+                        let refused = None;
+                        return Ok(Whole { moved, refused });
+                    }
+                }
+                Answer::Refused(refusal) => {
+                    let refused = Some((choice, refusal));
+                    return Ok(Whole { moved, refused });
+                }
+            }
+        }
+    }
+
+    /// Makes all choices of a line, of which this is the first.
+    ///
+    /// # Errors
+    ///
+    /// Where this program and the engine are at odds.
+    pub fn make_line(&mut self, line: &Line, first: Choice) -> Result<Whole, Contradiction> {
+        if let Ask::Do(_) = line.ask {
+            return self.make_whole(u8::try_from(position_of(first)).unwrap_or(u8::MAX));
+        }
+        Ok(match self.make(first)? {
+            Answer::Moved(happened) => Whole {
+                moved: vec![*happened],
+                refused: None,
+            },
+            Answer::Refused(refusal) => Whole {
+                moved: Vec::new(),
+                refused: Some((first, refusal)),
+            },
+        })
     }
 
     /// Bytes that are no choice, handed to the engine at the end of a list; it

@@ -17,9 +17,11 @@
 //! | [`turns`](mod@turns) | an opening turn by turn |
 //! | [`lesson`] | choices made one by one, and once more as whole runs |
 //! | [`rules`], [`sentences`], [`refusals`] | what a choice did, or why it is refused, in words |
+//! | [`steps`] | a run told by steps: who did what, and what the trays became |
 //! | [`board`], [`why`](mod@why) | the hall as it stands; what an attempt will come to |
 //! | [`explore`] | every way a hall can go: situations, ends, questions, witnesses |
 //! | [`input`], [`bytes_told`], [`json`], [`style`] | files, refusals of bytes, objects, colour |
+//! | [`system`] | signals that ask for an end, streams that were closed from the start |
 //! | [`commands`] | the commands, their streams and exit codes |
 
 pub mod board;
@@ -37,7 +39,9 @@ pub mod rules;
 pub mod sentences;
 pub mod show;
 pub mod stations;
+pub mod steps;
 pub mod style;
+pub mod system;
 pub mod table;
 pub mod text;
 pub mod turns;

@@ -147,6 +147,22 @@ impl<'a> Rehearsal<'a> {
         accepted
     }
 
+    /// The next choice of a station that goes on by itself to the end of what it
+    /// does: inside an attempt the first node that the engine accepts, else its
+    /// act.
+    #[must_use]
+    pub fn next_of(&self, position: u8) -> Choice {
+        let nodes = match self.now.stations.get(usize::from(position)) {
+            Some(Station::Attempt(attempt)) => attempt.nodes.len(),
+            _ => 0,
+        };
+        (0..=u8::MAX)
+            .take(nodes)
+            .map(|node| Choice::Inside { position, node })
+            .find(|choice| self.ask(*choice).is_ok())
+            .unwrap_or(Choice::Act { position })
+    }
+
     /// The engine's suggestion, the first of [`Rehearsal::accepted`]; none where
     /// the hall is still.
     ///

@@ -13,6 +13,17 @@ pub struct Rule {
     pub word: &'static str,
 }
 
+impl Rule {
+    /// Whether a put, a take or an attempt is over with it.
+    #[must_use]
+    pub fn ends_step(self) -> bool {
+        matches!(
+            self.number,
+            Moved::OUT | Moved::IN | Moved::REP | Moved::ATRE | Moved::ATFAIL | Moved::ATOK
+        )
+    }
+}
+
 const fn rule(number: u8, calculus: &'static str, word: &'static str) -> Rule {
     Rule {
         number,

@@ -21,29 +21,39 @@ fn known(command: &str) -> (&'static [&'static str], usize) {
         "build" => (&["-o", "--choices", "--binary"], 1),
         "show" => (&["--exact", "--binary"], 1),
         "opening" => (&["--json", "--binary"], 1),
-        "run" => (&["--board", "--quiet", "--json", "--binary"], 2),
-        "play" => (&["--binary"], 2),
+        "run" => (&["--board", "--moves", "--quiet", "--json", "--binary"], 2),
+        "play" => (&["--moves", "--binary"], 2),
         "explore" => (
             &[
-                "--groups", "--engine", "--first", "--all", "--json", "--binary",
+                "--groups", "--engine", "--first", "--all", "--moves", "--quiet", "--json",
+                "--binary",
             ],
             1,
         ),
+        "test" => (&["--quiet"], MOST_FOLDERS),
         _ => (&[], 0),
     }
 }
 
+/// More folders than these are not tested together.
+const MOST_FOLDERS: usize = 100;
+
 /// The options of a command that are followed by something.
 fn with_value(command: &str) -> &'static [&'static str] {
     match command {
+        "run" => &["--svg"],
         "explore" => &[
+            "--ask",
+            "--svg",
             "--never",
             "--ends",
             "--seconds",
             "--memory",
             "--dot",
             "--save",
+            "--graph",
         ],
+        "test" => &["--seconds", "--memory"],
         _ => &[],
     }
 }

@@ -6,7 +6,7 @@ use super::load::{self, Loaded};
 use super::run::problems::{lost_problem, missed, unexpected};
 use super::run::script::{script, Script};
 use super::{Args, Exit, Failure, Outcome, Streams};
-use crate::lesson::{Answer, Lesson};
+use crate::lesson::Lesson;
 use crate::refusals;
 use crate::text::choices::Line;
 use crate::text::problems::Problem;
@@ -85,19 +85,20 @@ fn choices(
     Ok(Some(list))
 }
 
-/// Makes one line's choice; the problem where the lesson ends there.
+/// Makes one line's choices; the problem where the lesson ends there.
 fn made(lesson: &mut Lesson<'_>, source: &Source, line: &Line) -> Result<Option<Problem>, Failure> {
     let choice = match lesson.choice(&line.ask) {
         Ok(Some(choice)) => choice,
         Ok(None) => return Ok(None),
         Err(lost) => return Ok(Some(lost_problem(source, lesson, line.called, &lost))),
     };
-    let before = lesson.rehearsal().clone();
-    Ok(match lesson.make(choice)? {
-        Answer::Moved(happened) => missed(line, happened.rule),
-        Answer::Refused(refusal) if line.expects(refusal) => None,
-        Answer::Refused(refusal) => {
-            let reason = refusals::reason(&before, choice, refusal);
+    let whole = lesson.make_line(line, choice)?;
+    Ok(match whole.refused {
+        None => whole.moved.last().and_then(|it| missed(line, it.rule)),
+        Some((_, refusal)) if line.expects(refusal) => None,
+        Some((choice, refusal)) => {
+            // What was refused has changed nothing.
+            let reason = refusals::reason(lesson.rehearsal(), choice, refusal);
             Some(unexpected(line, refusal, reason, None))
         }
     })

@@ -1,8 +1,10 @@
 //! `hall check`
 
 use super::load::{self, Loaded, Unloaded};
+use super::questions::{self, Asking};
 use super::{Args, Exit, Failure, Outcome, Streams};
 use crate::bytes_told;
+use crate::explore::question::Binder;
 use crate::input::{self, Material};
 use crate::json::{self, Object};
 use crate::measures::measures;
@@ -28,7 +30,13 @@ pub(super) fn check(args: &Args, streams: &mut Streams<'_>) -> Outcome {
     match loaded {
         Err(unloaded) => refused(name, unloaded, json, streams),
         Ok(loaded) => match args.file(1) {
-            None => accepted(name, &loaded, json, streams),
+            None => match questions::of_text(&Binder::new(&loaded.table, &loaded.program), &loaded)
+            {
+                Asking::Asked(_) => accepted(name, &loaded, json, streams),
+                Asking::Wrong(source, problems) => {
+                    refused(name, Unloaded::Text(source, problems), json, streams)
+                }
+            },
             Some(hall) => stored_hall(hall, &loaded.table, json, streams),
         },
     }

@@ -9,8 +9,10 @@ pub mod help;
 pub mod load;
 mod opening;
 mod play;
+mod questions;
 mod run;
 mod show;
+mod test;
 
 use std::ffi::OsString;
 use std::io::{self, BufRead, Write};
@@ -26,6 +28,8 @@ pub enum Exit {
     Good,
     /// The input was refused, or an expectation was missed.
     Refused,
+    /// This signal asked for an end, and what was seen by then was told.
+    Signal(i32),
 }
 
 /// Why a command could not do its work.
@@ -103,6 +107,8 @@ pub fn main(arguments: &[String], streams: &mut Streams<'_>) -> u8 {
     match outcome {
         Ok(Exit::Good) => 0,
         Ok(Exit::Refused) => 1,
+        // As a shell says that a signal has ended a program.
+        Ok(Exit::Signal(signal)) => u8::try_from(128 + signal).unwrap_or(1),
         Err(failure) => failed(&failure, streams),
     }
 }
@@ -163,6 +169,7 @@ fn dispatch(arguments: &[String], streams: &mut Streams<'_>) -> Outcome {
         "run" => run::run(&args, streams),
         "play" => play::play(&args, streams),
         "explore" => explore::explore(&args, streams),
+        "test" => test::test(&args, streams),
         _ => Err(no_command(command)),
     }
 }

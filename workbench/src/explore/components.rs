@@ -63,6 +63,24 @@ struct Walk<'a> {
 /// All bottom components, each with its members.
 #[must_use]
 pub fn bottom_components(edges: &Edges) -> Vec<Vec<usize>> {
+    walked(edges).bottoms()
+}
+
+/// All components, each with its members.
+#[must_use]
+pub fn components(edges: &Edges) -> Vec<Vec<usize>> {
+    let walk = walked(edges);
+    let mut components = vec![Vec::new(); place(walk.components)];
+    for (member, component) in walk.component.iter().enumerate() {
+        let own = place(*component).checked_sub(1);
+        if let Some(members) = own.and_then(|own| components.get_mut(own)) {
+            members.push(member);
+        }
+    }
+    components
+}
+
+fn walked(edges: &Edges) -> Walk<'_> {
     let members = edges.ends.len();
     let mut walk = Walk {
         edges,
@@ -80,7 +98,7 @@ pub fn bottom_components(edges: &Edges) -> Vec<Vec<usize>> {
             while walk.go_on() {}
         }
     }
-    walk.bottoms()
+    walk
 }
 
 fn at(numbers: &[u32], member: usize) -> u32 {

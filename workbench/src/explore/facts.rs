@@ -4,12 +4,16 @@ use std::collections::HashMap;
 
 use crate::stations::Station;
 use crate::table::Table;
+use crate::text::asking::Event;
 use crate::text::tree::Program;
 use crate::ways::action_words;
 
+pub use crate::text::asking::Asked;
+
 use super::endless::{endless, Allowed, Endless};
-use super::investigate::Explored;
+use super::investigate::{Exact, Explored, Possible};
 use super::labels::Labels;
+use super::leads_to::{Lasso, Led};
 use super::model::Kind;
 use super::question::Question;
 use super::replay::{replay, Contradiction, Replay, Witness};
@@ -106,15 +110,6 @@ pub enum ForEver {
     Unknown,
 }
 
-/// Whether something must never be so, or must be so at every end.
-#[derive(Clone, Copy, Debug, PartialEq, Eq)]
-pub enum Asked {
-    /// `--never`
-    Never,
-    /// `--ends`
-    Ends,
-}
-
 /// The answer to a question.
 #[derive(Clone, Debug)]
 pub struct Answer {
@@ -126,6 +121,25 @@ pub struct Answer {
     pub verdict: Verdict,
     /// Where it is broken in a round that is never left: who goes on there.
     pub round: Option<InRound>,
+    /// Where it is broken by a round.
+    pub again: Option<Again>,
+    /// What had to be gone through once more for it: situations, steps, bytes.
+    pub cost: Option<(usize, usize, usize)>,
+    /// Whether the text says that it is broken.
+    pub breaks: bool,
+    /// Whether it is about what can happen next.
+    pub of_events: bool,
+    /// Which of all that are asked it is.
+    pub place: usize,
+}
+
+/// A round at the end of a way, which can be gone through again and again.
+#[derive(Clone, Copy, Debug, PartialEq, Eq)]
+pub struct Again {
+    /// How many choices of the way come before it.
+    pub before: usize,
+    /// How many steps it has.
+    pub steps: usize,
 }
 
 /// What was found.
@@ -271,11 +285,12 @@ impl Collector<'_> {
             for index in ends {
                 found.store.read(*index, &mut situation);
                 let (counts, _) = model.split(&situation);
-                let known = of_counts.get(counts).copied();
+                let counts = self.questions.left_over(counts);
+                let known = of_counts.get(&counts).copied();
                 if let Some((_, situations)) = known.and_then(|sort| sorts.get_mut(sort)) {
                     *situations += 1;
                 } else {
-                    of_counts.insert(counts.to_vec(), sorts.len());
+                    of_counts.insert(counts, sorts.len());
                     sorts.push((*index, 1));
                 }
             }
@@ -311,7 +326,7 @@ impl Collector<'_> {
             let code = self.explored.model.code(station);
             code.is_some_and(|code| acting.contains(code))
         };
-        InRound::of(&witness.last, acts)
+        InRound::of(self.program, &witness.last, acts)
     }
 
     /// Which limit is met with so many bytes more than the exploration uses.
@@ -440,22 +455,89 @@ impl Collector<'_> {
         for (question, broken) in self.questions.never.iter().zip(&found.never) {
             let verdict = match broken {
                 Some(index) => Verdict::Broken(Box::new(self.way_to(*index)?), Vec::new()),
-                None if self.explored.complete() => Verdict::Holds,
+                None if self.explored.complete() => self.holds(question),
                 None => Verdict::Open,
             };
-            answers.push(Answer::of(Asked::Never, question, verdict));
+            answers.push(Answer::of(question, verdict));
         }
         for (number, question) in self.questions.ends.iter().enumerate() {
             answers.push(self.at_ends(number, question)?);
         }
+        for (number, question) in self.questions.possible.iter().enumerate() {
+            answers.push(self.always_possible(number, question)?);
+        }
+        for (number, question) in self.questions.leads.iter().enumerate() {
+            let led = self.explored.leads.get(number).and_then(Option::as_ref);
+            answers.push(self.leads_to(question, led)?);
+        }
+        answers.sort_by_key(|answer| answer.place);
         Ok(answers)
+    }
+
+    /// With notes an attempt can fail in ways that no situation tells.
+    fn holds(&self, question: &Question) -> Verdict {
+        if self.explored.exact == Exact::WithNotes
+            && question.asks_for(|event| event == Event::Fails)
+        {
+            Verdict::Open
+        } else {
+            Verdict::Holds
+        }
+    }
+
+    fn always_possible(&self, number: usize, question: &Question) -> Result<Answer, Contradiction> {
+        let verdict = match self.explored.possible.get(number) {
+            Some(Possible::NotFrom(index)) => {
+                Verdict::Broken(Box::new(self.way_to(*index)?), Vec::new())
+            }
+            Some(Possible::Always) => self.holds(question),
+            Some(Possible::Unknown) | None => Verdict::Open,
+        };
+        Ok(Answer::of(question, verdict))
+    }
+
+    fn leads_to(&self, question: &Question, led: Option<&Led>) -> Result<Answer, Contradiction> {
+        let Some(led) = led else {
+            return Ok(Answer::of(question, Verdict::Open));
+        };
+        let cost = Some((led.situations, led.steps, led.memory));
+        let answer = match &led.broken {
+            None => Answer::of(question, Verdict::Holds),
+            Some(lasso) => {
+                let (witness, again) = self.lasso(lasso)?;
+                let left = match again {
+                    None => self.left_at(&witness),
+                    Some(_) => Vec::new(),
+                };
+                let verdict = Verdict::Broken(Box::new(witness), left);
+                Answer {
+                    again,
+                    ..Answer::of(question, verdict)
+                }
+            }
+        };
+        Ok(Answer { cost, ..answer })
+    }
+
+    /// The way to an end, or into a round and once through it.
+    fn lasso(&self, lasso: &Lasso) -> Result<(Witness, Option<Again>), Contradiction> {
+        let Explored { model, found, .. } = self.explored;
+        let mut replay = Replay::open(self.table, self.program, model)?;
+        replay.follow(&found.store, &found.store.way_to(lasso.begins))?;
+        let entered = replay.follow_codes(&found.store, lasso.begins, &lasso.way)?;
+        let before = replay.choices();
+        replay.follow_codes(&found.store, entered, &lasso.round)?;
+        let steps = lasso.round.len();
+        let again = (steps > 0).then_some(Again { before, steps });
+        Ok((replay.witness(), again))
     }
 
     /// Ends and rounds are asked alike; the nearest that breaks it is told.
     fn at_ends(&self, number: usize, question: &Question) -> Result<Answer, Contradiction> {
         let Explored { found, rounds, .. } = self.explored;
         let end = found.broken_ends.get(number).copied().flatten();
-        let rounds = rounds.as_ref().and_then(|rounds| rounds.broken.get(number));
+        let rounds = rounds.as_ref().map(|rounds| &rounds.broken);
+        let rounds = rounds.unwrap_or(&found.broken_rounds).get(number);
         let round = rounds.copied().flatten();
         let round = round.filter(|(at, _)| end.map_or(true, |end| *at < end));
         if let Some((at, acting)) = round {
@@ -464,7 +546,7 @@ impl Collector<'_> {
             let verdict = Verdict::Broken(Box::new(witness), Vec::new());
             return Ok(Answer {
                 round: Some(who),
-                ..Answer::of(Asked::Ends, question, verdict)
+                ..Answer::of(question, verdict)
             });
         }
         let verdict = match end {
@@ -473,22 +555,27 @@ impl Collector<'_> {
                 let left = self.left_at(&witness);
                 Verdict::Broken(Box::new(witness), left)
             }
-            None if self.explored.ends_known() => Verdict::Holds,
+            None if self.explored.ends_known() => self.holds(question),
             None => Verdict::Open,
         };
-        Ok(Answer::of(Asked::Ends, question, verdict))
+        Ok(Answer::of(question, verdict))
     }
 }
 
 impl Answer {
     /// An answer that no round is in the way of.
     #[must_use]
-    pub fn of(asked: Asked, question: &Question, verdict: Verdict) -> Answer {
+    pub fn of(question: &Question, verdict: Verdict) -> Answer {
         Answer {
-            asked,
+            asked: question.asked,
             question: question.text.clone(),
             verdict,
             round: None,
+            again: None,
+            cost: None,
+            breaks: question.asking.breaks,
+            of_events: question.asked == Asked::Never && question.asks_for(|_| true),
+            place: question.place,
         }
     }
 
@@ -497,34 +584,23 @@ impl Answer {
     pub fn told(&self) -> String {
         self.asked.told(&self.question)
     }
-}
 
-impl Asked {
-    /// A question as it is told.
+    /// Whether it is as it should be: it holds, or is broken where the text says
+    /// so.
     #[must_use]
-    pub fn told(self, question: &str) -> String {
-        match self {
-            Asked::Never => format!("never {question}"),
-            Asked::Ends => format!("every end has {question}"),
-        }
-    }
-
-    /// The word for it.
-    #[must_use]
-    pub fn word(self) -> &'static str {
-        match self {
-            Asked::Never => "never",
-            Asked::Ends => "ends",
+    pub fn as_expected(&self) -> bool {
+        match self.verdict {
+            Verdict::Holds => !self.breaks,
+            Verdict::Broken(..) => self.breaks,
+            Verdict::Open => false,
         }
     }
 }
 
 impl Facts {
-    /// Whether every question was answered: it holds.
+    /// Whether every question was answered as it should be.
     #[must_use]
     pub fn all_hold(&self) -> bool {
-        self.answers
-            .iter()
-            .all(|answer| matches!(answer.verdict, Verdict::Holds))
+        self.answers.iter().all(Answer::as_expected)
     }
 }

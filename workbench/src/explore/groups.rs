@@ -5,17 +5,18 @@
 //! ones are not told apart, only counted.
 
 use crate::stations::Station;
+use crate::steps::Entry;
 use crate::table::{Table, Term};
 use crate::text::assembly::assemble;
 use crate::text::compare::means;
 use crate::text::source::Span;
 use crate::text::tree::{PartId, PartKind, Program};
 
-use super::facts::{Answer, Collector};
+use super::facts::{Answer, Collector, Verdict};
 use super::investigate::investigate;
 use super::labels::opened_parts;
 use super::model::{opened_terms, Model};
-use super::question::Question;
+use super::question::{Binder, Question};
 use super::replay::Contradiction;
 use super::search::{Cut, Limits, Progress, Questions};
 use super::start_line::start_line;
@@ -34,6 +35,8 @@ pub struct Group {
     pub situations: u64,
     /// What is answered to the questions.
     pub answers: Vec<Answer>,
+    /// For each answer the way that breaks it, by steps.
+    pub told: Vec<Option<Vec<Entry>>>,
 }
 
 /// The groups that were gone through.
@@ -58,6 +61,8 @@ pub enum LeftOut {
     TooMany,
     /// The time was over.
     Time,
+    /// A signal asked for an end.
+    Signal,
 }
 
 /// Equal stations of the opening.
@@ -69,7 +74,8 @@ struct Sort {
     copies: usize,
 }
 
-/// Explores every group, small ones first, as far as the limits allow.
+/// Explores every group, small ones first, as far as the limits allow, and shows
+/// each when it is done with.
 ///
 /// # Errors
 ///
@@ -80,6 +86,7 @@ pub fn groups(
     questions: &Questions,
     limits: Limits,
     progress: &mut Progress<'_>,
+    show: &mut dyn FnMut(&Group),
 ) -> Result<Groups, Contradiction> {
     let mut program = program.clone();
     program.choices = None;
@@ -103,11 +110,16 @@ pub fn groups(
             return Ok(groups);
         }
         for chosen in of_size(&sorts, size) {
-            if limits.met(0) == Some(Cut::Time) {
-                groups.left_out = Some(LeftOut::Time);
+            groups.left_out = match limits.met(0) {
+                Some(Cut::Time) => Some(LeftOut::Time),
+                Some(Cut::Signal) => Some(LeftOut::Signal),
+                _ => None,
+            };
+            if groups.left_out.is_some() {
                 return Ok(groups);
             }
             let group = explore(&program, &chosen, questions, limits, progress)?;
+            show(&group);
             groups.tried.push(group);
         }
         groups.up_to = size;
@@ -221,28 +233,33 @@ fn explore(
         limits,
         most_ends: 0,
     };
+    let answers = facts.answers()?;
+    let told = |answer: &Answer| match &answer.verdict {
+        Verdict::Broken(witness, _) => witness.told(&table, &program),
+        _ => None,
+    };
     Ok(Group {
         start: start_line(&program, chosen),
         size: chosen.iter().map(|(_, number)| number).sum(),
         situations: explored.found.situations,
-        answers: facts.answers()?,
+        told: answers.iter().map(told).collect(),
+        answers,
     })
 }
 
 /// Slots are those of a table, so that each group's questions are read anew.
 fn asked_of(questions: &Questions, program: &Program, table: &Table) -> Option<Questions> {
-    let model = Model::of(table);
-    let again = |asked: &[Question]| -> Option<Vec<Question>> {
-        asked
-            .iter()
-            .map(|question| Question::read(&question.text, program, &model).ok())
-            .collect()
-    };
-    Some(Questions {
-        never: again(&questions.never)?,
-        ends: again(&questions.ends)?,
+    let binder = Binder::new(table, program).of_group();
+    let mut all: Vec<&Question> = questions.all().collect();
+    all.sort_by_key(|question| question.place);
+    let mut again = Questions {
         only_first: questions.only_first,
-    })
+        ..Questions::default()
+    };
+    for question in all {
+        again.add(binder.bind(&question.asking).ok()?);
+    }
+    Some(again)
 }
 
 /// The same text with another start.

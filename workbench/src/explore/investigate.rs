@@ -9,9 +9,12 @@
 
 use crate::table::Table;
 
+use super::leads_to::{leads_to, Led};
 use super::model::Model;
+use super::possible::first_without;
 use super::round_sorts::{rounds, Rounds};
 use super::search::{search, Cut, Found, Limits, Progress, Questions};
+use super::store::Index;
 
 /// Whether the situations found are those of the hall, all of them and no
 /// others.
@@ -57,6 +60,22 @@ pub struct Explored {
     pub exact: Exact,
     /// The rounds that are never left; none where they are not known.
     pub rounds: Option<Rounds>,
+    /// For each question of what is always possible, whether it is.
+    pub possible: Vec<Possible>,
+    /// For each question of what leads to something what was found; none where that
+    /// is not known.
+    pub leads: Vec<Option<Led>>,
+}
+
+/// Whether something is possible from every situation.
+#[derive(Clone, Copy, Debug, PartialEq, Eq)]
+pub enum Possible {
+    /// It is.
+    Always,
+    /// From this situation it is not any more, and it is the nearest such one.
+    NotFrom(Index),
+    /// It was not found out.
+    Unknown,
 }
 
 impl Explored {
@@ -85,10 +104,49 @@ pub fn investigate(
     let mut explored = all_situations(table, questions, limits, progress);
     if explored.complete() {
         let Explored { model, found, .. } = &mut explored;
-        found.take_in_stuck(model, &questions.ends);
-        explored.rounds = rounds(model, found, &questions.ends, limits).ok();
+        found.take_in_stuck(model, questions);
+        explored.rounds = rounds(model, found, questions, limits).ok();
+        explored.possible = possible(&explored, questions, limits);
+        explored.leads = leads(&explored, questions, limits);
     }
     explored
+}
+
+/// The ends and the rounds tell whether something is always possible.
+fn possible(explored: &Explored, questions: &Questions, limits: Limits) -> Vec<Possible> {
+    let Explored {
+        model,
+        found,
+        rounds: Some(rounds),
+        ..
+    } = explored
+    else {
+        return Vec::new();
+    };
+    let broken = found.impossible.iter().zip(&rounds.impossible);
+    let questions = questions.possible.iter().zip(broken);
+    let answered = questions.map(|(question, (at_end, in_round))| {
+        if !at_end && !in_round {
+            return Possible::Always;
+        }
+        match first_without(model, found, question, limits) {
+            Ok(Some(first)) => Possible::NotFrom(first),
+            Ok(None) | Err(_) => Possible::Unknown,
+        }
+    });
+    answered.collect()
+}
+
+/// With notes a station may act in two steps, and is not asked whether it goes on.
+fn leads(explored: &Explored, questions: &Questions, limits: Limits) -> Vec<Option<Led>> {
+    if explored.exact == Exact::WithNotes {
+        return Vec::new();
+    }
+    let Explored { model, found, .. } = explored;
+    let questions = questions.leads.iter();
+    questions
+        .map(|question| leads_to(model, found, question, limits).ok())
+        .collect()
 }
 
 fn all_situations(
@@ -110,6 +168,8 @@ fn all_situations(
         found,
         exact,
         rounds: None,
+        possible: Vec::new(),
+        leads: Vec::new(),
     };
     if exact != Exact::No(Doubt::TooManyNotes) {
         return plain;
@@ -140,6 +200,8 @@ fn again(
             found,
             exact: Exact::WithNotes,
             rounds: None,
+            possible: Vec::new(),
+            leads: Vec::new(),
         };
     };
     plain.exact = Exact::No(Doubt::NotesCut(cut));
@@ -151,5 +213,7 @@ fn again(
         found,
         exact: plain.exact,
         rounds: None,
+        possible: Vec::new(),
+        leads: Vec::new(),
     }
 }

@@ -21,18 +21,32 @@ const MOST_TOLD: usize = 3;
 #[derive(Clone, Debug, PartialEq, Eq)]
 pub struct Labels {
     of_code: Vec<BTreeSet<String>>,
+    callers: Vec<BTreeSet<Caller>>,
 }
 
-/// A station of the text: the part that it waits at, and the rule that it is
-/// called after.
+/// The rule that a station is called after, and whether it keeps the name from an
+/// earlier take.
+pub type Caller = (Option<String>, bool);
+
+/// A station of the text: the part that it waits at, and what it is called.
 #[derive(Clone, Debug, PartialEq, Eq, PartialOrd, Ord)]
 struct Called {
     part: PartId,
     term: u8,
-    name: Option<String>,
+    /// A rule's name, or what it did when it came.
+    label: String,
+    /// Whether the label is a rule's name.
+    by_rule: bool,
     /// Whether the name is from an earlier take of the same station.
     kept: bool,
-    from: Option<String>,
+    from: Option<Origin>,
+}
+
+/// Who laid a nameless station down.
+#[derive(Clone, Debug, PartialEq, Eq, PartialOrd, Ord)]
+struct Origin {
+    label: String,
+    by_rule: bool,
 }
 
 impl Labels {
@@ -44,6 +58,7 @@ impl Labels {
             program,
             model,
             of_code: vec![BTreeSet::new(); model.kinds().len()],
+            callers: vec![BTreeSet::new(); model.kinds().len()],
             seen: BTreeSet::new(),
             to_see: Vec::new(),
         };
@@ -56,7 +71,13 @@ impl Labels {
         }
         Labels {
             of_code: walk.of_code,
+            callers: walk.callers,
         }
+    }
+
+    /// All that the stations of a code are called after.
+    pub fn callers(&self, code: u8) -> impl Iterator<Item = &Caller> {
+        self.callers.get(usize::from(code)).into_iter().flatten()
     }
 
     /// What the stations of a code are called.
@@ -76,6 +97,7 @@ struct Walk<'a> {
     program: &'a Program,
     model: &'a Model,
     of_code: Vec<BTreeSet<String>>,
+    callers: Vec<BTreeSet<Caller>>,
     seen: BTreeSet<Called>,
     to_see: Vec<Called>,
 }
@@ -88,20 +110,25 @@ impl Walk<'_> {
         let terms = opened_terms(self.table, process);
         let single = parts.len() == 1;
         for ((part, rule), term) in parts.into_iter().zip(terms) {
-            let name = rule.and_then(|rule| self.program.definitions.get(rule));
+            let rule = rule.and_then(|rule| self.program.definitions.get(rule));
             let mut called = Called {
                 part,
                 term,
-                name: name.map(|definition| definition.name.clone()),
+                label: rule.map_or_else(|| self.doing(term), |it| it.name.clone()),
+                by_rule: rule.is_some(),
                 kept: false,
                 from: None,
             };
-            if let (None, Some(actor)) = (&called.name, actor) {
-                if single && actor.name.is_some() && !self.repeats(actor) {
-                    called.name.clone_from(&actor.name);
-                    called.kept = true;
+            if let (None, Some(actor)) = (rule, actor) {
+                if single && !self.repeats(actor) {
+                    called = Called {
+                        part,
+                        term,
+                        kept: true,
+                        ..actor.clone()
+                    };
                 } else {
-                    called.from = Some(self.origin(actor));
+                    called.from = Some(origin(actor));
                 }
             }
             self.to_see.push(called);
@@ -110,12 +137,6 @@ impl Walk<'_> {
 
     fn repeats(&self, called: &Called) -> bool {
         matches!(self.table.term(called.term), Term::Repeatedly { .. })
-    }
-
-    /// From whom the nameless stations behind this one come.
-    fn origin(&self, actor: &Called) -> String {
-        let own = || actor.name.clone().unwrap_or_else(|| self.doing(actor.term));
-        actor.from.clone().unwrap_or_else(own)
     }
 
     fn doing(&self, term: u8) -> String {
@@ -127,28 +148,30 @@ impl Walk<'_> {
     }
 
     fn name(&mut self, called: &Called) {
-        let doing = self.doing(called.term);
-        let words = match (&called.name, &called.from) {
-            (Some(name), _) if called.kept => format!("{name} (at '{doing}')"),
-            (Some(name), _) => name.clone(),
-            (None, Some(from)) => format!("{doing} (from {from})"),
-            (None, None) => doing,
-        };
-        self.give(called.term, words);
+        let mut words = whole_name(called.from.as_ref(), &called.label);
+        if called.kept {
+            let doing = self.doing(called.term);
+            words = format!("{words} (at '{doing}')");
+        }
+        let rule = called.by_rule.then(|| called.label.clone());
+        self.give(called.term, words, (rule, called.kept));
     }
 
-    fn give(&mut self, term: u8, words: String) {
+    fn give(&mut self, term: u8, words: String, caller: Caller) {
         let station = match self.table.term(term) {
             Term::Put { tray } => Station::Putting(tray),
             _ => Station::Waiting(term),
         };
-        self.give_station(&station, words);
+        self.give_station(&station, words, caller);
     }
 
-    fn give_station(&mut self, station: &Station, words: String) {
+    fn give_station(&mut self, station: &Station, words: String, caller: Caller) {
         let Some(code) = self.model.code(station) else {
             return;
         };
+        if let Some(callers) = self.callers.get_mut(usize::from(code)) {
+            callers.insert(caller);
+        }
         if let Some(Kind::Block { noted, .. }) = self.model.kind(code) {
             for noted in noted {
                 if let Some(names) = self.of_code.get_mut(usize::from(*noted)) {
@@ -172,19 +195,34 @@ impl Walk<'_> {
                 self.open(part, then, Some(called));
             }
             (PartKind::Block(_), Term::Block { .. }) => {
-                let from = self.origin(called);
+                let from = origin(called);
                 for way in ways_of_block(self.table, called.term) {
                     for tray in puts(&way.actions) {
                         let doing = format!("put {}", self.program.tray_name(tray));
-                        self.give_station(
-                            &Station::Putting(tray),
-                            format!("{doing} (from {from})"),
-                        );
+                        let name = whole_name(Some(&from), &doing);
+                        self.give_station(&Station::Putting(tray), name, (None, false));
                     }
                 }
             }
             _ => {}
         }
+    }
+}
+
+/// From whom the nameless stations behind this one come.
+fn origin(actor: &Called) -> Origin {
+    actor.from.clone().unwrap_or_else(|| Origin {
+        label: actor.label.clone(),
+        by_rule: actor.by_rule,
+    })
+}
+
+/// The same as the names of a hall under way say it.
+fn whole_name(from: Option<&Origin>, label: &str) -> String {
+    match from {
+        None => label.to_owned(),
+        Some(from) if from.by_rule => format!("{}'s {label}", from.label),
+        Some(from) => format!("{label} (from {})", from.label),
     }
 }
 

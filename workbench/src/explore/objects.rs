@@ -12,7 +12,7 @@ use super::waiting::{InRound, Left};
 
 /// The object of an exploration.
 #[must_use]
-pub fn object(program: &Program, explored: &Explored, facts: &Facts, seconds: f64) -> String {
+pub fn object(program: &Program, explored: &Explored, facts: &Facts, seconds: f64) -> Object {
     let found = &explored.found;
     let trays = facts.trays.iter().fold(Object::new(), |trays, tray| {
         let (name, least, most) = tray;
@@ -60,7 +60,6 @@ pub fn object(program: &Program, explored: &Explored, facts: &Facts, seconds: f6
         .raw("met_19", witness_or_null(facts.full_hall.as_ref()))
         .raw("met_20", witness_or_null(facts.full_tray.as_ref()))
         .raw("answers", list(facts.answers.iter().map(answer)))
-        .written()
 }
 
 /// Null where they are not known.
@@ -85,7 +84,7 @@ fn end_object(program: &Program, explored: &Explored, end: &End) -> String {
         Object::new()
             .raw("trays", trays.written())
             .count("situations", end.situations)
-            .raw("left", list(end.left.iter().map(left))),
+            .raw("left", list(standing(&end.left))),
         &end.witness,
     )
     .written()
@@ -114,6 +113,11 @@ fn in_round(who: &InRound) -> String {
         .written()
 }
 
+/// Who is left and should not be.
+fn standing(stations: &[Left]) -> impl Iterator<Item = String> + '_ {
+    stations.iter().filter(|one| !one.may_stay).map(left)
+}
+
 fn left(left: &Left) -> String {
     Object::new()
         .string("station", &left.name)
@@ -127,22 +131,38 @@ fn left(left: &Left) -> String {
 pub fn answer(answer: &Answer) -> String {
     let object = Object::new()
         .string("asked", answer.asked.word())
-        .string("question", &answer.question);
+        .string("question", &answer.question)
+        .string("expected", if answer.breaks { "broken" } else { "holds" })
+        .raw("cost", answer.cost.map_or("null".to_owned(), cost));
     match &answer.verdict {
         Verdict::Holds => object.string("verdict", "holds"),
         Verdict::Open => object.string("verdict", "not known"),
         Verdict::Broken(witness, stations) => with_witness(
             object
                 .string("verdict", "broken")
-                .raw("left", list(stations.iter().map(left)))
+                .raw("left", list(standing(stations)))
                 .raw(
                     "round",
                     answer.round.as_ref().map_or("null".to_owned(), in_round),
+                )
+                .raw(
+                    "round_from",
+                    answer
+                        .again
+                        .map_or("null".to_owned(), |again| again.before.to_string()),
                 ),
             witness,
         ),
     }
     .written()
+}
+
+fn cost((situations, steps, bytes): (usize, usize, usize)) -> String {
+    Object::new()
+        .count("situations", situations)
+        .count("steps", steps)
+        .count("memory", bytes)
+        .written()
 }
 
 fn with_witness(object: Object, witness: &Witness) -> Object {
@@ -154,7 +174,15 @@ fn with_witness(object: Object, witness: &Witness) -> Object {
     object
         .count("steps", witness.steps)
         .raw("choices", list(witness.words().map(string)))
+        .raw("made_by", list(witness.called().map(made_by)))
         .raw("bytes", list(bytes))
+}
+
+fn made_by((station, position): (String, usize)) -> String {
+    Object::new()
+        .string("station", station)
+        .count("position", position)
+        .written()
 }
 
 fn witness_or_null(witness: Option<&Witness>) -> String {
@@ -174,7 +202,7 @@ fn for_ever(for_ever: &ForEver) -> String {
     }
 }
 
-/// The option that cut something short.
+/// The option that cut something short, or what else did.
 fn option(cut: Option<Cut>) -> String {
     cut.map_or("null".to_owned(), |cut| string(cut_words(cut)))
 }

@@ -1,35 +1,44 @@
-//! What is asked of an exploration: `done > 2`, `win + lose = 3`.
+//! A question about the situations of a model.
 //!
-//! ```text
-//! question   = all { "or" all } .
-//! all        = one { "and" one } .
-//! one        = "not" one | "(" question ")" | comparison .
-//! comparison = sum ( "=" | "!=" | "<" | "<=" | ">" | ">=" ) sum .
-//! sum        = value { ( "+" | "-" ) value } .
-//! value      = number | TRAY | "stations" .
-//! ```
+//! What `text::asking` has read names trays and rules; here it is about slots and
+//! codes. Equal stations have one code, whatever they are called: a question that
+//! would have to tell them apart is a mistake.
 
-use std::fmt;
+use std::sync::Arc;
 
+use crate::table::Table;
+use crate::text::asking::{
+    read_condition, Asked, Asking, Caller, Comparison, Condition as Written, Doing, Event, Mistake,
+    Place, Standing, Value as WrittenValue, Who,
+};
 use crate::text::tree::Program;
-use crate::text::words::nearest;
 
-use super::model::Model;
+use super::events::Doers;
+use super::labels::Labels;
+use super::model::{Kind, Model};
+use super::rounds::Codes;
+use super::situations::Glance;
 
-/// Brackets and `not` nest so deep at most.
-const DEEPEST: usize = 64;
-
-/// A question, read.
+/// A question, about one model.
 #[derive(Clone, Debug, PartialEq, Eq)]
 pub struct Question {
+    /// What is asked.
+    pub asked: Asked,
     /// As it was written.
     pub text: String,
+    /// Which of all that are asked it is: answers are told in this order.
+    pub place: usize,
+    /// As it was read, for another model of the same text.
+    pub asking: Asking,
     condition: Condition,
+    goal: Option<Condition>,
 }
 
 #[derive(Clone, Debug, PartialEq, Eq)]
 enum Condition {
     Compare(Sum, Comparison, Sum),
+    AtLeast(i64, Codes),
+    Event(Event, Codes, Arc<Doers>),
     Not(Box<Condition>),
     All(Vec<Condition>),
     Any(Vec<Condition>),
@@ -43,75 +52,294 @@ enum Value {
     Number(i64),
     Slot(usize),
     Stations,
+    Standing(Codes),
 }
 
+/// What events are looked up in.
 #[derive(Clone, Copy, Debug, PartialEq, Eq)]
-enum Comparison {
-    Equal,
-    Unequal,
-    Less,
-    AtMost,
-    More,
-    AtLeast,
+enum Moment {
+    /// A situation: an event is so where it can happen next.
+    Situation,
+    /// On its own an event is not so: it happens between situations.
+    Still,
+    /// A step of the station of this code.
+    Step(u8),
 }
 
-/// What is wrong with a question, and where: columns count characters from 1.
-#[derive(Clone, Debug, PartialEq, Eq)]
-pub struct Mistake {
-    /// What is wrong.
-    pub message: String,
-    /// The column of its first character.
-    pub column: usize,
-    /// How many characters are meant, at least 1.
-    pub length: usize,
+/// Puts questions to a model.
+#[derive(Debug)]
+pub struct Binder<'a> {
+    program: &'a Program,
+    /// With notes where there can be some: then these are asked about too.
+    model: Model,
+    labels: Labels,
+    doers: Arc<Doers>,
+    /// Whether somebody who is asked about may be missing.
+    some_missing: bool,
 }
 
-impl fmt::Display for Mistake {
-    fn fmt(&self, out: &mut fmt::Formatter<'_>) -> fmt::Result {
-        write!(out, "column {}: {}", self.column, self.message)
+impl<'a> Binder<'a> {
+    /// For a text and its table.
+    #[must_use]
+    pub fn new(table: &Table, program: &'a Program) -> Binder<'a> {
+        let model = Model::with_notes(table).unwrap_or_else(|| Model::of(table));
+        Binder {
+            program,
+            labels: Labels::of(table, program, &model),
+            doers: Arc::new(Doers::of(&model)),
+            model,
+            some_missing: false,
+        }
     }
-}
 
-impl Question {
-    /// Reads a question about the trays of a text.
+    /// The slots of the trays that may have something at an end.
+    #[must_use]
+    pub fn may_stay(&self) -> Vec<usize> {
+        let trays = self.model.trays().iter().enumerate();
+        let stays = trays.filter(|(_, tray)| self.program.tray_may_stay(**tray));
+        stays.map(|(slot, _)| slot).collect()
+    }
+
+    /// The same for a group of the stations, in which not everybody stands.
+    #[must_use]
+    pub fn of_group(self) -> Binder<'a> {
+        Binder {
+            some_missing: true,
+            ..self
+        }
+    }
+
+    /// Reads a condition, of which this is asked.
     ///
     /// # Errors
     ///
     /// The first mistake in it.
-    pub fn read(text: &str, program: &Program, model: &Model) -> Result<Question, Mistake> {
-        let words = words(text)?;
-        let mut reader = Reader {
-            words: &words,
-            at: 0,
-            end: text.chars().count() + 1,
-            depth: 0,
-            program,
-            model,
-        };
-        let condition = reader.any()?;
-        match reader.peek() {
-            None => Ok(Question {
-                text: text.trim().to_owned(),
-                condition,
+    pub fn read(&self, asked: Asked, text: &str) -> Result<Question, Mistake> {
+        self.bind(&read_condition(asked, text, self.program)?)
+    }
+
+    /// A question that was read.
+    ///
+    /// # Errors
+    ///
+    /// Where no situation of the model could answer it.
+    pub fn bind(&self, asking: &Asking) -> Result<Question, Mistake> {
+        let goal = asking.goal.as_ref();
+        if asking.asked == Asked::Leads {
+            for condition in std::iter::once(&asking.condition).chain(goal) {
+                no_abandoned(condition)?;
+            }
+        }
+        Ok(Question {
+            asked: asking.asked,
+            text: asking.text.clone(),
+            place: 0,
+            asking: asking.clone(),
+            condition: self.condition(&asking.condition)?,
+            goal: goal.map(|goal| self.condition(goal)).transpose()?,
+        })
+    }
+
+    fn condition(&self, written: &Written) -> Result<Condition, Mistake> {
+        Ok(match written {
+            Written::Compare(left, comparison, right) => {
+                Condition::Compare(self.sum(left)?, *comparison, self.sum(right)?)
+            }
+            Written::AtLeast(number, standing) => {
+                Condition::AtLeast(*number, self.standing(standing)?)
+            }
+            Written::Event(caller, event) => {
+                let blocks = self.blocks(caller, *event)?;
+                Condition::Event(*event, blocks, Arc::clone(&self.doers))
+            }
+            Written::Not(inner) => Condition::Not(Box::new(self.condition(inner)?)),
+            Written::All(parts) => Condition::All(self.conditions(parts)?),
+            Written::Any(parts) => Condition::Any(self.conditions(parts)?),
+        })
+    }
+
+    fn conditions(&self, parts: &[Written]) -> Result<Vec<Condition>, Mistake> {
+        parts.iter().map(|part| self.condition(part)).collect()
+    }
+
+    fn sum(&self, sum: &[(i64, WrittenValue)]) -> Result<Sum, Mistake> {
+        sum.iter()
+            .map(|(sign, value)| Ok((*sign, self.value(value)?)))
+            .collect()
+    }
+
+    /// A tray that no record names has nothing and gets nothing.
+    fn value(&self, value: &WrittenValue) -> Result<Value, Mistake> {
+        Ok(match value {
+            WrittenValue::Number(number) => Value::Number(*number),
+            WrittenValue::Stations => Value::Stations,
+            WrittenValue::Tray(tray) => self.slot(*tray).map_or(Value::Number(0), Value::Slot),
+            WrittenValue::Standing(standing) => Value::Standing(self.standing(standing)?),
+        })
+    }
+
+    fn slot(&self, tray: u8) -> Option<usize> {
+        self.model.trays().iter().position(|it| *it == tray)
+    }
+
+    /// The codes of stations that stand where they are asked for.
+    fn standing(&self, standing: &Standing) -> Result<Codes, Mistake> {
+        let Standing { caller, place } = standing;
+        let codes = match &caller.who {
+            Who::Rule(rule) => self.called(caller, rule, *place)?,
+            Who::Doing(doing) => self.all_codes(|code, _| {
+                self.does(code, *doing) && { *place != Place::Inside && self.is_at(code, *place) }
             }),
-            Some(_) => Err(reader.unexpected("'and', 'or' or the end")),
+        };
+        if codes == Codes::default() && !self.some_missing {
+            let words = "no station can ever stand so, and the answer would say nothing";
+            return Err(mistake(caller, words));
+        }
+        Ok(codes)
+    }
+
+    /// The codes of a rule's stations, told apart from all others.
+    fn called(&self, caller: &Caller, rule: &str, place: Place) -> Result<Codes, Mistake> {
+        let mut shared = None;
+        let codes = self.all_codes(|code, plain| {
+            let wanted = |name: &Option<String>, kept: bool| {
+                name.as_deref() == Some(rule) && (place != Place::Inside || kept)
+            };
+            let mut callers = self.labels.callers(plain);
+            if !self.is_at(code, place) || !callers.any(|(name, kept)| wanted(name, *kept)) {
+                return false;
+            }
+            let mut callers = self.labels.callers(plain);
+            if callers.any(|(name, kept)| !wanted(name, *kept)) {
+                shared.get_or_insert(plain);
+            }
+            true
+        });
+        match shared {
+            None => Ok(codes),
+            Some(code) => {
+                let names = self.labels.told(code);
+                let words = format!("these are not told apart, since they do the same: {names}");
+                Err(mistake(caller, &words))
+            }
         }
     }
 
-    /// Whether it is so with these counts of the trays in use and so many
-    /// stations.
+    /// The codes of blocks.
+    fn blocks(&self, caller: &Caller, event: Event) -> Result<Codes, Mistake> {
+        let place = Place::At(Doing::Block);
+        let codes = self.standing(&Standing {
+            caller: caller.clone(),
+            place,
+        });
+        codes.map_err(|other| {
+            let never = format!("no block is called so: it never {}", event.words());
+            match &caller.who {
+                Who::Rule(rule) if self.called(caller, rule, place).is_ok() => {
+                    mistake(caller, &never)
+                }
+                Who::Doing(_) => mistake(caller, &never),
+                Who::Rule(_) => other,
+            }
+        })
+    }
+
+    /// All codes of which something is so; it is handed the code, and the code of
+    /// the block where that is one with a note.
+    fn all_codes(&self, mut is_so: impl FnMut(u8, u8) -> bool) -> Codes {
+        let mut codes = Codes::default();
+        for code in (0..=u8::MAX).take(self.model.kinds().len()) {
+            if is_so(code, self.model.without_note(code)) {
+                codes.insert(code);
+            }
+        }
+        codes
+    }
+
+    fn is_at(&self, code: u8, place: Place) -> bool {
+        match place {
+            Place::Stands | Place::Inside => true,
+            Place::Waits => !matches!(self.model.kind(code), Some(Kind::Put { .. })),
+            Place::At(doing) => self.does(code, doing),
+        }
+    }
+
+    fn does(&self, code: u8, doing: Doing) -> bool {
+        match (self.model.kind(code), doing) {
+            (Some(Kind::Put { slot }), Doing::Put(tray)) => self.slot(tray) == Some(*slot),
+            (Some(Kind::Take { slot, stays, .. }), Doing::Take(tray)) => {
+                !stays && self.slot(tray) == Some(*slot)
+            }
+            (Some(Kind::Take { slot, stays, .. }), Doing::Repeatedly(tray)) => {
+                *stays && self.slot(tray) == Some(*slot)
+            }
+            (Some(Kind::Block { .. } | Kind::Noted { .. }), Doing::Block) => true,
+            _ => false,
+        }
+    }
+}
+
+fn mistake(caller: &Caller, words: &str) -> Mistake {
+    Mistake {
+        message: words.to_owned(),
+        column: caller.column,
+        length: caller.length,
+    }
+}
+
+/// Attempts that are abandoned are no steps: nothing leads to them.
+fn no_abandoned(condition: &Written) -> Result<(), Mistake> {
+    match condition {
+        Written::Event(caller, event @ (Event::Fails | Event::GivesUp)) => Err(mistake(
+            caller,
+            &format!(
+                "'leads to' is about steps, and '{}' is none: an attempt that comes to nothing \
+                 changes nothing",
+                event.words()
+            ),
+        )),
+        Written::Not(inner) => no_abandoned(inner),
+        Written::All(parts) | Written::Any(parts) => parts.iter().try_for_each(no_abandoned),
+        Written::Event(..) | Written::Compare(..) | Written::AtLeast(..) => Ok(()),
+    }
+}
+
+impl Question {
+    /// Whether it is so in a situation. What can happen there next counts as
+    /// happening.
     #[must_use]
-    pub fn holds(&self, counts: &[u8], stations: usize) -> bool {
-        self.condition.holds(counts, stations)
+    pub fn holds(&self, glance: Glance<'_>) -> bool {
+        self.condition.holds(glance, Moment::Situation)
+    }
+
+    /// Whether what another condition leads to is so in a situation, where
+    /// nothing happens.
+    #[must_use]
+    pub fn goal_holds(&self, glance: Glance<'_>) -> bool {
+        let goal = self.goal.as_ref();
+        goal.is_some_and(|goal| goal.holds(glance, Moment::Still))
+    }
+
+    /// The same for a step of this code from the situation.
+    #[must_use]
+    pub fn goal_met_by(&self, glance: Glance<'_>, code: u8) -> bool {
+        let goal = self.goal.as_ref();
+        goal.is_some_and(|goal| goal.holds(glance, Moment::Step(code)))
+    }
+
+    /// Whether it asks for one of these events.
+    #[must_use]
+    pub fn asks_for(&self, wanted: impl Fn(Event) -> bool) -> bool {
+        self.condition.asks_for(&wanted)
     }
 }
 
 impl Condition {
-    fn holds(&self, counts: &[u8], stations: usize) -> bool {
+    fn holds(&self, glance: Glance<'_>, moment: Moment) -> bool {
         match self {
             Condition::Compare(left, comparison, right) => {
-                let left = total(left, counts, stations);
-                let right = total(right, counts, stations);
+                let left = total(left, glance);
+                let right = total(right, glance);
                 match comparison {
                     Comparison::Equal => left == right,
                     Comparison::Unequal => left != right,
@@ -121,230 +349,49 @@ impl Condition {
                     Comparison::AtLeast => left >= right,
                 }
             }
-            Condition::Not(inner) => !inner.holds(counts, stations),
-            Condition::All(parts) => parts.iter().all(|part| part.holds(counts, stations)),
-            Condition::Any(parts) => parts.iter().any(|part| part.holds(counts, stations)),
+            Condition::AtLeast(number, codes) => number_of(glance, *codes) >= *number,
+            Condition::Event(event, codes, doers) => match moment {
+                Moment::Situation => doers.can_happen(*event, *codes, glance),
+                Moment::Still => false,
+                Moment::Step(code) => codes.contains(code),
+            },
+            Condition::Not(inner) => !inner.holds(glance, moment),
+            Condition::All(parts) => parts.iter().all(|part| part.holds(glance, moment)),
+            Condition::Any(parts) => parts.iter().any(|part| part.holds(glance, moment)),
+        }
+    }
+
+    fn asks_for(&self, wanted: &impl Fn(Event) -> bool) -> bool {
+        match self {
+            Condition::Event(event, ..) => wanted(*event),
+            Condition::Not(inner) => inner.asks_for(wanted),
+            Condition::All(parts) | Condition::Any(parts) => {
+                parts.iter().any(|part| part.asks_for(wanted))
+            }
+            Condition::Compare(..) | Condition::AtLeast(..) => false,
         }
     }
 }
 
-fn total(sum: &Sum, counts: &[u8], stations: usize) -> i64 {
+fn total(sum: &Sum, glance: Glance<'_>) -> i64 {
     sum.iter()
         .map(|(sign, value)| {
             sign * match value {
                 Value::Number(number) => *number,
-                Value::Slot(slot) => counts.get(*slot).copied().map_or(0, i64::from),
-                Value::Stations => i64::try_from(stations).unwrap_or(i64::MAX),
+                Value::Slot(slot) => glance.counts.get(*slot).copied().map_or(0, i64::from),
+                Value::Stations => i64::try_from(glance.stations).unwrap_or(i64::MAX),
+                Value::Standing(codes) => number_of(glance, *codes),
             }
         })
         .sum()
 }
 
-/// A word or sign, with the column at which it begins.
-#[derive(Clone, Debug, PartialEq, Eq)]
-struct Word {
-    text: String,
-    column: usize,
-}
-
-impl Word {
-    fn length(&self) -> usize {
-        self.text.chars().count()
-    }
-}
-
-fn words(text: &str) -> Result<Vec<Word>, Mistake> {
-    let mut words: Vec<Word> = Vec::new();
-    let mut characters = (1..).zip(text.chars()).peekable();
-    while let Some((column, character)) = characters.next() {
-        let mut word = String::from(character);
-        if character.is_whitespace() {
-            continue;
+fn number_of(glance: Glance<'_>, codes: Codes) -> i64 {
+    let mut number = 0;
+    glance.each_code(|code, standing| {
+        if codes.contains(code) {
+            number += i64::from(standing);
         }
-        if in_word(character) {
-            // As in texts a name may have a minus in it.
-            let named = !character.is_ascii_digit();
-            let goes_on = |more: char| in_word(more) || (named && more == '-');
-            while let Some((_, more)) = characters.next_if(|(_, more)| goes_on(*more)) {
-                word.push(more);
-            }
-        } else if matches!(character, '<' | '>' | '!' | '=') {
-            if let Some((_, more)) = characters.next_if(|(_, more)| *more == '=') {
-                word.push(more);
-            }
-        } else if !matches!(character, '+' | '-' | '(' | ')') {
-            return Err(Mistake {
-                message: format!("'{}' has no meaning here", character.escape_debug()),
-                column,
-                length: 1,
-            });
-        }
-        words.push(Word { text: word, column });
-    }
-    Ok(words)
-}
-
-fn in_word(character: char) -> bool {
-    character.is_alphanumeric() || character == '_'
-}
-
-struct Reader<'a> {
-    words: &'a [Word],
-    at: usize,
-    /// The column behind the last character.
-    end: usize,
-    depth: usize,
-    program: &'a Program,
-    model: &'a Model,
-}
-
-impl Reader<'_> {
-    fn peek(&self) -> Option<&str> {
-        self.words.get(self.at).map(|word| word.text.as_str())
-    }
-
-    /// Passes over the word if it is this one.
-    fn met(&mut self, word: &str) -> bool {
-        let met = self.peek() == Some(word);
-        if met {
-            self.at += 1;
-        }
-        met
-    }
-
-    fn any(&mut self) -> Result<Condition, Mistake> {
-        let mut parts = vec![self.all()?];
-        while self.met("or") {
-            parts.push(self.all()?);
-        }
-        Ok(Condition::Any(parts))
-    }
-
-    fn all(&mut self) -> Result<Condition, Mistake> {
-        let mut parts = vec![self.one()?];
-        while self.met("and") {
-            parts.push(self.one()?);
-        }
-        Ok(Condition::All(parts))
-    }
-
-    fn one(&mut self) -> Result<Condition, Mistake> {
-        if self.depth == DEEPEST {
-            return Err(self.mistake(format!("brackets nest {DEEPEST} deep at most")));
-        }
-        self.depth += 1;
-        let one = self.one_inside();
-        self.depth -= 1;
-        one
-    }
-
-    fn one_inside(&mut self) -> Result<Condition, Mistake> {
-        if self.met("not") {
-            return Ok(Condition::Not(Box::new(self.one()?)));
-        }
-        if self.met("(") {
-            let inner = self.any()?;
-            if !self.met(")") {
-                return Err(self.unexpected("')'"));
-            }
-            return Ok(inner);
-        }
-        let left = self.sum()?;
-        let comparison = self.comparison()?;
-        Ok(Condition::Compare(left, comparison, self.sum()?))
-    }
-
-    fn comparison(&mut self) -> Result<Comparison, Mistake> {
-        let comparison = match self.peek() {
-            Some("=") => Comparison::Equal,
-            Some("!=") => Comparison::Unequal,
-            Some("<") => Comparison::Less,
-            Some("<=") => Comparison::AtMost,
-            Some(">") => Comparison::More,
-            Some(">=") => Comparison::AtLeast,
-            Some("==") => return Err(self.mistake("write '=' for '=='".to_owned())),
-            None => {
-                let words = "a comparison, one of = != < <= > >=, is wanted here, and there is \
-                    nothing more; put the question in quotes, since < and > are the shell's";
-                return Err(self.mistake(words.to_owned()));
-            }
-            _ => return Err(self.unexpected("a comparison, one of = != < <= > >=")),
-        };
-        self.at += 1;
-        Ok(comparison)
-    }
-
-    fn sum(&mut self) -> Result<Sum, Mistake> {
-        let mut sum = vec![(1, self.value()?)];
-        loop {
-            let sign = match self.peek() {
-                Some("+") => 1,
-                Some("-") => -1,
-                _ => return Ok(sum),
-            };
-            self.at += 1;
-            sum.push((sign, self.value()?));
-        }
-    }
-
-    fn value(&mut self) -> Result<Value, Mistake> {
-        let Some(word) = self.peek().map(str::to_owned) else {
-            return Err(self.unexpected("a tray or a number"));
-        };
-        let value = if word.starts_with(|first: char| first.is_ascii_digit()) {
-            self.number(&word)?
-        } else if word.starts_with(in_word) && !matches!(word.as_str(), "and" | "or" | "not") {
-            self.tray(&word)?
-        } else {
-            return Err(self.unexpected("a tray or a number"));
-        };
-        self.at += 1;
-        Ok(value)
-    }
-
-    fn number(&self, word: &str) -> Result<Value, Mistake> {
-        match word.parse() {
-            Ok(number @ 0..=999_999) => Ok(Value::Number(number)),
-            Ok(_) => Err(self.mistake("a number is at most 999999".to_owned())),
-            Err(_) => Err(self.mistake(format!("'{word}' is neither a number nor a tray"))),
-        }
-    }
-
-    /// A tray that no record names has nothing and gets nothing.
-    fn tray(&self, word: &str) -> Result<Value, Mistake> {
-        let trays = &self.program.trays;
-        if let Some(tray) = trays.iter().find(|tray| tray.name == word) {
-            let slot = self.model.trays().iter().position(|t| *t == tray.number);
-            return Ok(slot.map_or(Value::Number(0), Value::Slot));
-        }
-        if word == "stations" {
-            return Ok(Value::Stations);
-        }
-        let names: Vec<&str> = trays.iter().map(|tray| tray.name.as_str()).collect();
-        let hint = match nearest(word, names.iter().copied()) {
-            Some(near) => format!("did you mean '{near}'?"),
-            None => format!("there are {}", names.join(", ")),
-        };
-        Err(self.mistake(format!("no tray is called '{word}': {hint}")))
-    }
-
-    /// A mistake at the next word.
-    fn mistake(&self, message: String) -> Mistake {
-        let (column, length) = match self.words.get(self.at) {
-            Some(word) => (word.column, word.length()),
-            None => (self.end, 1),
-        };
-        Mistake {
-            message,
-            column,
-            length,
-        }
-    }
-
-    fn unexpected(&self, wanted: &str) -> Mistake {
-        let found = self
-            .peek()
-            .map_or("nothing more".to_owned(), |word| format!("'{word}'"));
-        self.mistake(format!("{wanted} is wanted here, and there is {found}"))
-    }
+    });
+    number
 }

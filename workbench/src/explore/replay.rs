@@ -9,9 +9,12 @@ use std::mem::size_of;
 
 use ruonfidd::{Choice, Moved};
 
-use crate::rehearsal::{Moment, Rehearsal};
+use crate::lesson::choice_words;
+use crate::refusals;
+use crate::rehearsal::{position_of, Moment, Rehearsal};
 use crate::rules::Rule;
 use crate::stations::{Attempt, Station};
+use crate::steps::{Entry, Steps};
 use crate::table::Table;
 use crate::text::tree::Program;
 
@@ -38,6 +41,20 @@ pub struct Line {
     pub rule: Rule,
 }
 
+impl Line {
+    /// The station that the choice calls, as its words name it.
+    #[must_use]
+    pub fn station(&self) -> &str {
+        let words = self.words.split_once(' ').map_or("", |(_, words)| words);
+        match self.choice {
+            Choice::Inside { node: 1.., .. } => {
+                words.rsplit_once(" node ").map_or(words, |(name, _)| name)
+            }
+            _ => words,
+        }
+    }
+}
+
 /// A way through a hall, made on the library.
 #[derive(Clone, Debug)]
 pub struct Witness {
@@ -45,6 +62,8 @@ pub struct Witness {
     pub lines: Vec<Line>,
     /// A last choice that is refused, and by which number.
     pub refused: Option<String>,
+    /// The same as a choice.
+    pub refused_choice: Option<Choice>,
     /// How many steps they make: a block acts in one.
     pub steps: usize,
     /// The hall at their end.
@@ -63,9 +82,40 @@ impl Witness {
     /// together.
     #[must_use]
     pub fn memory(&self) -> usize {
-        let of_line = |line: &Line| size_of::<Line>() + 4 * (line.words.len() + 8);
+        let of_line = |line: &Line| size_of::<Line>() + 6 * (line.words.len() + 20);
         let stations = self.last.stations.len() * 600;
         500 + stations + self.lines.iter().map(of_line).sum::<usize>()
+    }
+
+    /// For each of the words the station that is called, with its position.
+    pub fn called(&self) -> impl Iterator<Item = (String, usize)> + '_ {
+        let made = self.lines.iter().map(|line| {
+            let position = position_of(line.choice);
+            (line.station().to_owned(), position)
+        });
+        let refused = self.refused_choice.map(|choice| {
+            let position = position_of(choice);
+            (self.last.names.name(position), position)
+        });
+        made.chain(refused)
+    }
+
+    /// The choices told by steps, made once more on the library; none where it
+    /// does not make them again.
+    #[must_use]
+    pub fn told(&self, table: &Table, program: &Program) -> Option<Vec<Entry>> {
+        let mut rehearsal = Rehearsal::open(table, program).ok()?;
+        let mut steps = Steps::new(table, program);
+        for line in &self.lines {
+            steps.moved(&rehearsal.make(line.choice).ok()?);
+        }
+        if let Some(choice) = self.refused_choice {
+            let refusal = rehearsal.ask(choice).err()?;
+            let name = rehearsal.now().names.name(position_of(choice));
+            let reason = refusals::reason(&rehearsal, choice, refusal);
+            steps.refused(name, refusal.number, &reason);
+        }
+        Some(steps.entries().to_vec())
     }
 
     /// The choices as bytes.
@@ -106,6 +156,7 @@ pub struct Replay<'a> {
     rehearsal: Rehearsal<'a>,
     lines: Vec<Line>,
     refused: Option<String>,
+    refused_choice: Option<Choice>,
     steps: usize,
 }
 
@@ -145,6 +196,7 @@ impl<'a> Replay<'a> {
             rehearsal,
             lines: Vec::new(),
             refused: None,
+            refused_choice: None,
             steps: 0,
         };
         replay.compare(model.opening())?;
@@ -165,6 +217,37 @@ impl<'a> Replay<'a> {
         Ok(())
     }
 
+    /// Makes steps of these codes from a situation, each to the one beside it; gives
+    /// the last.
+    ///
+    /// # Errors
+    ///
+    /// Where the engine does not do what was foretold.
+    pub fn follow_codes(
+        &mut self,
+        store: &Situations,
+        from: Index,
+        steps: &[(u8, Index)],
+    ) -> Result<Index, Contradiction> {
+        let mut at = from;
+        for (code, to) in steps {
+            let (before, after) = (store.get(at), store.get(*to));
+            let mut found = None;
+            self.stepper.each(&before, |step, tried| {
+                if step.code == *code && tried == Tried::To(&after) {
+                    found = Some(step);
+                }
+            });
+            let step =
+                found.ok_or_else(|| contradiction(format!("code {code} makes no such step")))?;
+            self.make(step)?;
+            self.steps += 1;
+            self.compare(&after)?;
+            at = *to;
+        }
+        Ok(at)
+    }
+
     /// Has the engine say that a station cannot act, by this number.
     ///
     /// # Errors
@@ -180,8 +263,9 @@ impl<'a> Replay<'a> {
         let choice = Choice::Act { position };
         match self.rehearsal.ask(choice) {
             Err(refusal) if refusal.number == number => {
-                let words = words(&self.rehearsal.now().names, choice);
+                let words = choice_words(self.rehearsal.now(), choice);
                 self.refused = Some(format!("{words} => refused {number}"));
+                self.refused_choice = Some(choice);
                 Ok(())
             }
             other => Err(contradiction(format!(
@@ -196,6 +280,7 @@ impl<'a> Replay<'a> {
         Witness {
             lines: self.lines.clone(),
             refused: self.refused.clone(),
+            refused_choice: self.refused_choice,
             steps: self.steps,
             last: self.rehearsal.now().clone(),
         }
@@ -264,23 +349,10 @@ impl<'a> Replay<'a> {
     /// accepts none.
     fn attempt(&mut self, position: u8) -> Result<(), Contradiction> {
         self.act(position, Moved::ATST)?;
-        while let Some(node) = self.next_node(position) {
-            self.choose(Choice::Inside { position, node })?;
+        while let choice @ Choice::Inside { .. } = self.rehearsal.next_of(position) {
+            self.choose(choice)?;
         }
         Ok(())
-    }
-
-    fn next_node(&self, position: u8) -> Option<u8> {
-        let station = self.rehearsal.now().stations.get(usize::from(position));
-        let Some(Station::Attempt(attempt)) = station else {
-            return None;
-        };
-        (0_u8..).take(attempt.nodes.len()).find(|node| {
-            let node = *node;
-            self.rehearsal
-                .ask(Choice::Inside { position, node })
-                .is_ok()
-        })
     }
 
     fn act(&mut self, position: u8, rule: u8) -> Result<(), Contradiction> {
@@ -295,7 +367,7 @@ impl<'a> Replay<'a> {
     }
 
     fn choose(&mut self, choice: Choice) -> Result<Rule, Contradiction> {
-        let words = words(&self.rehearsal.now().names, choice);
+        let words = choice_words(self.rehearsal.now(), choice);
         let happened = self
             .rehearsal
             .make(choice)
@@ -323,18 +395,6 @@ impl<'a> Replay<'a> {
         Err(contradiction(format!(
             "the situation {foretold:?} was foretold, and the engine came to {situation:?}"
         )))
-    }
-}
-
-/// A choice in the words of a text.
-fn words(names: &crate::names::Names, choice: Choice) -> String {
-    match choice {
-        Choice::Act { position } => format!("act {}", names.name(position.into())),
-        Choice::Inside { position, node: 0 } => format!("step {}", names.name(position.into())),
-        Choice::Inside { position, node } => {
-            format!("step {} node {node}", names.name(position.into()))
-        }
-        _ => String::new(),
     }
 }
 

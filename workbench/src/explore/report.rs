@@ -2,23 +2,25 @@
 
 use std::fmt::Write as _;
 
-use crate::style::{wrapped, Style, WIDTH};
+use crate::steps::Entry;
+use crate::style::{wrapped, Style};
+use crate::table::Table;
 use crate::text::tree::Program;
 
-use super::facts::{Answer, End, Facts, ForEver, LastRound, Verdict};
+use super::facts::{Again, Answer, Asked, End, Facts, ForEver, LastRound, Verdict};
 use super::investigate::{Doubt, Exact, Explored};
 use super::replay::Witness;
 use super::search::Cut;
 use super::waiting;
-
-/// Longer ways are cut in print; a file has all of them.
-const MOST_CHOICES: usize = 100;
+use super::ways_told::Ways;
 
 /// What the words are about.
 #[derive(Clone, Copy, Debug)]
 pub struct Report<'a> {
     /// The file's name.
     pub name: &'a str,
+    /// Its table.
+    pub table: &'a Table,
     /// Its text.
     pub program: &'a Program,
     /// What was found.
@@ -29,6 +31,8 @@ pub struct Report<'a> {
     pub seconds: f64,
     /// Colour.
     pub style: Style,
+    /// Whether ways are told choice by choice, and not by steps.
+    pub moves: bool,
 }
 
 impl Report<'_> {
@@ -51,8 +55,28 @@ impl Report<'_> {
         text
     }
 
+    /// The answers alone, a line each.
+    #[must_use]
+    pub fn answers(&self) -> String {
+        let mut text = String::new();
+        for answer in &self.facts.answers {
+            let _ = writeln!(text, "{}: {}", answer.told(), verdict(answer, self.style));
+        }
+        text
+    }
+
     fn complete(&self) -> bool {
         self.explored.complete()
+    }
+
+    /// A way, below what it leads to.
+    fn way(&self, witness: &Witness) -> Vec<String> {
+        let ways = Ways {
+            program: self.program,
+            style: self.style,
+            moves: self.moves,
+        };
+        ways.lines(self.table, witness, 5)
     }
 
     fn head(&self) -> Vec<String> {
@@ -161,7 +185,7 @@ impl Report<'_> {
             ),
         );
         lines.extend(wrapped("     ", &round.who.told()));
-        lines.extend(choices(&round.witness, 5));
+        lines.extend(self.way(&round.witness));
         lines
     }
 
@@ -169,7 +193,7 @@ impl Report<'_> {
     fn extremes(&self, extremes: &[(u8, u8)]) -> String {
         let trays = self.explored.model.trays().iter().zip(extremes);
         let words: Vec<String> = trays
-            .filter(|(_, (_, most))| *most > 0)
+            .filter(|(tray, (_, most))| *most > 0 && !self.program.tray_may_stay(**tray))
             .map(|(tray, (least, most))| {
                 let name = self.program.tray_name(*tray);
                 if least == most {
@@ -179,10 +203,16 @@ impl Report<'_> {
                 }
             })
             .collect();
-        if words.is_empty() {
-            "all trays empty".to_owned()
-        } else {
-            words.join(", ")
+        self.words_or_empty(&words)
+    }
+
+    /// What is told of trays, of which those that may stay are left out.
+    fn words_or_empty(&self, words: &[String]) -> String {
+        let some_stay = self.program.trays.iter().any(|tray| tray.may_stay);
+        match (words.is_empty(), some_stay) {
+            (false, _) => words.join(", "),
+            (true, false) => "all trays empty".to_owned(),
+            (true, true) => "nothing but what may stay".to_owned(),
         }
     }
 
@@ -200,13 +230,16 @@ impl Report<'_> {
                 when(&end.witness)
             ),
         );
-        if end.left.is_empty() {
-            lines.push("     nobody is left".to_owned());
+        let left = waiting::told(&end.left);
+        if left.is_empty() {
+            let some = !end.left.is_empty();
+            let but = if some { waiting::BUT_STAYING } else { "" };
+            lines.push(format!("     nobody is left{but}"));
         }
-        for line in waiting::told(&end.left) {
+        for line in left {
             lines.extend(wrapped("     ", &line));
         }
-        lines.extend(choices(&end.witness, 5));
+        lines.extend(self.way(&end.witness));
         lines
     }
 
@@ -214,14 +247,10 @@ impl Report<'_> {
     fn counts(&self, counts: &[u8]) -> String {
         let trays = self.explored.model.trays().iter().zip(counts);
         let words: Vec<String> = trays
-            .filter(|(_, count)| **count > 0)
+            .filter(|(tray, count)| **count > 0 && !self.program.tray_may_stay(**tray))
             .map(|(tray, count)| format!("{} {count}", self.program.tray_name(*tray)))
             .collect();
-        if words.is_empty() {
-            "all trays empty".to_owned()
-        } else {
-            words.join(", ")
-        }
+        self.words_or_empty(&words)
     }
 
     fn summary(&self) -> Vec<String> {
@@ -284,17 +313,27 @@ impl Report<'_> {
             }
             _ => return vec!["runs that go on for ever: not known".to_owned()],
         };
-        let again = witness.lines.len() - before.min(witness.lines.len());
-        let again = u64::try_from(again).unwrap_or(0);
+        let again = self.again(witness, before);
         let mut lines = wrapped(
             "",
             &format!(
-                "runs that go on for ever: yes, {commits}; the last {} can be made again and again:",
-                counted(again, "choice")
+                "runs that go on for ever: yes, {commits}; the last {again} can be made again and again:"
             ),
         );
-        lines.extend(choices(witness, 5));
+        lines.extend(self.way(witness));
         lines
+    }
+
+    /// How much of a way comes behind so many choices of it.
+    fn again(&self, witness: &Witness, before: usize) -> String {
+        let number = |count: usize| u64::try_from(count).unwrap_or(u64::MAX);
+        let entries = witness.told(self.table, self.program);
+        let Some(entries) = entries.filter(|_| !self.moves) else {
+            let choices = witness.lines.len().saturating_sub(before);
+            return counted(number(choices), "choice");
+        };
+        let behind = |it: &&Entry| matches!(it, Entry::Step(step) if step.choice >= before);
+        counted(number(entries.iter().filter(behind).count()), "step")
     }
 
     fn limits(&self) -> Vec<String> {
@@ -310,7 +349,7 @@ impl Report<'_> {
                     self.style.bad(words),
                     when(witness)
                 ));
-                lines.extend(choices(witness, 5));
+                lines.extend(self.way(witness));
             }
         }
         if lines.is_empty() {
@@ -324,9 +363,10 @@ impl Report<'_> {
         lines
     }
 
+    /// The answer to a question, with the way that breaks it.
     fn answer(&self, answer: &Answer) -> Vec<String> {
         let (verdict, witness, left) = match &answer.verdict {
-            Verdict::Holds => (self.style.good("holds"), None, None),
+            Verdict::Holds => (holds(answer, self.style), None, None),
             Verdict::Open => (
                 "not known; nothing that was seen breaks it".to_owned(),
                 None,
@@ -340,14 +380,15 @@ impl Report<'_> {
                     .collect();
                 let words = format!(
                     "{} {}: {}",
-                    self.style.bad("broken"),
-                    when(witness),
+                    broken(answer, self.style),
+                    first_when(answer, witness),
                     self.counts(&counts)
                 );
                 (words, Some(witness), Some(left))
             }
         };
         let mut lines = wrapped("", &format!("{}: {verdict}", answer.told()));
+        lines.extend(broken_so(answer));
         if let Some(who) = &answer.round {
             let words = format!("in a round that is never left: {}", who.told());
             lines.extend(wrapped("     ", &words));
@@ -356,10 +397,70 @@ impl Report<'_> {
             lines.extend(wrapped("     ", &line));
         }
         if let Some(witness) = witness {
-            lines.extend(choices(witness, 5));
+            lines.extend(self.way(witness));
         }
         lines
     }
+}
+
+/// A verdict without the way that breaks it.
+#[must_use]
+pub fn verdict(answer: &Answer, style: Style) -> String {
+    match &answer.verdict {
+        Verdict::Holds => holds(answer, style),
+        Verdict::Open => "not known".to_owned(),
+        Verdict::Broken(witness, _) => {
+            format!("{} {}", broken(answer, style), first_when(answer, witness))
+        }
+    }
+}
+
+fn holds(answer: &Answer, style: Style) -> String {
+    if answer.breaks {
+        format!("{}, and not broken as the text says", style.bad("holds"))
+    } else {
+        style.good("holds")
+    }
+}
+
+fn broken(answer: &Answer, style: Style) -> String {
+    if answer.breaks {
+        format!("{}, as the text says,", style.good("broken"))
+    } else {
+        style.bad("broken")
+    }
+}
+
+/// How a question is broken, where its way alone does not say it, and what it
+/// took to know.
+fn broken_so(answer: &Answer) -> Vec<String> {
+    let mut lines = Vec::new();
+    if let Verdict::Broken(witness, _) = &answer.verdict {
+        if answer.asked == Asked::Possible {
+            lines.extend(wrapped("     ", "from there it can't be reached any more"));
+        } else if answer.of_events {
+            lines.extend(wrapped(
+                "     ",
+                "what is asked about can happen there next",
+            ));
+        }
+        if let Some(Again { before, .. }) = answer.again {
+            let again = witness.lines.len().saturating_sub(before);
+            let again = counted(u64::try_from(again).unwrap_or(0), "choice");
+            let words = format!("the last {again} can be made again and again");
+            lines.extend(wrapped("     ", &words));
+        }
+    }
+    if let Some((situations, steps, _)) = answer.cost {
+        let number = |count: usize| u64::try_from(count).unwrap_or(u64::MAX);
+        let words = format!(
+            "cost: {} and {} gone through once more",
+            counted(number(situations), "situation"),
+            counted(number(steps), "step")
+        );
+        lines.extend(wrapped("     ", &words));
+    }
+    lines
 }
 
 /// How many sorts are not told, and why.
@@ -401,43 +502,25 @@ pub fn exact_words(exact: Exact) -> String {
     }
 }
 
-/// The option that cut something short.
+/// The option that cut something short, or what else did.
 #[must_use]
 pub fn cut_words(cut: Cut) -> &'static str {
     match cut {
         Cut::Time => "--seconds",
         Cut::Memory => "--memory",
         Cut::Fault => "--first",
+        Cut::Signal => "a signal",
     }
 }
 
-/// A way as `choices` text, cut where it is long.
-fn choices(witness: &Witness, indent: usize) -> Vec<String> {
-    let words: Vec<&str> = witness.words().collect();
-    if words.is_empty() {
-        return Vec::new();
-    }
-    let margin = " ".repeat(indent);
-    let mut lines = vec![format!("{margin}choices")];
-    let shown = words.get(..MOST_CHOICES).unwrap_or(&words);
-    lines.extend(choice_lines(shown, indent + 2));
-    if words.len() > shown.len() {
-        lines.push(format!(
-            "{margin}  # and {} more: --save keeps all of them",
-            words.len() - shown.len()
-        ));
-    }
-    lines
-}
-
-/// Choices side by side, as many as a line has room for.
+/// Choices side by side, as many as a line of this width has room for.
 #[must_use]
-pub fn choice_lines(words: &[&str], indent: usize) -> Vec<String> {
+pub fn choice_lines(words: &[&str], indent: usize, width: usize) -> Vec<String> {
     let margin = " ".repeat(indent);
     let mut lines: Vec<String> = Vec::new();
     for word in words {
         match lines.last_mut() {
-            Some(line) if line.len() + 2 + word.len() <= WIDTH => {
+            Some(line) if line.len() + 2 + word.len() <= width => {
                 let _ = write!(line, "  {word}");
             }
             _ => lines.push(format!("{margin}{word}")),
@@ -446,10 +529,20 @@ pub fn choice_lines(words: &[&str], indent: usize) -> Vec<String> {
     lines
 }
 
+/// After how many steps a question is broken; a round behind them is not counted.
+fn first_when(answer: &Answer, witness: &Witness) -> String {
+    let round = answer.again.map_or(0, |again| again.steps);
+    after(witness.steps.saturating_sub(round))
+}
+
 /// After how many steps.
 #[must_use]
 pub fn when(witness: &Witness) -> String {
-    match u64::try_from(witness.steps).unwrap_or(u64::MAX) {
+    after(witness.steps)
+}
+
+fn after(steps: usize) -> String {
+    match u64::try_from(steps).unwrap_or(u64::MAX) {
         0 => "at the opening".to_owned(),
         steps => format!("after {}", counted(steps, "step")),
     }

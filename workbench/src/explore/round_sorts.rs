@@ -3,9 +3,8 @@
 use std::collections::{HashMap, HashSet};
 
 use super::model::Model;
-use super::question::Question;
 use super::rounds::{last_rounds, Codes, Members, Round};
-use super::search::{Cut, Found, Limits};
+use super::search::{Cut, Found, Limits, Questions};
 use super::situations::Glance;
 use super::store::Index;
 
@@ -14,12 +13,15 @@ use super::store::Index;
 pub struct Rounds {
     /// How many there are.
     pub number: usize,
-    /// Those in which each tray has the same least and most taken together, the
-    /// nearest first.
+    /// Those in which each tray has the same least and most taken together, trays
+    /// that may stay left out; the nearest first.
     pub sorts: Vec<RoundSort>,
     /// For each question about ends the first situation of a round at which it
     /// is not so, and who acts in that round.
     pub broken: Vec<Option<(Index, Codes)>>,
+    /// For each question of what is always possible, whether it is not so in all of
+    /// some round.
+    pub impossible: Vec<bool>,
 }
 
 /// Rounds in which each tray has the same least and most.
@@ -45,27 +47,33 @@ pub struct RoundSort {
 pub fn rounds(
     model: &Model,
     found: &mut Found,
-    questions: &[Question],
+    questions: &Questions,
     limits: Limits,
 ) -> Result<Rounds, Cut> {
     let mut rounds = Collected {
         questions,
         rounds: Rounds {
-            broken: vec![None; questions.len()],
+            broken: vec![None; questions.ends.len()],
+            impossible: vec![false; questions.possible.len()],
             ..Rounds::default()
         },
         of_extremes: HashMap::new(),
     };
-    last_rounds(model, found, limits, |found, round| {
+    let all = last_rounds(model, found, limits, |found, round| {
         rounds.take_in(model, found, round);
-    })?;
+    });
     let mut rounds = rounds.rounds;
+    if let Err(cut) = all {
+        // Whatever is in the rounds behind, what these break is broken.
+        found.broken_rounds = rounds.broken;
+        return Err(cut);
+    }
     rounds.sorts.sort_by_key(|sort| sort.first);
     Ok(rounds)
 }
 
 struct Collected<'a> {
-    questions: &'a [Question],
+    questions: &'a Questions,
     rounds: Rounds,
     of_extremes: HashMap<Vec<(u8, u8)>, usize>,
 }
@@ -94,6 +102,9 @@ impl Collected<'_> {
                 *broken = Some((at, round.acting));
             }
         }
+        for (broken, met) in self.rounds.impossible.iter_mut().zip(seen.met) {
+            *broken |= !met;
+        }
         let sort = RoundSort {
             extremes: seen.extremes,
             rounds: 1,
@@ -110,7 +121,8 @@ impl Collected<'_> {
             first: Index::MAX,
             noted: false,
             extremes: Vec::new(),
-            broken: vec![None; self.questions.len()],
+            broken: vec![None; self.questions.ends.len()],
+            met: vec![false; self.questions.possible.len()],
         };
         for index in members {
             found.store.glance(index, |glance| {
@@ -121,10 +133,15 @@ impl Collected<'_> {
     }
 
     fn sort(&mut self, sort: RoundSort) {
-        let known = self.of_extremes.get(&sort.extremes).copied();
+        let mut left_over = sort.extremes.clone();
+        for slot in &self.questions.may_stay {
+            if let Some(extremes) = left_over.get_mut(*slot) {
+                *extremes = (0, 0);
+            }
+        }
+        let known = self.of_extremes.get(&left_over).copied();
         let Some(nearest) = known.and_then(|at| self.rounds.sorts.get_mut(at)) else {
-            self.of_extremes
-                .insert(sort.extremes.clone(), self.rounds.sorts.len());
+            self.of_extremes.insert(left_over, self.rounds.sorts.len());
             self.rounds.sorts.push(sort);
             return;
         };
@@ -148,14 +165,14 @@ struct Seen {
     noted: bool,
     extremes: Vec<(u8, u8)>,
     broken: Vec<Option<Index>>,
+    /// Which questions of what is possible are so somewhere.
+    met: Vec<bool>,
 }
 
 impl Seen {
     /// Situations come in their order, so the first one is the nearest.
-    fn take_in(&mut self, index: Index, glance: Glance<'_>, questions: &[Question]) {
-        let Glance {
-            counts, stations, ..
-        } = glance;
+    fn take_in(&mut self, index: Index, glance: Glance<'_>, questions: &Questions) {
+        let Glance { counts, .. } = glance;
         self.first = self.first.min(index);
         self.noted |= glance.noted;
         if self.extremes.is_empty() {
@@ -165,10 +182,13 @@ impl Seen {
             *least = (*least).min(*count);
             *most = (*most).max(*count);
         }
-        for (broken, question) in self.broken.iter_mut().zip(questions) {
-            if broken.is_none() && !question.holds(counts, stations) {
+        for (broken, question) in self.broken.iter_mut().zip(&questions.ends) {
+            if broken.is_none() && !question.holds(glance) {
                 *broken = Some(index);
             }
+        }
+        for (met, question) in self.met.iter_mut().zip(&questions.possible) {
+            *met = *met || question.holds(glance);
         }
     }
 }

@@ -47,6 +47,20 @@ impl Codes {
             *word |= more;
         }
     }
+
+    /// Those that are not among the others.
+    #[must_use]
+    pub(super) fn without(mut self, other: Codes) -> Codes {
+        for (word, less) in self.0.iter_mut().zip(other.0) {
+            *word &= !less;
+        }
+        self
+    }
+
+    /// Whether one of them is among the others.
+    pub(super) fn meets(self, other: Codes) -> bool {
+        self.without(other) != self
+    }
 }
 
 /// The situations of a round.
@@ -82,7 +96,9 @@ pub fn last_rounds(
     let Some(least) = found.store.take_least().filter(|_| found.marks.repeats) else {
         return Ok(());
     };
-    let ends = found.ends.iter().chain(&found.stuck).copied();
+    // A stuck attempt leads to nothing but stuck ones: what is followed from there
+    // ends by itself.
+    let ends = found.ends.iter().copied();
     let graph = Onward {
         model,
         store: &found.store,
@@ -146,6 +162,6 @@ impl Graph for Onward<'_> {
             };
             store.go_on(stepper, index, batch, show, |_| {});
         }
-        store.find_batch(batch, |index| reached.push(index));
+        store.find_batch(batch, |index, _| reached.push(index));
     }
 }

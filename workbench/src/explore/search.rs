@@ -3,12 +3,16 @@
 use std::collections::HashSet;
 use std::time::Instant;
 
+use crate::text::asking::Asked;
+
 use super::endless::{feeds_nothing_round, Allowed};
 use super::model::{Kind, Model};
 use super::question::Question;
-use super::situations::{Glance, Situations};
+use super::rounds::Codes;
+use super::situations::Situations;
 use super::steps::{Deed, Limit, Step, Stepper};
 use super::store::{Batch, Index};
+use crate::system;
 
 /// How far an exploration may go.
 #[derive(Clone, Copy, Debug)]
@@ -29,9 +33,13 @@ impl Limits {
         }
     }
 
-    /// Which limit is met with so many bytes in use.
+    /// Which limit is met with so many bytes in use. A signal is one at any
+    /// time.
     #[must_use]
     pub fn met(&self, memory: usize) -> Option<Cut> {
+        if system::interrupted() {
+            return Some(Cut::Signal);
+        }
         if memory > self.memory {
             return Some(Cut::Memory);
         }
@@ -49,6 +57,8 @@ pub enum Cut {
     Memory,
     /// A fault was found, and no more than the first was wanted.
     Fault,
+    /// A signal asked for an end.
+    Signal,
 }
 
 /// What is asked beside all that is reported anyway.
@@ -58,6 +68,12 @@ pub struct Questions {
     pub never: Vec<Question>,
     /// What must be so at every end.
     pub ends: Vec<Question>,
+    /// What must be possible from every situation.
+    pub possible: Vec<Question>,
+    /// What must lead to something.
+    pub leads: Vec<Question>,
+    /// The slots of trays that may have something at an end.
+    pub may_stay: Vec<usize>,
     /// Whether to stop where the first of them is broken.
     pub only_first: bool,
 }
@@ -66,7 +82,36 @@ impl Questions {
     /// Whether nothing is asked.
     #[must_use]
     pub fn is_empty(&self) -> bool {
-        self.never.is_empty() && self.ends.is_empty()
+        self.all().next().is_none()
+    }
+
+    /// All questions, those of a sort together.
+    pub fn all(&self) -> impl Iterator<Item = &Question> {
+        let known_on_the_way = self.never.iter().chain(&self.ends);
+        known_on_the_way.chain(&self.possible).chain(&self.leads)
+    }
+
+    /// One more; it is answered behind those before it.
+    pub fn add(&mut self, mut question: Question) {
+        question.place = self.all().count();
+        match question.asked {
+            Asked::Never => self.never.push(question),
+            Asked::Ends => self.ends.push(question),
+            Asked::Possible => self.possible.push(question),
+            Asked::Leads => self.leads.push(question),
+        }
+    }
+
+    /// What the trays have, but for those that may stay.
+    #[must_use]
+    pub fn left_over(&self, counts: &[u8]) -> Vec<u8> {
+        let mut counts = counts.to_vec();
+        for slot in &self.may_stay {
+            if let Some(count) = counts.get_mut(*slot) {
+                *count = 0;
+            }
+        }
+        counts
     }
 }
 
@@ -161,6 +206,11 @@ pub struct Found {
     pub never: Vec<Option<Index>>,
     /// For each question of `ends`, the first end at which it is not so.
     pub broken_ends: Vec<Option<Index>>,
+    /// For each question of `possible`, whether it is not so at some end.
+    pub impossible: Vec<bool>,
+    /// The same of rounds that are never left, with who acts there, where looking
+    /// for rounds was cut short: those that were found by then.
+    pub broken_rounds: Vec<Option<(Index, Codes)>>,
     /// Why not all was seen.
     pub cut: Option<Cut>,
 }
@@ -223,6 +273,9 @@ impl Search<'_> {
             if batches % BETWEEN_LOOKS == 0 {
                 self.found.cut = limits.met(self.found.memory());
                 progress(self.so_far(), done);
+                if self.found.cut.is_some() {
+                    return;
+                }
             }
             batches = batches.wrapping_add(1);
             batch.clear();
@@ -269,6 +322,7 @@ impl Search<'_> {
             ends,
             stuck,
             broken_ends,
+            impossible,
             ..
         } = found;
         let ended = std::cell::Cell::new(true);
@@ -288,13 +342,13 @@ impl Search<'_> {
                 return;
             }
             ends.push(index);
-            let Glance {
-                counts, stations, ..
-            } = situation;
             for (first, question) in broken_ends.iter_mut().zip(&questions.ends) {
-                if first.is_none() && !question.holds(counts, stations) {
+                if first.is_none() && !question.holds(situation) {
                     *first = Some(index);
                 }
+            }
+            for (broken, question) in impossible.iter_mut().zip(&questions.possible) {
+                *broken |= !question.holds(situation);
             }
         });
     }
@@ -316,15 +370,12 @@ impl Search<'_> {
                 return;
             }
             *situations += 1;
-            let Glance {
-                counts, stations, ..
-            } = situation;
-            for ((least, most), count) in extremes.iter_mut().zip(counts) {
+            for ((least, most), count) in extremes.iter_mut().zip(situation.counts) {
                 *least = (*least).min(*count);
                 *most = (*most).max(*count);
             }
             for (first, question) in never.iter_mut().zip(&questions.never) {
-                if first.is_none() && question.holds(counts, stations) {
+                if first.is_none() && question.holds(situation) {
                     *first = Some(index);
                 }
             }
@@ -347,6 +398,8 @@ impl Found {
             marks: Marks::of(model.kinds().len()),
             never: vec![None; questions.never.len()],
             broken_ends: vec![None; questions.ends.len()],
+            impossible: vec![false; questions.possible.len()],
+            broken_rounds: Vec::new(),
             cut: None,
         }
     }
@@ -355,7 +408,7 @@ impl Found {
     /// puts have no room among 64 stations, though a new attempt would go
     /// another way. Read without notes such a situation is no end by itself, and
     /// it is one end whatever the notes are.
-    pub fn take_in_stuck(&mut self, model: &Model, questions: &[Question]) {
+    pub fn take_in_stuck(&mut self, model: &Model, questions: &Questions) {
         let mut plain: HashSet<Index> = self.ends.iter().copied().collect();
         let mut taken = Vec::new();
         for index in &self.stuck {
@@ -370,11 +423,14 @@ impl Found {
         }
         for index in &taken {
             self.store.glance(*index, |glance| {
-                for (first, question) in self.broken_ends.iter_mut().zip(questions) {
+                for (first, question) in self.broken_ends.iter_mut().zip(&questions.ends) {
                     let before = first.is_some_and(|first| first < *index);
-                    if !before && !question.holds(glance.counts, glance.stations) {
+                    if !before && !question.holds(glance) {
                         *first = Some(*index);
                     }
+                }
+                for (broken, question) in self.impossible.iter_mut().zip(&questions.possible) {
+                    *broken |= !question.holds(glance);
                 }
             });
         }

@@ -37,6 +37,16 @@ pub struct Glance<'a> {
     pub stations: usize,
     /// Whether one of them has a note.
     pub noted: bool,
+    standing: Standing<'a>,
+}
+
+/// Who stands there.
+#[derive(Clone, Copy, Debug, PartialEq, Eq)]
+enum Standing<'a> {
+    /// How many of each code.
+    Numbers(&'a [u8]),
+    /// Their codes, sorted.
+    Codes(&'a [u8]),
 }
 
 impl<'a> Glance<'a> {
@@ -47,6 +57,41 @@ impl<'a> Glance<'a> {
             counts,
             stations: standing.iter().map(|number| usize::from(*number)).sum(),
             noted: noted.any(|number| *number > 0),
+            standing: Standing::Numbers(standing),
+        }
+    }
+
+    /// At what the trays have and the codes of the stations, sorted; all codes
+    /// from the second number on are those of notes.
+    #[must_use]
+    pub fn of_codes(counts: &'a [u8], codes: &'a [u8], first_noted: usize) -> Glance<'a> {
+        let last = codes.last().copied().map(usize::from);
+        Glance {
+            counts,
+            stations: codes.len(),
+            noted: last.is_some_and(|code| code >= first_noted),
+            standing: Standing::Codes(codes),
+        }
+    }
+
+    /// Shows each code that stands there, and how many of it.
+    pub fn each_code(&self, mut show: impl FnMut(u8, u8)) {
+        match self.standing {
+            Standing::Numbers(numbers) => {
+                for (code, number) in (0..=u8::MAX).zip(numbers) {
+                    if *number > 0 {
+                        show(code, *number);
+                    }
+                }
+            }
+            Standing::Codes(codes) => {
+                let mut rest = codes;
+                while let Some(code) = rest.first() {
+                    let (equal, others) = rest.split_at(rest.partition_point(|it| it <= code));
+                    show(*code, u8::try_from(equal.len()).unwrap_or(u8::MAX));
+                    rest = others;
+                }
+            }
         }
     }
 }
@@ -103,8 +148,9 @@ impl Situations {
         self.store.take_least()
     }
 
-    /// Shows for each situation of a batch its number, where it is kept.
-    pub fn find_batch(&self, batch: &mut Batch, show: impl FnMut(Index)) {
+    /// Shows for each situation of a batch its number, where it is kept, and from
+    /// which one it was reached.
+    pub fn find_batch(&self, batch: &mut Batch, show: impl FnMut(Index, Index)) {
         self.store.find_batch(batch, show);
     }
 
@@ -112,6 +158,12 @@ impl Situations {
     pub fn glance(&self, index: Index, show: impl FnOnce(Glance<'_>)) {
         let packed = self.store.get(index);
         self.packing.glance(packed, self.first_noted, show);
+    }
+
+    /// From which situation this one was first reached; the first one from itself.
+    #[must_use]
+    pub fn parent(&self, index: Index) -> Index {
+        self.store.parent(index)
     }
 
     /// All numbers, in order.
@@ -291,13 +343,8 @@ impl Packing {
     fn glance(self, packed: &[u8], first_noted: usize, show: impl FnOnce(Glance<'_>)) {
         let Packing::Numbers { trays, codes } = self else {
             let trays = self.trays(packed.len());
-            let (counts, stations) = packed.split_at(trays);
-            let last = stations.last().copied().map(usize::from);
-            return show(Glance {
-                counts,
-                stations: stations.len(),
-                noted: last.is_some_and(|code| code >= first_noted),
-            });
+            let (counts, codes) = packed.split_at(trays);
+            return show(Glance::of_codes(counts, codes, first_noted));
         };
         let mut numbers = [0; MOST_NUMBERS];
         let numbers = read_numbers(packed, &mut numbers, trays + codes);

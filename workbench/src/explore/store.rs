@@ -270,12 +270,13 @@ impl Store {
         Ok(())
     }
 
-    /// Shows for each record of a batch its number, where it is kept.
-    pub fn find_batch(&self, batch: &mut Batch, mut show: impl FnMut(Index)) {
+    /// Shows for each record of a batch its number, where it is kept, and from
+    /// which one it was reached.
+    pub fn find_batch(&self, batch: &mut Batch, mut show: impl FnMut(Index, Index)) {
         self.touch(batch);
         for (item, record) in batch.records() {
             if let Ok(index) = self.look_up(record, item.hash, item.from) {
-                show(index);
+                show(index, item.parent);
             }
         }
     }

@@ -6,6 +6,9 @@ use crate::table::{Table, Term};
 use crate::text::tree::Program;
 use crate::ways::{count_of, shortage_words, shortages, ways_of_block};
 
+/// Behind the words that nobody is there, where somebody is.
+pub const BUT_STAYING: &str = " but who may stay";
+
 /// So many names of stations that are left alike are told.
 const FEW: usize = 6;
 
@@ -18,6 +21,8 @@ pub struct Left {
     pub state: State,
     /// The same in words, behind the name.
     pub words: String,
+    /// Whether its rule says that it may be left.
+    pub may_stay: bool,
 }
 
 /// Why a station does nothing more.
@@ -58,16 +63,25 @@ pub fn left(table: &Table, program: &Program, now: &Moment) -> Vec<Left> {
                 name: now.names.name_and_origin(position),
                 state,
                 words,
+                may_stay: may_stay(program, now, position),
             }
         })
         .collect()
 }
 
-/// The same, a line for all that are left alike.
+/// Whether a station is called after a rule that may stay, or comes from one.
+fn may_stay(program: &Program, now: &Moment, position: usize) -> bool {
+    let rules = program.definitions.iter().filter(|it| it.may_stay);
+    let called = now.names.rule_behind(position);
+    let mut names = rules.map(|rule| rule.name.as_str());
+    names.any(|name| called == Some(name))
+}
+
+/// The same, a line for all that are left alike; those that may stay are not told.
 #[must_use]
 pub fn told(left: &[Left]) -> Vec<String> {
     let mut lines: Vec<(&str, Vec<&str>)> = Vec::new();
-    for one in left {
+    for one in left.iter().filter(|one| !one.may_stay) {
         match lines.iter_mut().find(|(words, _)| *words == one.words) {
             Some((_, names)) => names.push(&one.name),
             None => lines.push((&one.words, vec![&one.name])),
@@ -87,25 +101,31 @@ pub fn told(left: &[Left]) -> Vec<String> {
 pub struct InRound {
     /// Those that act in it again and again, those whom they open left out.
     pub go_on: Vec<String>,
-    /// Those that never act again.
+    /// Those that never act again, those that may stay left out.
     pub never_again: Vec<String>,
+    /// Whether some that may stay never act again.
+    pub some_stay: bool,
 }
 
 impl InRound {
     /// The stations of a hall in the round, told apart by whether they act there.
     #[must_use]
-    pub fn of(now: &Moment, acts: impl Fn(&Station) -> bool) -> InRound {
+    pub fn of(program: &Program, now: &Moment, acts: impl Fn(&Station) -> bool) -> InRound {
         let mut who = InRound {
             go_on: Vec::new(),
             never_again: Vec::new(),
+            some_stay: false,
         };
         for (position, station) in (0..).zip(&now.stations) {
             if !acts(station) {
-                who.never_again.push(now.names.name_and_origin(position));
+                if may_stay(program, now, position) {
+                    who.some_stay = true;
+                } else {
+                    who.never_again.push(now.names.name_and_origin(position));
+                }
                 continue;
             }
-            let origin = now.names.origin(position).map(str::to_owned);
-            let name = origin.unwrap_or_else(|| now.names.name(position));
+            let name = now.names.person(position);
             if !who.go_on.contains(&name) {
                 who.go_on.push(name);
             }
@@ -119,7 +139,8 @@ impl InRound {
         let go_on = folded(&self.go_on);
         let verb = if self.go_on.len() == 1 { "goes" } else { "go" };
         if self.never_again.is_empty() {
-            return format!("{go_on} {verb} on, and nobody else is there");
+            let but = if self.some_stay { BUT_STAYING } else { "" };
+            return format!("{go_on} {verb} on, and nobody else is there{but}");
         }
         format!(
             "{go_on} {verb} on; {} can never act again",

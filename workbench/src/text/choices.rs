@@ -9,13 +9,25 @@ use super::source::Span;
 pub enum Called {
     /// `act 3`: by its position in the hall.
     Position(usize),
-    /// `act clerk`, `act clerk 2`, `act put batch`: by its name.
+    /// `act clerk`, `act clerk 2`, `act put batch`, `act clerk's put batch`: by
+    /// its name.
     Name {
+        /// Who laid it down, where that is said.
+        of: Option<Owner>,
         /// A rule's name, or what the station does.
         label: String,
         /// Which one of that name.
         number: Option<usize>,
     },
+}
+
+/// Who laid a station down: the name before `'s`.
+#[derive(Clone, Debug, PartialEq, Eq)]
+pub struct Owner {
+    /// A rule's name.
+    pub label: String,
+    /// Which one of that name.
+    pub number: Option<usize>,
 }
 
 /// What a line asks for.
@@ -25,6 +37,8 @@ pub enum Ask {
     Act(Called),
     /// `step .. node ..`: a choice of kind 2.
     Step(Called, u8),
+    /// `do`: a put, a take or a whole attempt, to its end.
+    Do(Called),
     /// `board`: the hall as it stands.
     Board,
     /// `why`: what a station's attempt will come to.
@@ -66,6 +80,6 @@ impl Line {
     /// Whether it asks for a choice.
     #[must_use]
     pub fn is_choice(&self) -> bool {
-        matches!(self.ask, Ask::Act(_) | Ask::Step(..))
+        matches!(self.ask, Ask::Act(_) | Ask::Step(..) | Ask::Do(_))
     }
 }

@@ -5,7 +5,7 @@ use super::lexer::Kind;
 use super::problems::Problem;
 use super::reader::{Read, Reader};
 use super::source::Span;
-use super::tree::Tray;
+use super::tree::{Ask, Tray};
 
 /// The bytes of an exact text.
 #[derive(Clone, Debug, Default, PartialEq, Eq)]
@@ -18,6 +18,8 @@ pub struct Records {
     pub trays: Vec<Tray>,
     /// What stands behind `choices`, if anything does.
     pub choices: Option<Vec<super::choices::Line>>,
+    /// Its questions.
+    pub questions: Vec<Ask>,
 }
 
 /// Reads what follows the word `exact`.
@@ -45,6 +47,7 @@ pub fn read(reader: &mut Reader<'_>) -> Records {
         reader.report(problem);
     }
     records.trays.clone_from(&reader.program.trays);
+    records.questions.clone_from(&reader.program.questions);
     records
 }
 
@@ -88,12 +91,15 @@ impl Reader<'_> {
         Ok(())
     }
 
-    /// Behind the start record only choices may stand.
+    /// Behind the start record only questions and choices may stand.
     fn behind_start(&mut self, records: &mut Records, start: Span) -> Read<()> {
         if self.is("choices") && records.choices.is_none() {
             self.advance();
             records.choices = Some(self.lesson());
             return Ok(());
+        }
+        if self.accept("ask") {
+            return self.ask_item();
         }
         let line = self.line_of(start);
         let span = self.peek().span;
@@ -119,6 +125,7 @@ impl Reader<'_> {
             name,
             count: 0,
             span,
+            may_stay: false,
         });
         Ok(())
     }

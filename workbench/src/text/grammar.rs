@@ -3,7 +3,7 @@
 use super::exact;
 use super::lexer::{Kind, Token};
 use super::problems::{Level, Problem, MOST_PROBLEMS};
-use super::reader::{Read, Reader};
+use super::reader::{Read, Reader, Stop};
 use super::source::{Source, Span};
 use super::tree::{Class, Definition, PartId, PartKind, Program, Tray};
 use super::words;
@@ -17,6 +17,8 @@ pub enum Said {
     /// One record a line, in place: the records, and where each stands.
     Exact(exact::Records),
 }
+
+const MADE_OF: &str = "a text is made of tray, rule, plan, start, ask and choices";
 
 /// Reads a text.
 ///
@@ -50,7 +52,7 @@ pub fn read_choices(
     let lines = reader.lesson();
     if reader.peek().kind != Kind::End {
         let problem = Problem::error(reader.peek().span, "here only choices may stand")
-            .label("'act', 'step', 'board' or 'why'");
+            .label("'do', 'act', 'step', 'board' or 'why'");
         reader.report(problem);
     }
     reader.done().map(|_| lines)
@@ -124,6 +126,7 @@ impl Reader<'_> {
             "tray" => self.tray_item()?,
             "rule" => self.definition_item(Class::Rule)?,
             "plan" => self.definition_item(Class::Plan)?,
+            "ask" => return self.ask_item(),
             "choices" => return self.early_choices(token.span),
             _ => self.program.start = self.process()?,
         }
@@ -153,6 +156,7 @@ impl Reader<'_> {
                 }
                 Problem::error(token.span, "a second 'choices'").label("go on behind the first")
             }
+            "ask" => return self.ask_item(),
             "start" => {
                 let line = self.line_of(start);
                 Problem::error(token.span, "a second 'start'")
@@ -162,7 +166,7 @@ impl Reader<'_> {
             }
             _ => Problem::error(token.span, format!("'{word}' comes after 'start'"))
                 .label("'start' closes the rules: write it last")
-                .help("after 'start' only 'choices' may follow")
+                .help("after 'start' only 'ask' and 'choices' may follow")
                 .would_be(9),
         };
         self.fail(problem)
@@ -176,12 +180,11 @@ impl Reader<'_> {
                 let problem = Problem::error(token.span, format!("'{text}' begins nothing here"));
                 match words::item_meant(text) {
                     Some(word) => problem.label(format!("write '{word}'")),
-                    None => problem.label("a text is made of tray, rule, plan, start and choices"),
+                    None => problem.label(MADE_OF),
                 }
             }
             Kind::Sign | Kind::HalfNumber | Kind::ForeignWord => self.bad_piece(),
-            _ => Problem::error(token.span, format!("'{text}' begins nothing here"))
-                .label("a text is made of tray, rule, plan, start and choices"),
+            _ => Problem::error(token.span, format!("'{text}' begins nothing here")).label(MADE_OF),
         }
     }
 
@@ -212,7 +215,7 @@ impl Reader<'_> {
             }
             _ => Problem::error(token.span, format!("'{text}' does not follow here"))
                 .label("between two stations stands 'beside'")
-                .help("a new item begins with tray, rule, plan, start or choices"),
+                .help("a new item begins with tray, rule, plan, start, ask or choices"),
         };
         self.fail(problem)
     }
@@ -222,6 +225,12 @@ impl Reader<'_> {
     fn definition_item(&mut self, class: Class) -> Read<()> {
         let (name, span) = self.new_name(class.word())?;
         let twice = self.already(&name, span);
+        let Ok(may_stay) = self.rule_may_stay(class) else {
+            if twice.is_none() {
+                self.define(class, name, span, None);
+            }
+            return Err(Stop);
+        };
         if !self.accept("is") {
             let problem = self.no_is(class, &name);
             if twice.is_none() {
@@ -240,6 +249,9 @@ impl Reader<'_> {
             self.report(problem);
         } else {
             self.define(class, name, span, body.ok());
+            if let Some(definition) = self.program.definitions.last_mut() {
+                definition.may_stay = may_stay;
+            }
         }
         body.map(|_| ())
     }
@@ -259,6 +271,7 @@ impl Reader<'_> {
             name,
             body,
             span,
+            may_stay: false,
         });
     }
 
@@ -306,15 +319,21 @@ impl Reader<'_> {
             self.report(problem);
         }
         let count = self.has(&name);
+        let may_stay = if count.is_ok() {
+            self.may_stay()
+        } else {
+            Ok(false)
+        };
         if !wrong || self.tray_named(&name).is_none() {
             self.add_tray(Tray {
                 number: u8::try_from(number).unwrap_or(u8::MAX).min(15),
                 name,
                 count: count.unwrap_or(1),
                 span,
+                may_stay: may_stay.unwrap_or(false),
             });
         }
-        count.map(|_| ())
+        count.and(may_stay).map(|_| ())
     }
 
     fn bad_tray(
@@ -386,7 +405,7 @@ impl Reader<'_> {
     fn no_has(&mut self, name: &str) -> Read<()> {
         let token = self.peek();
         let text = self.text();
-        if self.at_item() {
+        if self.at_item() || self.is("may") {
             return Ok(());
         }
         let problem = match (token.kind, text) {

@@ -1,6 +1,6 @@
 //! Reading the lines behind `choices`.
 
-use super::choices::{Ask, Called, Expected, Line};
+use super::choices::{Ask, Called, Expected, Line, Owner};
 use super::lexer::Kind;
 use super::problems::Problem;
 use super::reader::{Read, Reader};
@@ -42,6 +42,7 @@ impl Reader<'_> {
         let called_from = self.peek().span;
         let ask = match word {
             "act" => Ask::Act(self.called()?),
+            "do" => Ask::Do(self.called()?),
             "why" => Ask::Why(self.called()?),
             "step" => Ask::Step(self.called()?, 0),
             _ => Ask::Board,
@@ -89,18 +90,76 @@ impl Reader<'_> {
     /// The words that call a station.
     fn called(&mut self) -> Read<Called> {
         let token = self.peek();
+        if let Kind::Number(number) = token.kind {
+            let position = self.small_number(number)?;
+            return Ok(Called::Position(position.into()));
+        }
         let text = self.text();
-        let label = match (token.kind, text) {
-            (Kind::Number(number), _) => {
-                let position = self.small_number(number)?;
-                return Ok(Called::Position(position.into()));
-            }
-            (Kind::Word, "put" | "take") => {
+        if let Some(label) = self.what_it_does()? {
+            let number = self.which();
+            return Ok(Called::Name {
+                of: None,
+                label,
+                number,
+            });
+        }
+        if token.kind != Kind::Word || words::reserved(text) {
+            return self.fail(self.no_one_called());
+        }
+        let label = self.rule_called(token.span, text)?;
+        let number = self.which();
+        if !self.owns() {
+            return Ok(Called::Name {
+                of: None,
+                label,
+                number,
+            });
+        }
+        self.laid_down_by(Owner { label, number })
+    }
+
+    /// What stands behind `desk's`.
+    fn laid_down_by(&mut self, owner: Owner) -> Read<Called> {
+        self.advance();
+        self.advance();
+        let Some(label) = self.what_it_does()? else {
+            let problem =
+                Problem::error(self.here(), format!("what of '{}' is meant?", owner.label))
+                    .label("what it laid down, as 'put batch', 'take batch' or 'block'");
+            return self.fail(problem);
+        };
+        let number = self.which();
+        Ok(Called::Name {
+            of: Some(owner),
+            label,
+            number,
+        })
+    }
+
+    /// Whether `'s` comes next, straight behind the piece before it.
+    fn owns(&self) -> bool {
+        let (sign, letter) = (self.ahead(0), self.ahead(1));
+        sign.kind == Kind::Sign
+            && matches!(self.text(), "'" | "\u{2019}")
+            && self.source.piece(letter.span) == "s"
+            && self.last().end == sign.span.start
+            && sign.span.end == letter.span.start
+    }
+
+    /// A station without a rule, by what it does; none where the next word is
+    /// not one for that.
+    fn what_it_does(&mut self) -> Read<Option<String>> {
+        let text = self.text();
+        if self.peek().kind != Kind::Word {
+            return Ok(None);
+        }
+        Ok(Some(match text {
+            "put" | "take" => {
                 self.advance();
                 let tray = self.tray(text, "")?;
                 format!("{text} {}", self.program.tray_name(tray))
             }
-            (Kind::Word, "repeatedly") => {
+            "repeatedly" => {
                 self.advance();
                 if !self.accept("take") {
                     let problem = Problem::error(self.here(), "'repeatedly' is followed by 'take'")
@@ -110,15 +169,12 @@ impl Reader<'_> {
                 let tray = self.tray("take", "")?;
                 format!("repeatedly take {}", self.program.tray_name(tray))
             }
-            (Kind::Word, "block") => {
+            "block" => {
                 self.advance();
                 text.to_owned()
             }
-            (Kind::Word, word) if !words::reserved(word) => self.rule_called(token.span, word)?,
-            _ => return self.fail(self.no_one_called()),
-        };
-        let number = self.which();
-        Ok(Called::Name { label, number })
+            _ => return Ok(None),
+        }))
     }
 
     fn no_one_called(&self) -> Problem {
@@ -196,7 +252,7 @@ impl Reader<'_> {
         let gives = self.advance().span;
         if matches!(ask, Ask::Board | Ask::Why(_)) {
             let problem = Problem::error(gives, "nothing is answered here")
-                .label("'=>' stands behind 'act' and 'step'");
+                .label("'=>' stands behind 'do', 'act' and 'step'");
             return self.fail(problem);
         }
         if self.accept("refused") {
@@ -274,9 +330,9 @@ impl Reader<'_> {
             (Kind::Sign | Kind::HalfNumber | Kind::ForeignWord, _) => self.bad_piece(),
             (
                 Kind::Word,
-                "commit" | "commits" | "open" | "opens" | "put" | "take" | "do" | "run",
+                "commit" | "commits" | "open" | "opens" | "put" | "take" | "run" | "go",
             ) => Problem::error(token.span, format!("'{text}' is no word for a choice")).label(
-                format!("write 'act {rest}': the engine answers what that does"),
+                format!("write 'do {rest}': the engine answers what that does"),
             ),
             (Kind::Word, "read" | "write" | "split" | "note" | "settle" | "move") => {
                 Problem::error(token.span, format!("'{text}' is no word for a choice"))
@@ -288,10 +344,10 @@ impl Reader<'_> {
             ),
             (Kind::Word, word) if self.definition(word).is_some() => {
                 Problem::error(token.span, format!("'{text}' begins no line of a lesson"))
-                    .label(format!("write 'act {text}' or 'step {text}'"))
+                    .label(format!("write 'do {text}', or 'act {text}' for one move"))
             }
             _ => Problem::error(token.span, format!("'{text}' begins no line of a lesson"))
-                .label("'act', 'step', 'board' or 'why'"),
+                .label("'do', 'act', 'step', 'board' or 'why'"),
         };
         self.fail(problem)
     }

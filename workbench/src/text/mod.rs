@@ -7,6 +7,7 @@
 //! | [`words`] | the words of the language, and those taken for one |
 //! | [`reader`], [`references`] | what all readers share; names where they are used |
 //! | [`grammar`], [`process`], [`ways`] | items, stations, ways of a block |
+//! | [`ask_item`], [`asking`] | questions: where they stand in a text, and what they say |
 //! | [`lesson`], [`choices`] | the lines behind `choices`, read and as read |
 //! | [`exact`] | texts of one record a line |
 //! | [`tree`] | what a text says |
@@ -19,6 +20,8 @@
 
 use ruonfidd::Refusal;
 
+pub mod ask_item;
+pub mod asking;
 pub mod assembly;
 pub mod choices;
 pub mod compare;
@@ -111,6 +114,7 @@ fn of_records(records: exact::Records) -> Result<Understood, Misunderstood> {
         }
     }
     program.choices = records.choices;
+    program.questions = records.questions;
     Ok(Understood {
         notes: Vec::new(),
         table,

@@ -5,6 +5,7 @@
 
 use crate::table::{Counts, Table, Term, TRAYS};
 
+use super::asking::Asking;
 use super::choices::Line;
 use super::source::Span;
 
@@ -62,6 +63,8 @@ pub struct Tray {
     pub count: u8,
     /// Where it is named.
     pub span: Span,
+    /// Whether what it has at an end is as it should be.
+    pub may_stay: bool,
 }
 
 /// Rules name processes, plans name expressions.
@@ -95,6 +98,17 @@ pub struct Definition {
     pub body: PartId,
     /// Where it is named.
     pub span: Span,
+    /// Whether its stations may be left at an end.
+    pub may_stay: bool,
+}
+
+/// A question of a text.
+#[derive(Clone, Debug, PartialEq, Eq)]
+pub struct Ask {
+    /// What it asks.
+    pub asking: Asking,
+    /// All of it, behind the word `ask`.
+    pub span: Span,
 }
 
 /// A whole text.
@@ -108,6 +122,8 @@ pub struct Program {
     pub definitions: Vec<Definition>,
     /// The process that the hall opens with.
     pub start: PartId,
+    /// Its questions, in the order of the text.
+    pub questions: Vec<Ask>,
     /// What stands behind `choices`; none where the text has no such word.
     pub choices: Option<Vec<Line>>,
 }
@@ -154,6 +170,13 @@ impl Program {
             .map_or_else(|| format!("t{number}"), |tray| tray.name.clone())
     }
 
+    /// Whether what a tray has at an end is as it should be.
+    #[must_use]
+    pub fn tray_may_stay(&self, number: u8) -> bool {
+        let mut trays = self.trays.iter();
+        trays.any(|tray| tray.number == number && tray.may_stay)
+    }
+
     /// The counts that the text gives.
     #[must_use]
     pub fn counts(&self) -> Counts {
@@ -181,6 +204,7 @@ impl Program {
                 name: format!("t{number}"),
                 count: counts.get(usize::from(number)).copied().unwrap_or(0),
                 span: Span::default(),
+                may_stay: false,
             });
         }
         program.start = table.start().into();

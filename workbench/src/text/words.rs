@@ -1,17 +1,20 @@
 //! The words of the language, and those that are taken for one.
 
 /// Every word of the language. None of them can be a name.
-pub const WORDS: [&str; 28] = [
+pub const WORDS: [&str; 31] = [
     "act",
+    "ask",
     "beside",
     "block",
     "board",
     "choices",
+    "do",
     "else",
     "end",
     "exact",
     "has",
     "is",
+    "may",
     "node",
     "nothing",
     "of",
@@ -42,7 +45,7 @@ pub fn reserved(word: &str) -> bool {
 }
 
 /// Words with which an item of a text begins.
-const ITEMS: [&str; 5] = ["tray", "rule", "plan", "start", "choices"];
+const ITEMS: [&str; 6] = ["tray", "rule", "plan", "start", "ask", "choices"];
 
 /// Whether an item of a text begins with this word.
 #[must_use]
@@ -62,7 +65,7 @@ pub fn item_meant(word: &str) -> Option<&'static str> {
 /// Words with which a line of a lesson begins.
 #[must_use]
 pub fn begins_line(word: &str) -> bool {
-    matches!(word, "act" | "step" | "board" | "why")
+    matches!(word, "do" | "act" | "step" | "board" | "why")
 }
 
 /// What to write instead of a word that comes from the calculus, from another

@@ -122,16 +122,42 @@ fn faults_are_told_on_the_way() {
         assert_eq!((code, err.as_str()), (1, ""));
         let steps = 3 * stations;
         let early = format!(
-            "every end has a = 0: broken after {steps} steps, found among {situations} situations; \
+            "at every end a = 0: broken after {steps} steps, found among {situations} situations; \
              the search goes on\n  choices\n"
         );
         assert_eq!(out.starts_with(&early), told, "{out}");
         assert_eq!(
-            out.matches("every end has a = 0: broken").count(),
+            out.matches("at every end a = 0: broken").count(),
             1 + usize::from(told)
         );
         assert!(out.contains(&format!("standard input: {situations} situations")));
     }
+}
+
+/// With `--first` a search stops soon behind its first fault.
+#[test]
+fn the_first_fault_ends_the_search() {
+    let rules =
+        "tray a\ntray b\ntray c\nrule one is put a\nrule two is put b\nrule three is put c\n";
+    let text = format!("{rules}start 21 of one beside 21 of two beside 21 of three\n");
+    let options = ["--json", "--never", "a = 1", "--never", "c = 21"];
+    let (code, out, _) = explore(&text, &options);
+    assert_eq!((code, number_in(&out, "situations")), (1, 10_648));
+    let options = [&options[..], &["--first"]].concat();
+    let (code, out, _) = explore(&text, &options);
+    let seen = number_in(&out, "situations");
+    assert!(code == 1 && seen < 1_000, "{seen}");
+    assert!(out.contains("cut short by --first"), "{out}");
+    assert!(
+        out.contains("\"question\": \"c = 21\", \"verdict\": \"not known\""),
+        "{out}"
+    );
+    let (code, out, _) = explore(&text, &["--first", "--never", "a = 1"]);
+    assert_eq!(code, 1);
+    assert!(
+        out.contains("never a = 1: broken after 1 step: a 1\n"),
+        "{out}"
+    );
 }
 
 /// Every example but the refused ones can be explored to the end, and each way
@@ -222,7 +248,7 @@ fn a_question_holds_or_is_broken() {
     assert!(out.contains("never aside > 1: holds\n"), "{out}");
     let (code, out, _) = explore(BALLOTS, &["--ends", "counted = 1"]);
     assert_eq!(code, 1, "{out}");
-    let broken = "every end has counted = 1: broken after 6 steps: screen 1, aside 1\n";
+    let broken = "at every end counted = 1: broken after 6 steps: screen 1, aside 1\n";
     assert!(out.contains(broken), "{out}");
     let (code, out, _) = explore(BALLOTS, &["--ends", "counted + aside = 1 and stations = 0"]);
     assert_eq!(code, 0, "{out}");
@@ -250,7 +276,7 @@ fn wrong_calls() {
         ),
         (
             vec!["--engine", "--dot", "x"],
-            "--dot and --save are not for --engine",
+            "--dot, --svg and --save are not for --engine",
         ),
     ] {
         let (code, out, err) = explore("tray a start put a\n", &options);
@@ -332,7 +358,7 @@ fn patterns_do_what_they_say() {
     let (code, out, _) = explore(&busy, &["--never", "batch = 0 and done = 0"]);
     assert_eq!(code, 1, "{out}");
     let alone = busy.replace("start begin beside finish", "start begin");
-    let alone = alone.split("choices\n").next().unwrap();
+    let alone = alone.split("ask ").next().unwrap();
     let (code, out, _) = explore(alone, &["--never", "batch = 0", "--ends", "batch = 1"]);
     assert_eq!(code, 0, "{out}");
 }
@@ -351,7 +377,7 @@ fn what_the_report_says() {
         "No end: whatever happens, something can always follow.",
         "trays: a always 0, b 0 to 1, c always 0\n",
         "stations that never act: lonely, stuck\n",
-        "stations that never stand in the hall: lonely (at 'put c') / put c (from quick) / put c (from",
+        "stations that never stand in the hall: lonely (at 'put c') / quick's put c / stuck's put c\n",
         "ways never taken: way 1 of stuck (take a, take a, put c); way 2 of stuck (take c); way 2 of\n",
         "                  quick (take b, put c)\n",
         "runs that go on for ever: yes, even without a commit; the last 2 choices can be made",

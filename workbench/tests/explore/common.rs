@@ -1,10 +1,19 @@
 //! `hall` called as a function, and a hall that several tests ask about.
 
+use std::sync::Once;
+
 use workbench::commands::{self, Streams};
 use workbench::style::Style;
 
+/// What is compared here stands in lines of this width, whoever runs the tests.
+pub(crate) fn wide() {
+    static ONCE: Once = Once::new();
+    ONCE.call_once(|| std::env::set_var("COLUMNS", "96"));
+}
+
 /// Exit code, standard output, standard error.
 pub(crate) fn hall(arguments: &[&str], input: impl AsRef<[u8]>) -> (u8, String, String) {
+    wide();
     let arguments: Vec<String> = arguments.iter().map(|it| (*it).to_owned()).collect();
     let mut out = Vec::new();
     let mut err = Vec::new();
@@ -24,7 +33,8 @@ pub(crate) fn hall(arguments: &[&str], input: impl AsRef<[u8]>) -> (u8, String, 
 
 /// Explores a text with these options.
 pub(crate) fn explore(text: impl AsRef<[u8]>, options: &[&str]) -> (u8, String, String) {
-    let mut arguments = vec!["explore", "-"];
+    // Ways as choices, which can be made again.
+    let mut arguments = vec!["explore", "-", "--moves"];
     arguments.extend(options);
     hall(&arguments, text)
 }

@@ -26,6 +26,8 @@ fn facts(foretold: &[u8], made: &[u8]) -> Result<(), Contradiction> {
             found,
             exact: Exact::NeverFull,
             rounds: None,
+            possible: Vec::new(),
+            leads: Vec::new(),
         },
         questions: &questions,
         limits,

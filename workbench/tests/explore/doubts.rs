@@ -8,11 +8,12 @@ use reference::generator::Random;
 use workbench::explore::facts::{Collector, Facts, ForEver, Verdict};
 use workbench::explore::investigate::{investigate, Doubt, Exact, Explored};
 use workbench::explore::model::Model;
-use workbench::explore::question::Question;
+use workbench::explore::question::Binder;
 use workbench::explore::report::Report;
 use workbench::explore::search::{search, Cut, Limits, Questions};
 use workbench::style::Style;
 use workbench::table::Table;
+use workbench::text::asking::{self, Asked};
 use workbench::text::source::Source;
 use workbench::text::tree::Program;
 use workbench::text::understand;
@@ -22,14 +23,19 @@ use crate::halls::tight;
 
 /// A question that nothing breaks, asked of a hall with so much memory.
 fn asked(table: &Table, memory: usize) -> (Explored, Facts, String) {
+    crate::common::wide();
     let program = Program::of_table(table);
-    let model = Model::of(table);
-    let question = |text| vec![Question::read(text, &program, &model).unwrap()];
-    let questions = Questions {
-        never: question("stations > 64"),
-        ends: question("stations >= 0"),
-        ..Questions::default()
-    };
+    let binder = Binder::new(table, &program);
+    let mut questions = Questions::default();
+    for text in [
+        "never stations > 64",
+        "at every end stations >= 0",
+        "always possible stations >= 0",
+        "stations >= 0 leads to stations < 65",
+    ] {
+        let asking = asking::read(text, &program).unwrap();
+        questions.add(binder.bind(&asking).unwrap());
+    }
     let limits = Limits::memory(memory);
     let explored = investigate(table, &questions, limits, &mut |_, _| {});
     let facts = Collector {
@@ -44,7 +50,9 @@ fn asked(table: &Table, memory: usize) -> (Explored, Facts, String) {
     .unwrap();
     let report = Report {
         name: "hall",
+        table,
         program: &program,
+        moves: true,
         explored: &explored,
         facts: &facts,
         seconds: 0.0,
@@ -98,7 +106,12 @@ fn notes_that_are_cut_short() {
         // With more room it is known after all.
         let (explored, facts, _) = asked(&table, 100_000_000);
         assert_eq!(explored.exact, Exact::WithNotes);
-        assert!(explored.complete() && facts.all_hold());
+        assert!(explored.complete());
+        for answer in &facts.answers {
+            // What leads to something is not looked for among notes.
+            let open = matches!(answer.verdict, Verdict::Open);
+            assert_eq!(open, answer.asked == Asked::Leads, "{answer:?}");
+        }
     }
     assert!(met > 20, "{met}");
 }
@@ -148,7 +161,9 @@ fn a_round_of_which_not_all_is_known() {
     facts.for_ever_no_commit = ForEver::Unknown;
     let report = Report {
         name: "hall",
+        table: &table,
         program: &Program::of_table(&table),
+        moves: true,
         explored: &explored,
         facts: &facts,
         seconds: 0.0,
@@ -317,8 +332,54 @@ fn limits_bound_the_telling_too() {
     // What is asked is answered all the same.
     let (code, out, _) = explore(&text, &["--memory", "4", "--all", "--ends", "a = 0"]);
     assert!(
-        code == 0 && out.contains("every end has a = 0: holds"),
+        code == 0 && out.contains("at every end a = 0: holds"),
         "{out}"
+    );
+}
+
+/// The telling of rounds is bounded as that of ends: the same hall beside a clock
+/// has a round in the place of each end.
+#[test]
+fn limits_bound_the_telling_of_rounds() {
+    let clock =
+        "tray tick has 1\nrule clock is repeatedly take tick then put tick\nstart clock beside ";
+    let text = many_ends().replace("start ", clock);
+    let understood = understand(&Source::new("", text)).unwrap();
+    let (table, program) = (&understood.table, &understood.program);
+    let questions = Questions::default();
+    let large = Limits::memory(100_000_000);
+    let explored = investigate(table, &questions, large, &mut |_, _| {});
+    let told = |limits: Limits, most_ends: usize| {
+        let facts = Collector {
+            table,
+            program,
+            explored: &explored,
+            questions: &questions,
+            limits,
+            most_ends,
+        };
+        let facts = facts.collect().unwrap();
+        let rounds = facts.rounds.unwrap();
+        let nearest = rounds
+            .windows(2)
+            .all(|pair| pair[0].witness.steps <= pair[1].witness.steps);
+        assert!(nearest && facts.ends.is_empty());
+        (rounds.len(), facts.rounds_cut)
+    };
+    assert_eq!(told(large, usize::MAX), (715, None));
+    assert_eq!(told(large, 20), (20, None));
+    let over = Limits {
+        until: Some(Instant::now()),
+        ..large
+    };
+    assert_eq!(told(over, usize::MAX), (12, Some(Cut::Time)));
+    let full = Limits::memory(explored.found.memory());
+    assert_eq!(told(full, usize::MAX), (12, Some(Cut::Memory)));
+    let more = Limits::memory(explored.found.memory() + 400_000);
+    let (some, cut) = told(more, usize::MAX);
+    assert!(
+        some > 12 && some < 600 && cut == Some(Cut::Memory),
+        "{some}"
     );
 }
 
@@ -372,11 +433,67 @@ fn rounds_that_are_not_looked_for() {
     assert!(explored.complete() && !explored.ends_known());
     let verdicts = facts.answers.iter().map(|answer| &answer.verdict);
     let verdicts: Vec<bool> = verdicts.map(|it| matches!(it, Verdict::Holds)).collect();
-    assert_eq!(verdicts, [true, false], "{text}");
+    assert_eq!(verdicts, [true, false, false, false], "{text}");
     assert!(!facts.all_hold());
     let words = "\nWhether there are rounds that are never left is not known.\n";
     assert!(text.contains(words), "{text}");
     let (explored, facts, text) = asked(table, 100_000_000);
     assert!(explored.ends_known() && facts.all_hold(), "{text}");
     assert_eq!(facts.rounds.map(|rounds| rounds.len()), Some(1));
+}
+
+/// Looking for rounds is cut short behind one that breaks what is asked: that is
+/// told, and nothing is said to hold.
+#[test]
+fn a_round_that_was_found_before_the_cut() {
+    let text = "tray turn has 1\ntray tick\ntray a\ntray b\ntray c\n\
+        rule near is take turn then put tick\n\
+        rule far is take turn then (6 of put a)\n\
+        rule clock is repeatedly take tick then put tick\n\
+        rule one is repeatedly take a then put b\nrule two is repeatedly take b then put c\n\
+        rule three is repeatedly take c then put a\n\
+        start near beside far beside clock beside one beside two beside three\n";
+    let understood = understand(&Source::new("", text)).unwrap();
+    let (table, program) = (&understood.table, &understood.program);
+    let question = Binder::new(table, program)
+        .read(Asked::Ends, "tick = 0 and stations < 60")
+        .unwrap();
+    let questions = Questions {
+        ends: vec![question],
+        ..Questions::default()
+    };
+    let large = Limits::memory(100_000_000);
+    let whole = investigate(table, &questions, large, &mut |_, _| {});
+    assert!(whole.ends_known());
+    let mut cut_behind_a_fault = 0;
+    for memory in (whole.found.memory()..3 * whole.found.memory()).step_by(500) {
+        let limits = Limits::memory(memory);
+        let explored = investigate(table, &questions, limits, &mut |_, _| {});
+        if !explored.complete() || explored.rounds.is_some() {
+            continue;
+        }
+        let facts = Collector {
+            table,
+            program,
+            explored: &explored,
+            questions: &questions,
+            limits,
+            most_ends: 12,
+        };
+        let answers = facts.answers().unwrap();
+        let [answer] = answers.as_slice() else {
+            panic!("{answers:?}");
+        };
+        match &answer.verdict {
+            Verdict::Broken(witness, _) => {
+                cut_behind_a_fault += 1;
+                let who = answer.round.as_ref().unwrap();
+                assert_eq!(who.go_on, ["clock"]);
+                assert!(witness.steps >= 2, "{witness:?}");
+            }
+            Verdict::Open => {}
+            Verdict::Holds => panic!("not all is known"),
+        }
+    }
+    assert!(cut_behind_a_fault > 0);
 }

@@ -308,6 +308,6 @@ fn groups_want_a_fault() {
     assert_eq!(code, 2);
     assert_eq!(
         err,
-        "hall: explore: --groups looks for a fault: say with --never or --ends what it is\n"
+        "hall: explore: --groups looks for a fault: say what it is, with --ask or in the text\n"
     );
 }

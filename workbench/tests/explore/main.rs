@@ -7,6 +7,9 @@
     clippy::format_push_string
 )]
 
+mod answers;
+mod asked;
+mod brute;
 mod command;
 mod common;
 mod contradictions;

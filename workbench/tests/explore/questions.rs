@@ -1,9 +1,10 @@
 //! Questions: what they mean, and where a mistake in one is.
 
 use reference::generator::Random;
-use workbench::explore::model::Model;
-use workbench::explore::question::Question;
+use workbench::explore::question::Binder;
+use workbench::explore::situations::Glance;
 use workbench::table::Table;
+use workbench::text::asking::{self, Asked};
 use workbench::text::tree::Program;
 
 use crate::common::{explore, BALLOTS};
@@ -14,12 +15,12 @@ fn mistakes_in_questions() {
         (
             "",
             1,
-            "a tray or a number is wanted here, and there is nothing more",
+            "a tray, a station or a number is wanted here, and there is nothing more",
         ),
         (
             "balot > 1",
             1,
-            "no tray is called 'balot': did you mean 'ballot'?",
+            "no tray or rule is called 'balot': did you mean 'ballot'?",
         ),
         (
             "counted",
@@ -31,7 +32,7 @@ fn mistakes_in_questions() {
         (
             "counted > ",
             11,
-            "a tray or a number is wanted here, and there is nothing more",
+            "a tray, a station or a number is wanted here, and there is nothing more",
         ),
         (
             "counted > 1 aside",
@@ -54,17 +55,18 @@ fn mistakes_in_questions() {
         (
             "not not",
             8,
-            "a tray or a number is wanted here, and there is nothing more",
+            "a tray, a station or a number is wanted here, and there is nothing more",
         ),
         (
             "counted > and",
             11,
-            "a tray or a number is wanted here, and there is 'and'",
+            "a tray, a station or a number is wanted here, and there is 'and'",
         ),
         (
             "\u{e4}\u{e4} = \u{fc}",
             1,
-            "no tray is called '\u{e4}\u{e4}': there are ballot, screen, call, aside, counted",
+            "no tray or rule is called '\u{e4}\u{e4}': there are ballot, screen, call, aside, counted, \
+             desk, guest, bell",
         ),
         ("counted > 1 or \t?", 17, "'?' has no meaning here"),
     ] {
@@ -92,27 +94,65 @@ fn mistakes_in_questions() {
 #[test]
 fn questions_of_any_words() {
     let pieces = [
-        "a", "a-b", "c", "stations", "and", "or", "not", "(", ")", "=", "!=", "<", "<=", ">", ">=",
-        "+", "-", "0", "1", "7x", "999999", "1000000", "==", "!", "&", "\u{e4}", " ", "\t",
-        "\u{0}", "_",
+        "a",
+        "a-b",
+        "c",
+        "stations",
+        "and",
+        "or",
+        "not",
+        "(",
+        ")",
+        "=",
+        "!=",
+        "<",
+        "<=",
+        ">",
+        ">=",
+        "+",
+        "-",
+        "0",
+        "1",
+        "7x",
+        "999999",
+        "1000000",
+        "==",
+        "!",
+        "&",
+        "\u{e4}",
+        " ",
+        "\t",
+        "\u{0}",
+        "_",
+        "put a",
+        "of",
+        "stands",
+        "waits",
+        "at put a-b",
+        "never ",
+        "always possible ",
+        "at every end ",
+        " leads to ",
     ];
     let table = Table::read(&[2, 0, 12, 1, 1, 13, 0]).unwrap();
     let mut program = Program::of_table(&table);
     program.trays[0].name = "a".to_owned();
     program.trays[1].name = "a-b".to_owned();
-    let model = Model::of(&table);
+    let binder = Binder::new(&table, &program);
     let mut random = Random::new(7);
-    let mut read = 0;
+    let (mut read, mut led) = (0, 0);
     for _ in 0..100_000 {
         let mut text = String::new();
         for _ in 0..random.below(9) {
             text.push_str(pieces[random.below(pieces.len())]);
             text.push_str(["", " "][random.below(2)]);
         }
-        match Question::read(&text, &program, &model) {
+        let asked = asking::read(&text, &program).and_then(|asking| binder.bind(&asking));
+        led += usize::from(asked.is_ok());
+        match binder.read(Asked::Never, &text) {
             Ok(question) => {
                 read += 1;
-                let _ = question.holds(&[0, 255], 64);
+                let _ = question.holds(Glance::of_codes(&[0, 255], &[0; 64], 1));
             }
             Err(mistake) => {
                 let last = mistake.column + mistake.length - 1;
@@ -121,7 +161,7 @@ fn questions_of_any_words() {
             }
         }
     }
-    assert!(read > 100, "{read}");
+    assert!(read > 100 && led > 10, "{read} {led}");
 }
 
 #[test]

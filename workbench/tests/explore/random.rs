@@ -1,20 +1,23 @@
 //! Explorations against the library's own steps, on random small halls.
-use std::collections::BTreeSet;
+use std::collections::{BTreeMap, BTreeSet};
 
 use crate::halls::{going_round, near_the_limits, stuck, tight};
 use reference::generator::{accepted_table, contended_table, Random, Shape};
 use ruonfidd::Hall;
 use workbench::explore::engine::{engine_search, EngineFound};
-use workbench::explore::facts::{Asked, Collector, Facts, ForEver, Verdict};
+use workbench::explore::facts::{Asked, Collector, Facts, ForEver, LastRound, Verdict};
 use workbench::explore::investigate::{investigate, Exact, Explored};
 use workbench::explore::model::Model;
-use workbench::explore::question::Question;
+use workbench::explore::question::{Binder, Question};
 use workbench::explore::replay::{Line, Witness};
 use workbench::explore::rounds::{last_rounds, Members};
 use workbench::explore::search::{search, Limits, Questions};
+use workbench::explore::situations::Glance;
 use workbench::stations::{counts, stations};
 use workbench::table::Table;
+use workbench::text::source::Source;
 use workbench::text::tree::Program;
+use workbench::text::understand;
 
 /// What a random hall may cost; a larger one is passed over.
 const SMALL: usize = 60_000;
@@ -93,6 +96,8 @@ fn without_notes(table: &Table) -> [BTreeSet<Vec<u8>>; 2] {
         found,
         exact: Exact::NeverFull,
         rounds: None,
+        possible: Vec::new(),
+        leads: Vec::new(),
     })
 }
 
@@ -137,25 +142,24 @@ struct Met {
     rounds: usize,
     last_rounds: usize,
     stuck_beside: usize,
+    /// Sorts with rounds at different distances, and halls with such sorts.
+    unlike_rounds: usize,
+    unlike_sorts: usize,
     stuck: usize,
     kept_as_numbers: usize,
 }
 
 /// One question of each sort, about a tray by chance.
-fn questions(program: &Program, model: &Model, random: &mut Random) -> Questions {
-    let mut ask = |sign: &str| {
-        let Some(tray) = random.pick(model.trays()) else {
-            return Vec::new();
-        };
-        let number = random.below(3);
-        let text = format!("t{tray} {sign} {number}");
-        vec![Question::read(&text, program, model).unwrap()]
-    };
-    Questions {
-        never: ask(">"),
-        ends: ask("<="),
-        ..Questions::default()
+fn questions(table: &Table, program: &Program, random: &mut Random) -> Questions {
+    let binder = Binder::new(table, program);
+    let mut questions = Questions::default();
+    for (asked, sign) in [(Asked::Never, ">"), (Asked::Ends, "<=")] {
+        if let Some(tray) = random.pick(&table.trays_in_use()) {
+            let text = format!("t{tray} {sign} {}", random.below(3));
+            questions.add(binder.read(asked, &text).unwrap());
+        }
     }
+    questions
 }
 
 impl Met {
@@ -181,8 +185,8 @@ impl Met {
         .collect()
         .unwrap();
         let is_so = |question: &Question, situation: &Vec<u8>| {
-            let (counts, stations) = explored.model.split(situation);
-            question.holds(counts, stations.len())
+            let (counts, codes) = explored.model.split(situation);
+            question.holds(Glance::of_codes(counts, codes, usize::MAX))
         };
         for answer in &facts.answers {
             let holds = match answer.asked {
@@ -191,6 +195,7 @@ impl Met {
                     let mut last = ends.iter().chain(rounds.iter().flatten());
                     last.all(|it| is_so(&questions.ends[0], it))
                 }
+                Asked::Possible | Asked::Leads => unreachable!("not asked"),
             };
             match &answer.verdict {
                 Verdict::Holds => assert!(holds),
@@ -230,6 +235,9 @@ impl Met {
         let model = Model::of(table);
         let told = facts.rounds.as_ref().unwrap();
         assert_eq!(told.is_empty(), rounds.is_empty());
+        if explored.exact != Exact::WithNotes {
+            self.sorts_of_rounds(explored, told, rounds);
+        }
         for round in told {
             let hall = runs(table, &round.witness);
             let situation = model.situation(&counts(&hall), &stations(&hall).unwrap());
@@ -255,6 +263,41 @@ impl Met {
         }
     }
 
+    /// Rounds in which trays have the same are told once: the nearest of them, and
+    /// how many there are; of all sorts the nearest first.
+    fn sorts_of_rounds(
+        &mut self,
+        explored: &Explored,
+        told: &[LastRound],
+        rounds: &BTreeSet<BTreeSet<Vec<u8>>>,
+    ) {
+        let store = &explored.found.store;
+        let steps = |it: &Vec<u8>| store.way_to(store.find(it).unwrap()).len() - 1;
+        let trays = explored.model.trays().len();
+        let mut sorts: BTreeMap<Vec<(u8, u8)>, Vec<usize>> = BTreeMap::new();
+        for set in rounds {
+            let extremes = (0..trays).map(|slot| {
+                let counts = || set.iter().map(|it| it[slot]);
+                (counts().min().unwrap(), counts().max().unwrap())
+            });
+            let nearest = set.iter().map(steps).min().unwrap();
+            sorts.entry(extremes.collect()).or_default().push(nearest);
+        }
+        assert_eq!(told.len(), sorts.len());
+        for round in told {
+            let of_sort = &sorts[&round.extremes];
+            assert_eq!(round.rounds, of_sort.len());
+            assert_eq!(Some(&round.witness.steps), of_sort.iter().min());
+            self.unlike_rounds += usize::from(of_sort.iter().min() != of_sort.iter().max());
+        }
+        let distances: Vec<usize> = told.iter().map(|round| round.witness.steps).collect();
+        assert!(
+            distances.windows(2).all(|pair| pair[0] <= pair[1]),
+            "{distances:?}"
+        );
+        self.unlike_sorts += usize::from(distances.first() != distances.last());
+    }
+
     fn compare(&mut self, bytes: &[u8], what: &str) {
         let table = Table::read(bytes).unwrap();
         let Some(engine) = by_engine(&table) else {
@@ -262,8 +305,7 @@ impl Met {
             return;
         };
         let program = Program::of_table(&table);
-        let model = Model::of(&table);
-        let questions = questions(&program, &model, &mut Random::new(bytes.len() as u64));
+        let questions = questions(&table, &program, &mut Random::new(bytes.len() as u64));
         let explored = by_steps(&table, &questions);
         assert!(explored.complete(), "{what}: {bytes:?}");
         let sets = sets(&explored);
@@ -366,4 +408,25 @@ fn halls_that_go_round() {
     }
     assert!(met.halls > 500 && met.last_rounds > 200, "{met:?}");
     assert!(met.stuck_beside > 50, "{met:?}");
+    assert!(met.unlike_rounds > 0 && met.unlike_sorts > 10, "{met:?}");
+}
+
+/// All situations lead back to the opening, but for one in which an attempt is
+/// stuck: then there is no round that is never left.
+#[test]
+fn all_go_round_but_a_stuck_attempt() {
+    let text = "tray turn has 1\ntray a has 1\ntray idle\n\
+        rule desk is repeatedly take turn then block (\n\
+        take a, put turn, put a, end or else put turn, put a, put a, end)\n\
+        start desk beside 61 of (take idle then nothing)\n";
+    let table = understand(&Source::new("", text)).unwrap().table;
+    assert!(round_sets(&table, true).is_empty());
+    assert_eq!(round_sets(&table, false).len(), 1);
+    let mut met = Met::default();
+    met.compare(table.bytes(), "a stuck attempt");
+    assert_eq!(
+        (met.halls, met.stuck, met.last_rounds),
+        (1, 1, 0),
+        "{met:?}"
+    );
 }

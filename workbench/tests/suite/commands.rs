@@ -8,7 +8,7 @@ use std::process::{Command, Stdio};
 use ruonfidd::Hall;
 use workbench::style::Style;
 
-use crate::common::{called, hall, hall_in, package, raw_hall_in, scratch, Answer};
+use crate::common::{called, hall, hall_at, hall_in, package, raw_hall_in, scratch, Answer};
 
 const COMMANDS: [&str; 7] = [
     "check", "build", "show", "opening", "run", "play", "explore",
@@ -52,7 +52,7 @@ fn every_command_has_a_page_that_fits_a_screen() {
         let page = hall(&["help", command]);
         assert_eq!((page.code, page.err.as_str()), (Some(0), ""), "{command}");
         assert!(
-            page.out.starts_with(&format!("usage: hall {command} FILE")),
+            page.out.starts_with(&format!("usage: hall {command} F")),
             "{command}"
         );
         assert_eq!(hall(&[command, "--help"]), page, "{command}");
@@ -192,7 +192,7 @@ fn the_file_that_is_read_stays() {
         let answer = hall_in(&folder, &["explore", "a.hall", "--dot", file], b"");
         is(&answer, 2, "", &said(file));
         let input = format!("act desk\nsave {file}\nq\n");
-        let answer = hall_in(&folder, &["play", "a.hall"], input.as_bytes());
+        let answer = hall_at(300, &folder, &["play", "a.hall"], input.as_bytes());
         assert_eq!((answer.code, answer.err.as_str()), (Some(0), ""));
         let words = format!("      {file} is the file that is read, and is not written over");
         assert!(answer.out.contains(&words), "{}", answer.out);
@@ -325,7 +325,7 @@ fn choices_behind_a_table() {
     assert_eq!(bytes[..14], TABLE);
     assert_eq!(bytes[14..], [1, 0, 2, 0, 0, 2, 0, 0, 1, 0, 1, 0]);
     let run = |file: &str| hall_in(&folder, &["run", "--quiet", file], b"");
-    let last = "5 choices done: 1 commit, 0 attempts failed at commit, 0 attempts gave up. The hall is still.\n";
+    let last = "5 choices done: 1 commit, 0 attempts failed at commit, 0 attempts gave up. The\nhall is still.\n";
     is(&run("b.hall"), 0, last, "");
     is(&run("b.table"), 0, last, "");
     // check takes all of it as the table, and says what it is.
@@ -394,7 +394,7 @@ fn a_lesson_in_an_exact_text() {
     let exact = hall_in(&folder, &["show", "--exact", "a.hall"], b"").out;
     let lesson = format!("{exact}choices act block => opens step block => finds");
     fs::write(folder.join("exact.hall"), lesson).unwrap();
-    let answer = hall_in(&folder, &["run", "exact.hall"], b"");
+    let answer = hall_in(&folder, &["run", "--moves", "exact.hall"], b"");
     assert_eq!((answer.code, answer.err.as_str()), (Some(0), ""));
     assert!(
         answer.out.contains("block notes that it will take one a"),
@@ -520,7 +520,7 @@ fn runs_as_they_are_told() {
         "join",
     ] {
         let file = format!("examples/{name}.hall");
-        let answer = hall_in(package(), &["run", &file], b"");
+        let answer = hall_in(package(), &["run", "--moves", &file], b"");
         let expected = fs::read_to_string(told.join(format!("{name}.out"))).unwrap();
         assert_eq!(answer.out, expected, "{name}");
     }
@@ -603,6 +603,63 @@ fn streams_that_fail() {
     );
 }
 
+/// A stream that was closed is no place for output and gives no input. Where it
+/// is not used, nothing is wrong.
+#[cfg(target_os = "linux")]
+#[test]
+fn streams_that_were_closed() {
+    let folder = folder("closed");
+    let noted = "tray a\ntray b\nstart put a\n";
+    fs::write(folder.join("noted.hall"), noted).unwrap();
+    let called = |closed: &str, arguments: &[&str]| {
+        let output = Command::new("sh")
+            .args(["-c", &format!("exec \"$0\" \"$@\" {closed}")])
+            .arg(env!("CARGO_BIN_EXE_hall"))
+            .args(arguments)
+            .current_dir(&folder)
+            .output()
+            .unwrap();
+        Answer {
+            code: output.status.code(),
+            out: String::from_utf8(output.stdout).unwrap(),
+            err: String::from_utf8(output.stderr).unwrap(),
+        }
+    };
+    let no_output = "hall: cannot write: standard output is closed\n";
+    for arguments in [
+        &["show", "a.table"][..],
+        &["check", "a.hall"],
+        &["check", "a.hall", "--json"],
+        &["build", "a.hall"],
+        &["opening", "a.hall"],
+        &["explore", "a.hall"],
+        &["help"],
+        &["--version"],
+    ] {
+        is(&called(">&-", arguments), 3, "", no_output);
+    }
+    let no_input = "hall: cannot read standard input: standard input is closed\n";
+    is(&called("<&-", &["check", "-"]), 3, "", no_input);
+    is(&called("<&- >&-", &["check", "-"]), 3, "", no_input);
+    // What goes to standard error is output too; nobody is left to be told why.
+    is(&called("2>&-", &["check", "noted.hall"]), 3, "", "");
+    is(&called("2>&-", &["check", "none.hall"]), 3, "", "");
+    is(&called("2>&-", &["check"]), 2, "", "");
+    is(&called(">&- 2>&-", &["check", "a.hall"]), 3, "", "");
+    // Not used.
+    is(
+        &called(">&-", &["build", "a.hall", "-o", "b.table"]),
+        0,
+        "",
+        "",
+    );
+    assert_eq!(fs::read(folder.join("b.table")).unwrap(), TABLE);
+    let whole = hall_in(&folder, &["check", "a.hall"], b"");
+    assert_eq!(called("<&- 2>&-", &["check", "a.hall"]), whole);
+    // What is thrown away was written.
+    is(&called(">/dev/null", &["check", "a.hall"]), 0, "", "");
+}
+
 /// Where what is written goes when it has a link, a mode or no file at all.
 #[cfg(unix)]
 mod written {
@@ -664,6 +721,39 @@ mod written {
         only(&folder.join("deep"), &["second"]);
     }
 
+    /// No command puts a file in the place of a link, whether that leads to a file
+    /// or to nothing yet, and whether it says so from the top or from its folder.
+    #[test]
+    fn every_command_leaves_links_in_place() {
+        let folder = folder("every-link");
+        fs::create_dir(folder.join("deep")).unwrap();
+        for (name, arguments) in [
+            ("built", &["build", "a.hall", "-o", "built"][..]),
+            ("drawn", &["explore", "a.hall", "--dot", "drawn"]),
+            ("way-end-1.choices", &["explore", "a.hall", "--save", "way"]),
+        ] {
+            for target in [folder.join("deep/absolute"), "deep/relative".into()] {
+                let link = folder.join(name);
+                symlink(&target, &link).unwrap();
+                let file = folder.join(&target);
+                for before in [None, Some("old")] {
+                    if let Some(before) = before {
+                        fs::write(&file, before).unwrap();
+                    }
+                    let answer = hall_in(&folder, arguments, b"");
+                    assert_eq!(answer.code, Some(0), "{answer:?}");
+                    assert_eq!(fs::read_link(&link).unwrap(), target, "{name}");
+                    let there = fs::symlink_metadata(&file).unwrap();
+                    assert!(there.is_file() && there.len() > 5, "{name}");
+                }
+                fs::remove_file(&link).unwrap();
+                fs::remove_file(&file).unwrap();
+            }
+        }
+        only(&folder, &["a.hall", "a.table", "deep"]);
+        only(&folder.join("deep"), &[]);
+    }
+
     #[test]
     fn links_without_an_end() {
         let folder = folder("written-round");
@@ -694,7 +784,7 @@ mod written {
         }
         // What play saves and explore draws goes the same way.
         for (name, arguments, input) in [
-            ("lesson", &["play", "a.hall"][..], "1\nsave lesson\nq\n"),
+            ("lesson", &["play", "a.hall"][..], "1\nsave! lesson\nq\n"),
             ("picture", &["explore", "a.hall", "--dot", "picture"], ""),
             (
                 "way-end-1.choices",
@@ -778,55 +868,5 @@ mod written {
             .unwrap();
         assert_eq!(output.stdout, TABLE);
         only(&folder, &["a.hall", "a.table", "out"]);
-    }
-}
-
-/// A hall of some million situations, and a fault near its opening.
-fn large_hall() -> String {
-    let trays = "tray t0 has 8\ntray t1\ntray t2\ntray t3\ntray t4\ntray t5\n".to_owned();
-    let rules = (0..6).map(|from| {
-        let to = (from + 1) % 6;
-        format!(
-            "rule r{from} is repeatedly take t{from} then put t{to}\n\
-             rule b{from} is block (take t{from}, put t{to}, end)\n"
-        )
-    });
-    let start: Vec<String> = (0..6)
-        .map(|from| format!("r{from} beside 2 of b{from}"))
-        .collect();
-    let rules: String = rules.collect();
-    trays + &rules + "start " + &start.join(" beside ") + "\n"
-}
-
-/// Whoever ends the program has seen the fault by then.
-#[test]
-fn a_fault_is_told_when_it_is_found() {
-    let folder = scratch("fault-at-once");
-    fs::write(folder.join("large.hall"), large_hall()).unwrap();
-    for (option, on_error) in [("--all", false), ("--json", true)] {
-        let mut child = Command::new(env!("CARGO_BIN_EXE_hall"))
-            .args(["explore", "large.hall", "--never", "t3 = 2", option])
-            .current_dir(&folder)
-            .stdout(Stdio::piped())
-            .stderr(Stdio::piped())
-            .spawn()
-            .unwrap();
-        let mut told = [0; 200];
-        if on_error {
-            child.stderr.take().unwrap().read_exact(&mut told).unwrap();
-        } else {
-            child.stdout.take().unwrap().read_exact(&mut told).unwrap();
-        }
-        // It has far to go yet.
-        assert_eq!(child.try_wait().unwrap(), None);
-        child.kill().unwrap();
-        child.wait().unwrap();
-        let told = String::from_utf8_lossy(&told);
-        assert!(told.starts_with("never t3 = 2: broken after "), "{told}");
-        assert!(told.contains(" steps, found among "), "{told}");
-        assert!(
-            told.contains("; the search goes on\n  choices\n    act "),
-            "{told}"
-        );
     }
 }

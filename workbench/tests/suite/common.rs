@@ -25,7 +25,15 @@ pub(crate) struct Answer {
 
 /// Calls the program in a folder, with this on standard input.
 pub(crate) fn hall_in(folder: &Path, arguments: &[&str], input: &[u8]) -> Answer {
-    let output = raw_hall_in(folder, arguments, input);
+    answer(raw_hall_in(folder, arguments, input))
+}
+
+/// The same where lines are so wide.
+pub(crate) fn hall_at(width: usize, folder: &Path, arguments: &[&str], input: &[u8]) -> Answer {
+    answer(output_at(Some(width), folder, arguments, input))
+}
+
+fn answer(output: Output) -> Answer {
     Answer {
         code: output.status.code(),
         out: String::from_utf8(output.stdout).expect("letters on standard output"),
@@ -35,7 +43,17 @@ pub(crate) fn hall_in(folder: &Path, arguments: &[&str], input: &[u8]) -> Answer
 
 /// The same with standard output as bytes.
 pub(crate) fn raw_hall_in(folder: &Path, arguments: &[&str], input: &[u8]) -> Output {
-    let mut child = Command::new(env!("CARGO_BIN_EXE_hall"))
+    output_at(None, folder, arguments, input)
+}
+
+fn output_at(width: Option<usize>, folder: &Path, arguments: &[&str], input: &[u8]) -> Output {
+    let mut command = Command::new(env!("CARGO_BIN_EXE_hall"));
+    // What is printed must not depend on who runs the tests.
+    match width {
+        Some(width) => command.env("COLUMNS", width.to_string()),
+        None => command.env_remove("COLUMNS"),
+    };
+    let mut child = command
         .args(arguments)
         .current_dir(folder)
         .stdin(Stdio::piped())

@@ -65,6 +65,9 @@ pub(crate) fn write_file<'a>(folder: &Path, piece: &'a Fenced) -> Option<&'a str
         None => (name, 0),
     };
     let file = folder.join(name);
+    if let Some(below) = file.parent() {
+        fs::create_dir_all(below).expect("a folder");
+    }
     match what {
         "hall" => fs::write(file, text_of(&piece.lines)).expect("a text"),
         "bytes" => {

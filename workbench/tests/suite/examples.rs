@@ -33,6 +33,26 @@ fn every_lesson_is_met() {
     }
 }
 
+/// Every lesson and every question, one line each.
+#[test]
+fn all_of_them_tested_at_once() {
+    let answer = hall_in(package(), &["test", "examples"], b"");
+    assert_eq!((answer.code, answer.err.as_str()), (Some(0), ""));
+    let lines: Vec<&str> = answer.out.lines().collect();
+    let of = |what: &str| lines.iter().filter(|line| line.contains(what)).count();
+    let (lessons, questions) = (
+        of(": lesson: "),
+        lines.len() - 1 - of(": lesson: ") - of("has to be"),
+    );
+    assert_eq!(lessons, files(&package().join("examples"), "hall").len());
+    assert!(questions > 30 && of(": holds") > 15 && of("broken, as the text says,") > 8);
+    let last = format!(
+        "{} texts, {lessons} lessons, {questions} questions: all as they should be",
+        lessons + of("has to be")
+    );
+    assert_eq!(lines.last(), Some(&last.as_str()));
+}
+
 /// A lesson that expects nothing would be met by anything.
 #[test]
 fn every_lesson_expects_something() {

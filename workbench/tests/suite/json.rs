@@ -11,6 +11,8 @@ pub(crate) enum Value {
     Null,
     Truth(bool),
     Number(u64),
+    /// With a point, as it is written.
+    Decimal(String),
     Words(String),
     List(Vec<Value>),
     Object(Vec<(String, Value)>),
@@ -84,11 +86,16 @@ fn value(rest: &mut &str) -> Option<Value> {
         '"' => words(rest).map(Value::Words),
         '0'..='9' => {
             let end = rest
-                .find(|c: char| !c.is_ascii_digit())
+                .find(|c: char| !c.is_ascii_digit() && c != '.')
                 .unwrap_or(rest.len());
-            let number = rest[..end].parse().ok()?;
-            *rest = &rest[end..];
-            Some(Value::Number(number))
+            let (number, behind) = rest.split_at(end);
+            *rest = behind;
+            match number.split_once('.') {
+                None => number.parse().ok().map(Value::Number),
+                Some((_, "")) => None,
+                Some((_, digits)) if digits.contains('.') => None,
+                Some(_) => Some(Value::Decimal(number.to_owned())),
+            }
         }
         _ => [
             ("true", Value::Truth(true)),
@@ -208,7 +215,7 @@ fn runs_for_programs() {
     let folder = package().join("examples");
     for file in files(&folder, "hall") {
         let name = name_of(&file);
-        let told = hall_in(&folder, &["run", name], b"").out;
+        let told = hall_in(&folder, &["run", "--moves", name], b"").out;
         let told: String = told.split_whitespace().collect::<Vec<_>>().join(" ");
         let objects = hall_in(&folder, &["run", "--json", name], b"").out;
         let objects: Vec<Value> = objects.lines().map(parsed).collect();
@@ -439,4 +446,106 @@ fn wrong_runs_for_programs() {
         checked += 1;
     }
     assert!(checked >= 12, "{checked}");
+}
+
+/// Objects go to standard output, and nothing else does; what is wrong is in an
+/// object too.
+#[test]
+fn objects_on_standard_output() {
+    let folder = package().join("examples");
+    let ways: [(&[&str], i32); 8] = [
+        (&["check", "--json", "ballots.hall"], 0),
+        (&["check", "--json", "../tests/errors/items.hall"], 1),
+        (&["opening", "--json", "ballots.hall"], 0),
+        (&["run", "--json", "ballots.hall"], 0),
+        (&["run", "--json", "../tests/errors/run-gone.hall"], 1),
+        (&["explore", "--json", "ballots.hall"], 0),
+        (
+            &[
+                "explore",
+                "--json",
+                "ballots.hall",
+                "--never",
+                "stations > 0",
+            ],
+            1,
+        ),
+        (&["explore", "--json", "--engine", "choice.hall"], 0),
+    ];
+    for (arguments, code) in ways {
+        let answer = hall_in(&folder, arguments, b"");
+        let given = (answer.code, answer.err.as_str());
+        assert_eq!(given, (Some(code), ""), "{arguments:?}");
+        assert!(answer.out.ends_with('\n'), "{arguments:?}");
+        let objects: Vec<Value> = answer.out.lines().map(parsed).collect();
+        assert!(!objects.is_empty(), "{arguments:?}");
+        for object in objects {
+            assert!(!object.fields().is_empty(), "{arguments:?}");
+        }
+    }
+}
+
+/// The station of each choice is the one that its words name, at the position
+/// that its bytes name; behind the choice the same stations stand as before the
+/// next one.
+#[test]
+fn stations_of_choices() {
+    let folder = package().join("examples");
+    let (mut ways, mut choices) = (0, 0);
+    for file in files(&folder, "hall") {
+        let name = name_of(&file);
+        let run = hall_in(&folder, &["run", "--json", name], b"").out;
+        let run: Vec<Value> = run.lines().map(parsed).collect();
+        let moved = run.iter().filter(|it| it.has("moved"));
+        for (choice, next) in moved.clone().zip(moved.skip(1)) {
+            let position = next.number("position");
+            let bytes = next.field("choice").list();
+            assert_eq!(bytes[1], Value::Number(position), "{name}: {next:?}");
+            let standing = choice.field("stations").list();
+            let station = &standing[usize::try_from(position).unwrap()];
+            assert_eq!(station, next.field("station"), "{name}: {next:?}");
+            choices += 1;
+        }
+        let arguments = ["explore", "--json", name, "--memory", "5"];
+        let explored = parsed(hall_in(&folder, &arguments, b"").out.trim_end());
+        let met = ["met_19", "met_20"].map(|name| explored.field(name));
+        let met = met.into_iter().filter(|way| **way != Value::Null);
+        for way in explored.field("ends").list().iter().chain(met) {
+            called_as_said(way);
+            ways += 1;
+        }
+    }
+    assert!(choices > 200 && ways > 20, "{choices} {ways}");
+}
+
+/// The callers of a way against its words and its bytes.
+#[track_caller]
+fn called_as_said(way: &Value) {
+    let words = way.field("choices").list();
+    let callers = way.field("made_by").list();
+    assert_eq!(words.len(), callers.len(), "{way:?}");
+    let mut bytes = way.field("bytes").list().iter();
+    for (words, caller) in words.iter().zip(callers) {
+        let Value::Words(words) = words else {
+            panic!("{way:?}");
+        };
+        let station = caller.words("station");
+        let said = words.strip_suffix(" => refused 19").unwrap_or(words);
+        let said = said.strip_suffix(" => refused 20").unwrap_or(said);
+        let node = match bytes.next() {
+            None => None,
+            Some(kind) => {
+                let position = Value::Number(caller.number("position"));
+                assert_eq!(bytes.next(), Some(&position), "{way:?}");
+                (*kind == Value::Number(2)).then(|| byte(bytes.next().unwrap()))
+            }
+        };
+        let expected = match node {
+            None => format!("act {station}"),
+            Some(0) => format!("step {station}"),
+            Some(node) => format!("step {station} node {node}"),
+        };
+        assert_eq!(said, expected, "{way:?}");
+    }
+    assert!(bytes.next().is_none(), "{way:?}");
 }

@@ -7,7 +7,7 @@ use reference::hall::{stations_of, Station};
 use reference::table::{read_table, width, Table as Second, Term};
 use workbench::style::Style;
 
-use crate::common::{called, files, hall_in, name_of, package, scratch, tables, Answer};
+use crate::common::{called, files, hall_at, hall_in, name_of, package, scratch, tables, Answer};
 use crate::json::{parsed, Value};
 
 /// The objects of an opening, the last one apart.
@@ -87,7 +87,7 @@ fn for_people_and_for_programs() {
     for file in files(&folder, "hall") {
         let name = name_of(&file);
         let (turns, last) = objects(&hall_in(&folder, &["opening", "--json", name], b""), name);
-        let told = hall_in(&folder, &["opening", name], b"");
+        let told = hall_at(96, &folder, &["opening", name], b"");
         assert_eq!((told.code, told.err.as_str()), (Some(0), ""), "{name}");
         let mut lines = told.out.lines();
         for turn in &turns {

@@ -4,7 +4,7 @@ use std::fs;
 
 use workbench::style::Style;
 
-use crate::common::{called, files, hall_in, package, scratch, Answer};
+use crate::common::{called, files, hall_at, hall_in, package, scratch, Answer};
 
 const TEXT: &str = "\
 tray batch
@@ -22,6 +22,13 @@ start desk beside 2 of scanner
 fn played(name: &str, input: &str) -> Answer {
     let folder = scratch(name);
     fs::write(folder.join("a.hall"), TEXT).unwrap();
+    hall_in(&folder, &["play", "--moves", "a.hall"], input.as_bytes())
+}
+
+/// The same by whole steps.
+fn by_steps(name: &str, input: &str) -> Answer {
+    let folder = scratch(name);
+    fs::write(folder.join("a.hall"), TEXT).unwrap();
     hall_in(&folder, &["play", "a.hall"], input.as_bytes())
 }
 
@@ -37,15 +44,11 @@ fn listed(screen: &str) -> usize {
     let mut numbers: Vec<usize> = Vec::new();
     let mut marked = Vec::new();
     for line in screen.lines() {
-        // Three columns for the number, two that are empty.
-        let number = line.get(..3).and_then(|it| it.trim_start().parse().ok());
-        let Some(number) = number.filter(|_| line[3..].starts_with("  ")) else {
-            assert!(!line.contains("<- suggested"), "{screen}");
-            continue;
-        };
-        numbers.push(number);
-        if line.ends_with("   <- suggested") {
-            marked.push(number);
+        // Four columns for the number, two that are empty.
+        let number: Option<usize> = line.get(..4).and_then(|it| it.trim_start().parse().ok());
+        numbers.extend(number.filter(|_| line[4..].starts_with("  ")));
+        if line.contains("(suggested)") {
+            marked.push(numbers.len());
         }
     }
     assert!(numbers.iter().copied().eq(1..=numbers.len()), "{screen}");
@@ -62,18 +65,21 @@ fn number_1_is_suggested() {
         for numbers in ["1", "2 1 1", "3 2 1 1 1", "1 1 4 2"] {
             let turns: Vec<&str> = numbers.split(' ').cycle().take(30).collect();
             let input = turns.join("\n") + "\n";
-            let answer = called(&["play", name], input.as_bytes(), Style::PLAIN, false);
-            assert_eq!((answer.code, answer.err.as_str()), (Some(0), ""), "{name}");
-            let parts = parts(&answer);
-            // A screen before each number and one behind the last; no more is read.
-            assert_eq!((parts.len(), parts[31]), (32, "\n"), "{name}");
-            for screen in &parts[..31] {
-                let listed = listed(screen);
-                let is_still = screen.ends_with("The hall is still: no choice is accepted.");
-                assert_eq!(listed == 0, is_still, "{name}: {screen}");
-                screens += 1;
-                of_several += usize::from(listed > 1);
-                still += usize::from(is_still);
+            for moves in [&["--moves"][..], &[]] {
+                let arguments = [&["play", name], moves].concat();
+                let answer = called(&arguments, input.as_bytes(), Style::PLAIN, false);
+                assert_eq!((answer.code, answer.err.as_str()), (Some(0), ""), "{name}");
+                let parts = parts(&answer);
+                // A screen before each number and one behind the last; no more is read.
+                assert_eq!((parts.len(), parts[31]), (32, "\n"), "{name}");
+                for screen in &parts[..31] {
+                    let listed = listed(screen);
+                    let is_still = screen.ends_with("The hall is still: no choice is accepted.");
+                    assert_eq!(listed == 0, is_still, "{name}: {screen}");
+                    screens += 1;
+                    of_several += usize::from(listed > 1);
+                    still += usize::from(is_still);
+                }
             }
         }
     }
@@ -89,7 +95,7 @@ fn enter_takes_number_1() {
     assert_eq!(by_number.out.matches("\n> 1\n").count(), 14);
     assert_eq!(by_number.out.replace("\n> 1\n", "\n> \n"), by_enter.out);
     assert!(
-        by_enter.out.contains("   <- suggested\n  2  "),
+        by_enter.out.contains("   (suggested)\n   2  "),
         "{}",
         by_enter.out
     );
@@ -136,7 +142,7 @@ fn undo_of_what_was_explained() {
     let text = "tray a\nrule giver is put a\nrule taker is take a then nothing\nstart giver beside taker\n";
     fs::write(folder.join("a.hall"), text).unwrap();
     let input = b"act giver\nact taker\nu\nact taker\nq\n";
-    let answer = hall_in(&folder, &["play", "a.hall"], input);
+    let answer = hall_in(&folder, &["play", "--moves", "a.hall"], input);
     let parts = parts(&answer);
     assert!(parts[2].contains("(COM): the tray"), "{}", parts[2]);
     assert_eq!(parts[2], parts[4]);
@@ -191,12 +197,12 @@ fn refused_and_unknown() {
         parts[4]
     );
     assert!(
-        parts[5].contains("a number: make that choice"),
+        parts[5].contains("there is no number 77: they go from 1 to 2"),
         "{}",
         parts[5]
     );
     assert!(
-        parts[6].contains("a number: make that choice"),
+        parts[6].contains("'hello' is no word here: h tells what can be typed"),
         "{}",
         parts[6]
     );
@@ -211,10 +217,10 @@ fn saved_and_run_again() {
     fs::write(folder.join("a.hall"), TEXT).unwrap();
     let input =
         "act scanner 2\nact desk\nu\nact desk\n\n\nsave some.choices\nsave nowhere/x\nsave\nq\n";
-    let answer = hall_in(&folder, &["play", "a.hall"], input.as_bytes());
+    let answer = hall_in(&folder, &["play", "--moves", "a.hall"], input.as_bytes());
     assert_eq!((answer.code, answer.err.as_str()), (Some(0), ""));
     assert!(
-        answer.out.contains("4 choices written to some.choices"),
+        answer.out.contains("4 lines written to some.choices"),
         "{}",
         answer.out
     );
@@ -248,4 +254,103 @@ fn saved_and_run_again() {
         "{}",
         answer.err
     );
+}
+
+/// What was played by steps is a lesson of whole steps, which leads to the same
+/// hall.
+#[test]
+fn steps_saved_and_run_again() {
+    let folder = scratch("saved-steps");
+    let mut lessons = 0;
+    for file in files(&package().join("examples"), "hall") {
+        let name = file.to_str().expect("letters");
+        for numbers in ["1", "2 1 1", "3 2 1 u r", "2 2 u 1"] {
+            let turns: Vec<&str> = numbers.split(' ').cycle().take(25).collect();
+            let input = turns.join("\n") + "\nb\nsave! it.choices\n";
+            let played = hall_at(300, &folder, &["play", name], input.as_bytes());
+            assert_eq!((played.code, played.err.as_str()), (Some(0), ""), "{name}");
+            let screens = parts(&played);
+            let board = screens[26].split("\n\n").nth(1).expect("a board");
+            let saved = fs::read_to_string(folder.join("it.choices")).unwrap();
+            assert!(
+                !saved.contains(" act ") && !saved.contains(" step "),
+                "{saved}"
+            );
+            let lesson = saved.clone() + "board\n";
+            fs::write(folder.join("shown.choices"), lesson).unwrap();
+            let run = hall_at(300, &folder, &["run", name, "shown.choices"], b"");
+            assert_eq!(
+                (run.code, run.err.as_str()),
+                (Some(0), ""),
+                "{name}\n{saved}"
+            );
+            let trays = board.lines().next().unwrap();
+            assert!(run.out.contains(trays), "{name}\n{board}\n{}", run.out);
+            lessons += usize::from(saved.lines().count() > 3);
+        }
+    }
+    assert!(lessons > 60, "{lessons}");
+}
+
+/// What was taken back is done again, until something else is done.
+#[test]
+fn redo() {
+    let answer = by_steps("redo", "1\nact scanner 1\nu\nu\nr\nr\nr\nu\n1\nr\nq\n");
+    let parts = parts(&answer);
+    let board = |at: usize| parts[at].split_once("\n\n").map(|it| it.1.to_owned());
+    assert_eq!(board(5), board(1), "{}", parts[5]);
+    assert_eq!(board(6), board(2), "{}", parts[6]);
+    assert!(parts[7].contains("nothing to do again"), "{}", parts[7]);
+    assert_eq!(board(8), board(1));
+    assert!(parts[10].contains("nothing to do again"), "{}", parts[10]);
+    // What is told again is told as it was told first.
+    let first = |at: usize| parts[at].lines().nth(1).map(str::to_owned);
+    assert_eq!(first(5), first(1));
+    assert_eq!(first(6), first(2));
+}
+
+/// A file that is there is written over only where that is said.
+#[test]
+fn nothing_is_written_over_unasked() {
+    let folder = scratch("unasked");
+    fs::write(folder.join("a.hall"), TEXT).unwrap();
+    fs::write(folder.join("b.choices"), "mine\n").unwrap();
+    let there = || fs::read_to_string(folder.join("b.choices")).unwrap();
+    let play = |input: &str| hall_in(&folder, &["play", "a.hall"], input.as_bytes()).out;
+    let out = play("1\nsave b.choices\nq\n");
+    assert!(out.contains("b.choices is there already: 'save! b.choices' writes over it"));
+    assert_eq!(there(), "mine\n");
+    let first = "choices\n  do desk => commits\n";
+    play("1\nsave! b.choices\nq\n");
+    assert_eq!(there(), first);
+    // A session writes over what it has written itself.
+    play("1\nsave c.choices\n1\nsave c.choices\nq\n");
+    let own = fs::read_to_string(folder.join("c.choices")).unwrap();
+    assert!(own.starts_with(first) && own.lines().count() == 3, "{own}");
+    // Not where somebody else has written there since: here a link leads elsewhere.
+    let out = play("1\nsave b.choices\nq\n");
+    assert!(out.contains("is there already"), "{out}");
+    assert_eq!(there(), first);
+}
+
+/// Equal stations have one line in the list and on the board.
+#[test]
+fn equal_stations_are_folded() {
+    let folder = scratch("equal");
+    let text =
+        "tray a has 9\nrule desk is block (take a, end)\nrule guest is take a then nothing\n\
+                start 20 of desk beside 2 of guest beside (take a then nothing)\n";
+    fs::write(folder.join("a.hall"), text).unwrap();
+    for moves in [&["--moves"][..], &[]] {
+        let arguments = [&["play", "a.hall"], moves].concat();
+        let answer = hall_in(&folder, &arguments, b"act desk 3\nq\n");
+        let parts = parts(&answer);
+        assert_eq!(listed(parts[0]), 3, "{}", parts[0]);
+        assert!(parts[0].contains("20 alike, up to desk 20"), "{}", parts[0]);
+        assert!(parts[0].contains("desk 1 .. desk 20"), "{}", parts[0]);
+        assert!(parts[0].contains("(20 alike)"), "{}", parts[0]);
+        // The one with an open attempt is like no other.
+        assert_eq!(listed(parts[1]), 4, "{}", parts[1]);
+        assert!(parts[1].contains("19 alike"), "{}", parts[1]);
+    }
 }

@@ -14,7 +14,7 @@ use workbench::rehearsal::{position_of, Happened, Moment, Rehearsal};
 use workbench::sentences::Teller;
 use workbench::show::{readable, Labels};
 use workbench::stations::{takes, Action, Node, Station};
-use workbench::style::{wrapped, Style, WIDTH};
+use workbench::style::{width, wrapped, Style};
 use workbench::table::{Table, Term};
 use workbench::text::choices::Ask;
 use workbench::text::grammar::read_choices;
@@ -133,7 +133,7 @@ fn sentences_say_what_changed() {
                 );
             }
             for line in wrapped("   1  ATFAIL  ", &sentence) {
-                assert!(line.len() <= WIDTH, "{which}\n{line}");
+                assert!(line.len() <= width(), "{which}\n{line}");
             }
         });
     }
@@ -208,6 +208,7 @@ fn boards_show_every_station() {
             table: &table,
             program: &program,
             style: Style::PLAIN,
+            folds: false,
         };
         let mut lesson = Lesson::open(&table, &program).expect(&which);
         random_run(&mut random, &mut lesson, 25, |lesson, _| {

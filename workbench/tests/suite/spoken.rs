@@ -11,7 +11,7 @@ use crate::consoles::fenced;
 
 /// Said, with exit 70, where the program is at odds with itself. No input leads
 /// there; tests/explore/contradictions.rs makes some of them come about.
-const AT_ODDS: [&str; 27] = [
+const AT_ODDS: [&str; 29] = [
     "'{words}' was not made: {unmade:?}",
     "a hall of the engine has a station of no table",
     "a question cannot be read again",
@@ -20,6 +20,7 @@ const AT_ODDS: [&str; 27] = [
     "an accepted table cannot be read",
     "an accepted table opens no hall",
     "an accepted table opens no hall that can be read",
+    "code {code} makes no such step",
     "by its own steps the engine comes to {} and {}, by the rules there are {} and {}; rounds that \
      are never left are {}",
     "names and stations do not fit together",
@@ -30,6 +31,7 @@ const AT_ODDS: [&str; 27] = [
     "the engine refused what the text cannot say",
     "the engine refuses a hall of its own: {refusal}",
     "the engine refuses its own hall",
+    "the engine refuses what it has done before",
     "the engine took bytes for choices that are none",
     "the hall does not open: {unmade:?}",
     "the situation {foretold:?} was foretold, and the engine came to {situation:?}",
@@ -44,7 +46,7 @@ const AT_ODDS: [&str; 27] = [
 
 /// Compared whole by a test in code, since it takes a terminal, a full disk, a
 /// name in other letters or a certain moment: the sentence and the test.
-const IN_CODE: [(&str, &str); 14] = [
+const IN_CODE: [(&str, &str); 19] = [
     (
         "build: bytes do not belong on a terminal: add -o FILE",
         "tests/suite/commands.rs",
@@ -58,8 +60,16 @@ const IN_CODE: [(&str, &str); 14] = [
     ("cannot read: {error}", "tests/suite/commands.rs"),
     (
         "{}: {} {}, found among {}; the search goes on",
-        "tests/suite/commands.rs",
+        "tests/suite/signals.rs",
     ),
+    (
+        "{} shows the fault; the search goes on",
+        "tests/suite/signals.rs",
+    ),
+    ("a signal", "tests/suite/signals.rs"),
+    ("a signal asked for an end", "tests/suite/signals.rs"),
+    ("{} is closed", "tests/suite/commands.rs"),
+    ("standard error", "tests/suite/commands.rs"),
     (
         " and {more} more at least: the telling was cut short by {}",
         "tests/explore/doubts.rs",
@@ -69,7 +79,7 @@ const IN_CODE: [(&str, &str); 14] = [
         "src/commands/mod.rs",
     ),
     (
-        "Tried: {tried}, {sizes} among them, then the time was over.",
+        "Tried: {tried}, {sizes} among them, then {why}.",
         "src/commands/explore/by_groups.rs",
     ),
     (
@@ -144,7 +154,13 @@ fn sentences_compared_in_code() {
 /// Everything that a test compares with what is printed, from files.
 fn all_that_is_compared() -> String {
     let mut said = String::new();
-    for (folder, ending) in [("errors", "stderr"), ("told", "out")] {
+    let kept = [
+        ("errors", "stderr"),
+        ("told", "out"),
+        ("screens", "out"),
+        ("screens", "svg"),
+    ];
+    for (folder, ending) in kept {
         for file in files(&package().join("tests").join(folder), ending) {
             said.push_str(&fs::read_to_string(file).unwrap());
         }

@@ -15,9 +15,10 @@ use crate::explore::question::Question;
 use crate::explore::replay::rehearse;
 use crate::explore::report::{choice_lines, counted};
 use crate::explore::search::Questions;
+use crate::explore::situations::Glance;
 use crate::explore::store::Index;
 use crate::json::{list, Object};
-use crate::style::{wrapped, Style};
+use crate::style::{width, wrapped, Style};
 
 impl From<Failed> for Failure {
     fn from(failed: Failed) -> Failure {
@@ -32,13 +33,18 @@ pub(super) fn by_engine(job: &Job<'_>, args: &Args, streams: &mut Streams<'_>) -
     if args
         .values("--dot")
         .chain(args.values("--save"))
+        .chain(args.values("--svg"))
         .next()
         .is_some()
     {
-        return Err(wrong("--dot and --save are not for --engine"));
+        return Err(wrong("--dot, --svg and --save are not for --engine"));
     }
     if job.questions.only_first {
         return Err(wrong("--first is not for --engine"));
+    }
+    if let Some(question) = job.questions.leads.first() {
+        let words = format!("--engine does not answer '{}'", question.text);
+        return Err(wrong(&words));
     }
     let table = &job.loaded.table;
     let mut progress = Progress::new();
@@ -62,8 +68,7 @@ pub(super) fn by_engine(job: &Job<'_>, args: &Args, streams: &mut Streams<'_>) -
         let text = text(job, &found, compared, &answers, streams.style);
         streams.out.write_all(text.as_bytes())?;
     }
-    let mut verdicts = answers.iter().map(|answer| &answer.verdict);
-    let all_hold = verdicts.all(|verdict| matches!(verdict, Verdict::Holds));
+    let all_hold = answers.iter().all(Answer::as_expected);
     Ok(exit(compared && all_hold))
 }
 
@@ -124,36 +129,46 @@ fn sorts_of_rounds(model: &Model, found: &EngineFound) -> BTreeSet<Extremes> {
 fn answers(job: &Job<'_>, found: &EngineFound) -> Result<Vec<Answer>, Failure> {
     let model = Model::of(&job.loaded.table);
     let is_so = |question: &Question, index: Index| {
-        let (counts, stations) = model.split(found.situations.get(index));
-        question.holds(counts, stations.len())
+        let (counts, codes) = model.split(found.situations.get(index));
+        question.holds(Glance::of_codes(counts, codes, model.first_noted()))
     };
     let mut answers = Vec::new();
     for question in &job.questions.never {
         let mut all = found.situations.indexes();
         let broken = all.find(|index| is_so(question, *index));
-        answers.push(answer(job, found, Asked::Never, question, broken)?);
+        answers.push(answer(job, found, question, broken)?);
     }
     for question in &job.questions.ends {
         let ends = found.ends.iter().chain(found.rounds.iter().flatten());
         let broken = ends.copied().filter(|index| !is_so(question, *index)).min();
-        answers.push(answer(job, found, Asked::Ends, question, broken)?);
+        answers.push(answer(job, found, question, broken)?);
     }
+    for question in &job.questions.possible {
+        // From an end nothing more is reached, from a round its situations.
+        let ends = found.ends.iter().map(std::slice::from_ref);
+        let last = ends.chain(found.rounds.iter().map(Vec::as_slice));
+        let without = last.filter(|set| !set.iter().any(|index| is_so(question, *index)));
+        let broken = without.flatten().copied().min();
+        answers.push(answer(job, found, question, broken)?);
+    }
+    answers.sort_by_key(|answer| answer.place);
     Ok(answers)
 }
 
 fn answer(
     job: &Job<'_>,
     found: &EngineFound,
-    asked: Asked,
     question: &Question,
     broken: Option<Index>,
 ) -> Result<Answer, Failure> {
     let Loaded { table, program, .. } = job.loaded;
     let verdict = match broken {
         Some(situation) => {
-            let hall = match asked {
-                Asked::Never => first_hall(found, situation),
-                Asked::Ends => found.last_halls.get(&situation).copied().unwrap_or(0),
+            let hall = match question.asked {
+                Asked::Ends | Asked::Possible => {
+                    found.last_halls.get(&situation).copied().unwrap_or(0)
+                }
+                Asked::Never | Asked::Leads => first_hall(found, situation),
             };
             let choices = found.choices_to(table, hall)?;
             let witness = rehearse(table, program, &Model::of(table), &choices)?;
@@ -162,7 +177,7 @@ fn answer(
         None if found.cut.is_none() => Verdict::Holds,
         None => Verdict::Open,
     };
-    Ok(Answer::of(asked, question, verdict))
+    Ok(Answer::of(question, verdict))
 }
 
 fn first_hall(found: &EngineFound, situation: Index) -> Index {
@@ -252,7 +267,7 @@ fn answer_lines(answer: &Answer, style: Style) -> Vec<String> {
                 format!("{question}: {}", style.bad("broken")),
                 "  choices".to_owned(),
             ];
-            lines.extend(choice_lines(&words, 4));
+            lines.extend(choice_lines(&words, 4, width()));
             lines
         }
     }

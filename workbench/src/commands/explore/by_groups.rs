@@ -1,15 +1,19 @@
 //! `hall explore --groups`
 
+use std::cell::RefCell;
+
+use super::faults::MANY;
 use super::progress::Progress;
-use super::{exit, wrong, Job};
+use super::{exit, tell_early, wrong, Job};
 use crate::commands::{Args, Failure, Outcome, Streams};
 use crate::explore::facts::{Answer, Asked, Verdict};
 use crate::explore::groups::{groups, Group, Groups, LeftOut, MOST_GROUPS};
 use crate::explore::objects;
 use crate::explore::report::{choice_lines, counted, grouped, when};
+use crate::explore::ways_told::Ways;
 use crate::json::{list, Object};
 use crate::show;
-use crate::style::{wrapped, Style};
+use crate::style::{width, wrapped, Style};
 use crate::table::Table;
 use crate::text::source::Source;
 use crate::text::tree::Program;
@@ -21,35 +25,53 @@ const MOST_TOLD: usize = 100;
 pub(super) fn by_groups(job: &Job<'_>, args: &Args, streams: &mut Streams<'_>) -> Outcome {
     if job.questions.is_empty() {
         return Err(wrong(
-            "--groups looks for a fault: say with --never or --ends what it is",
+            "--groups looks for a fault: say what it is, with --ask or in the text",
         ));
     }
     if args
         .values("--dot")
         .chain(args.values("--save"))
+        .chain(args.values("--svg"))
         .next()
         .is_some()
     {
-        return Err(wrong("--dot and --save are not for --groups"));
+        return Err(wrong("--dot, --svg and --save are not for --groups"));
     }
     let shown = shown_text(job)?;
     let (table, program) = match &shown {
         Some((table, program)) => (table, program),
         None => (&job.loaded.table, &job.loaded.program),
     };
-    let mut progress = Progress::new();
+    let progress = RefCell::new(Progress::new());
+    let mut early = Early::default();
+    let ways = Ways {
+        program,
+        style: streams.style,
+        moves: job.moves,
+    };
     let groups = groups(
         table,
         program,
         &job.questions,
         job.limits,
-        &mut |so_far, done| progress.tell(so_far.found.store.len(), done),
+        &mut |so_far, done| {
+            let mut progress = progress.borrow_mut();
+            progress.tell(so_far.found.store.len(), done);
+        },
+        &mut |group| {
+            if let Some(words) = early.words(group, &ways) {
+                progress.borrow_mut().wipe();
+                tell_early(&words, job.json, streams);
+            }
+        },
     );
     drop(progress);
     let told = Told {
         groups: groups?,
         shown: shown.is_some(),
         style: streams.style,
+        program,
+        moves: job.moves,
     };
     if job.json {
         writeln!(streams.out, "{}", told.object())?;
@@ -58,6 +80,64 @@ pub(super) fn by_groups(job: &Job<'_>, args: &Args, streams: &mut Streams<'_>) -
         streams.out.write_all(text.as_bytes())?;
     }
     Ok(exit(told.all_hold()))
+}
+
+/// The first group that was found to break something: told when it is known that
+/// the search is a long one, while it goes on.
+#[derive(Default)]
+struct Early {
+    situations: u64,
+    first: Option<String>,
+    told: bool,
+}
+
+impl Early {
+    /// The words for it, once, behind some group.
+    fn words(&mut self, group: &Group, ways: &Ways<'_>) -> Option<String> {
+        self.situations = self.situations.saturating_add(group.situations);
+        if self.first.is_none() && group.answers.iter().any(broken) {
+            self.first = Some(early_words(group, ways));
+        }
+        if self.told || self.situations < MANY {
+            return None;
+        }
+        self.told = self.first.is_some();
+        self.first.clone()
+    }
+}
+
+fn early_words(group: &Group, ways: &Ways<'_>) -> String {
+    let mut lines = vec![format!(
+        "{} shows the fault; the search goes on",
+        ways.style.bold(&group.start)
+    )];
+    lines.extend(broken_lines(group, ways));
+    lines.join("\n") + "\n\n"
+}
+
+/// The questions that a group breaks, with the ways.
+fn broken_lines(group: &Group, ways: &Ways<'_>) -> Vec<String> {
+    let mut lines = Vec::new();
+    for (answer, told) in group.answers.iter().zip(&group.told) {
+        if let Verdict::Broken(witness, _) = &answer.verdict {
+            let words: Vec<&str> = witness.words().collect();
+            let colon = if words.is_empty() { "" } else { ":" };
+            lines.push(format!(
+                "{} is broken {}{colon}",
+                answer.told(),
+                when(witness)
+            ));
+            match told {
+                Some(entries) if !ways.moves => lines.extend(ways.steps(entries, 2)),
+                _ if words.is_empty() => {}
+                _ => {
+                    lines.push("  choices".to_owned());
+                    lines.extend(choice_lines(&words, 4, width()));
+                }
+            }
+        }
+    }
+    lines
 }
 
 /// A table has no text that a start line could be put into, and an exact text
@@ -78,14 +158,17 @@ fn shown_text(job: &Job<'_>) -> Result<Option<(Table, Program)>, Failure> {
 }
 
 /// What was found of the groups, and how it is told.
-struct Told {
+struct Told<'a> {
     groups: Groups,
     /// Whether the text is the one that `hall show` prints.
     shown: bool,
     style: Style,
+    program: &'a Program,
+    /// Whether ways are told choice by choice.
+    moves: bool,
 }
 
-impl Told {
+impl Told<'_> {
     fn answers(&self) -> impl Iterator<Item = &Answer> {
         self.groups.tried.iter().flat_map(|group| &group.answers)
     }
@@ -160,17 +243,19 @@ impl Told {
         )];
         let tried = grouped(u64::try_from(tried.len()).unwrap_or(u64::MAX));
         let sizes = format!("all groups of up to {}", counted_size(*up_to));
-        let words = match (left_out, up_to) {
-            (None, _) => return lines,
-            (Some(LeftOut::TooMany), _) => format!(
+        let ended = |why: &str| match up_to {
+            0 => format!("Tried: {tried}, then {why}."),
+            _ => format!("Tried: {tried}, {sizes} among them, then {why}."),
+        };
+        let words = match left_out {
+            None => return lines,
+            Some(LeftOut::TooMany) => format!(
                 "Tried: {sizes}, {tried} of them. With the next size they would be more than \
                  {}.",
                 grouped(u64::try_from(MOST_GROUPS).unwrap_or(0))
             ),
-            (Some(LeftOut::Time), 0) => format!("Tried: {tried}, then the time was over."),
-            (Some(LeftOut::Time), _) => {
-                format!("Tried: {tried}, {sizes} among them, then the time was over.")
-            }
+            Some(LeftOut::Time) => ended("the time was over"),
+            Some(LeftOut::Signal) => ended("a signal asked for an end"),
         };
         lines.extend(wrapped("", &words));
         lines
@@ -209,21 +294,12 @@ impl Told {
             ),
         );
         lines.push(format!("  {}", self.style.bold(&group.start)));
-        for answer in &group.answers {
-            if let Verdict::Broken(witness, _) = &answer.verdict {
-                let words: Vec<&str> = witness.words().collect();
-                let colon = if words.is_empty() { "" } else { ":" };
-                lines.push(format!(
-                    "{} is broken {}{colon}",
-                    answer.told(),
-                    when(witness)
-                ));
-                if !words.is_empty() {
-                    lines.push("  choices".to_owned());
-                    lines.extend(choice_lines(&words, 4));
-                }
-            }
-        }
+        let ways = Ways {
+            program: self.program,
+            style: self.style,
+            moves: self.moves,
+        };
+        lines.extend(broken_lines(group, &ways));
         lines
     }
 }
@@ -278,6 +354,7 @@ mod tests {
     use super::Told;
     use crate::explore::groups::{Group, Groups, LeftOut};
     use crate::style::Style;
+    use crate::text::tree::Program;
 
     /// The time may be over anywhere; what was tried by then is said.
     #[test]
@@ -287,7 +364,9 @@ mod tests {
             size,
             situations: 1,
             answers: Vec::new(),
+            told: Vec::new(),
         };
+        let program = Program::default();
         let told = Told {
             groups: Groups {
                 stations: 3,
@@ -298,6 +377,8 @@ mod tests {
             },
             shown: false,
             style: Style::PLAIN,
+            program: &program,
+            moves: false,
         };
         assert_eq!(
             told.head("count.hall"),

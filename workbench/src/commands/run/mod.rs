@@ -7,6 +7,7 @@ pub(super) mod script;
 use ruonfidd::{Choice, Moved, Refusal};
 
 use super::check::{problem_object, refused};
+use super::files::{not_over, write_whole};
 use super::load;
 use super::{Args, Exit, Failure, Outcome, Streams};
 use crate::board::Board;
@@ -19,10 +20,14 @@ use crate::refusals;
 use crate::rehearsal::{position_of, Happened};
 use crate::rules::Rule;
 use crate::sentences::Teller;
-use crate::style::wrapped;
+use crate::steps::lanes::{self, Drawn, MOST_DRAWN};
+use crate::steps::layout::Layout;
+use crate::steps::{fold, Steps};
+use crate::style::{indented, width, wrapped};
 use crate::text::choices::{Ask, Line};
 use crate::text::problems::Problem;
 use crate::text::source::{Source, Span};
+use crate::text::tree::Program;
 use crate::why::why;
 use objects::{last_object, moved_object, refused_object};
 use problems::{ends_here, lost_problem, missed, unexpected};
@@ -31,10 +36,10 @@ use script::{script, Script};
 /// How much is said of a run.
 #[derive(Clone, Copy, PartialEq, Eq)]
 enum Told {
-    /// A sentence for each choice, and boards where the lesson wants them.
-    Sentences,
-    /// A board behind each choice too.
-    Boards,
+    /// A line for each step.
+    Steps,
+    /// A sentence for each choice.
+    Moves,
     /// The last line alone.
     Quiet,
     /// Objects for programs.
@@ -44,14 +49,19 @@ enum Told {
 struct Run<'a, 's, 't> {
     lesson: Lesson<'a>,
     teller: Teller<'a>,
+    steps: Steps<'a>,
     source: &'a Source,
     told: Told,
+    /// Whether the hall is drawn behind every choice or step.
+    boards: bool,
     streams: &'t mut Streams<'s>,
     number: usize,
     /// Whether the last line printed is an empty one.
     after_gap: bool,
     /// The name of the station that the choice calls.
     acting: String,
+    /// Whether the steps are drawn, however they are told.
+    draws: bool,
 }
 
 impl From<Contradiction> for Failure {
@@ -63,18 +73,30 @@ impl From<Contradiction> for Failure {
 /// Makes the choices of a lesson and says what each did.
 pub(super) fn run(args: &Args, streams: &mut Streams<'_>) -> Outcome {
     let name = args.file(0).unwrap_or("-");
-    let told = match (args.has("--json"), args.has("--quiet"), args.has("--board")) {
+    let told = match (args.has("--json"), args.has("--quiet"), args.has("--moves")) {
         (true, false, false) => Told::Json,
         (false, true, false) => Told::Quiet,
-        (false, false, true) => Told::Boards,
-        (false, false, false) => Told::Sentences,
+        (false, false, true) => Told::Moves,
+        (false, false, false) => Told::Steps,
         _ => {
             return Err(Failure::Usage(
-                "run: one of --json, --quiet and --board at most".to_owned(),
+                "run: one of --json, --quiet and --moves at most".to_owned(),
             ))
         }
     };
+    let boards = args.has("--board");
+    if boards && !matches!(told, Told::Steps | Told::Moves) {
+        return Err(Failure::Usage(
+            "run: one of --json, --quiet and --board at most".to_owned(),
+        ));
+    }
     let json = told == Told::Json;
+    for file in args.values("--svg") {
+        not_over(name, file)?;
+        if let Some(choices) = args.file(1) {
+            not_over(choices, file)?;
+        }
+    }
     let mut loaded = match load::load(name, args.has("--binary"), streams) {
         Ok(loaded) => loaded,
         Err(unloaded) => return refused(name, unloaded, json, streams),
@@ -91,17 +113,40 @@ pub(super) fn run(args: &Args, streams: &mut Streams<'_>) -> Outcome {
         };
         return no_choices(&note, &lesson, told, streams);
     };
-    Run {
+    let opening = lesson.now().names.clone();
+    let mut run = Run {
         lesson,
         teller: Teller::new(&loaded.table, &loaded.program),
+        steps: Steps::new(&loaded.table, &loaded.program),
         source: &script.source,
         told,
+        boards,
         streams,
         number: 0,
         after_gap: true,
         acting: String::new(),
+        draws: args.values("--svg").next().is_some(),
+    };
+    let exit = run.all(&script)?;
+    for file in args.values("--svg") {
+        let drawn = Drawn {
+            title: shown_name(name).to_owned(),
+            opening: &opening,
+            entries: run.steps.entries(),
+        };
+        draw(file, &loaded.program, &[drawn])?;
     }
-    .all(&script)
+    Ok(exit)
+}
+
+/// Writes the picture of some runs.
+pub(super) fn draw(file: &str, program: &Program, runs: &[Drawn<'_>]) -> Result<(), Failure> {
+    let Some(picture) = lanes::picture(program, runs) else {
+        return Err(Failure::File(format!(
+            "no picture in {file}: there are more than {MOST_DRAWN} steps"
+        )));
+    };
+    write_whole(file, picture.as_bytes())
 }
 
 /// What to do about a text or a table without choices.
@@ -138,11 +183,12 @@ fn board<'a>(lesson: &Lesson<'a>, streams: &Streams<'_>) -> Board<'a> {
         table: lesson.rehearsal().table(),
         program: lesson.rehearsal().program(),
         style: streams.style,
+        folds: false,
     }
 }
 
 impl Run<'_, '_, '_> {
-    fn all(mut self, script: &Script) -> Outcome {
+    fn all(&mut self, script: &Script) -> Outcome {
         let mut stopped = false;
         for (index, line) in script.lines.iter().enumerate() {
             if let Some(problem) = self.line(line)? {
@@ -161,6 +207,9 @@ impl Run<'_, '_, '_> {
             stopped = true;
             self.leftover(&script.leftover)?;
         }
+        if !stopped {
+            self.tell_steps()?;
+        }
         self.lesson.agrees()?;
         self.last_line()?;
         Ok(if stopped { Exit::Refused } else { Exit::Good })
@@ -168,6 +217,10 @@ impl Run<'_, '_, '_> {
 
     /// One line; a problem where the lesson ends there.
     fn line(&mut self, line: &Line) -> Result<Option<Problem>, Failure> {
+        if !line.is_choice() {
+            // However a run is told, the same is drawn.
+            self.steps.show();
+        }
         if let Ask::Why(called) = &line.ask {
             return match self.lesson.position(called) {
                 Ok(position) => self.why(position.into()).map(|()| None),
@@ -176,43 +229,95 @@ impl Run<'_, '_, '_> {
         }
         let choice = match self.lesson.choice(&line.ask) {
             Ok(Some(choice)) => choice,
-            Ok(None) => return self.board(false).map(|()| None),
+            Ok(None) => return self.board().map(|()| None),
             Err(lost) => return Ok(Some(self.lost(line, &lost))),
         };
+        loop {
+            let choice = match line.ask {
+                // Each choice of a step follows from the hall behind the last one.
+                Ask::Do(_) => self.next_of(choice),
+                _ => choice,
+            };
+            let (over, problem) = self.choice(line, choice)?;
+            if over || problem.is_some() {
+                return Ok(problem);
+            }
+        }
+    }
+
+    fn next_of(&self, choice: Choice) -> Choice {
+        let position = u8::try_from(position_of(choice)).unwrap_or(u8::MAX);
+        self.lesson.rehearsal().next_of(position)
+    }
+
+    /// Makes one choice of a line: whether the line is over, and a problem where
+    /// the lesson ends there.
+    fn choice(&mut self, line: &Line, choice: Choice) -> Result<(bool, Option<Problem>), Failure> {
         let before = self.lesson.rehearsal().clone();
         self.acting = before.now().names.name(position_of(choice));
         match self.lesson.make(choice)? {
             Answer::Moved(happened) => {
                 self.moved(&happened)?;
-                Ok(missed(line, happened.rule))
+                let over = !matches!(line.ask, Ask::Do(_)) || happened.rule.ends_step();
+                Ok((over, over.then(|| missed(line, happened.rule)).flatten()))
             }
             Answer::Refused(refusal) => {
                 let reason = refusals::reason(&before, choice, refusal);
                 if !line.expects(refusal) {
                     let instead = refusals::instead(&before, choice, refusal);
-                    return Ok(Some(unexpected(line, refusal, reason, instead)));
+                    return Ok((true, Some(unexpected(line, refusal, reason, instead))));
                 }
                 self.refused(choice, refusal, &reason)?;
-                Ok(None)
+                Ok((true, None))
             }
         }
     }
 
     fn moved(&mut self, happened: &Happened) -> Result<(), Failure> {
-        let sentence = self.teller.tell(happened);
         self.number += 1;
+        if self.draws && self.told != Told::Steps {
+            self.steps.moved(happened);
+        }
         match self.told {
             Told::Quiet => {}
             Told::Json => {
+                let sentence = self.teller.tell(happened);
                 let object = moved_object(&self.lesson, happened, &sentence);
                 writeln!(self.streams.out, "{object}")?;
             }
-            Told::Sentences | Told::Boards => {
+            Told::Moves => {
+                let sentence = self.teller.tell(happened);
                 self.numbered(happened.rule.calculus, Some(happened.rule), &sentence)?;
-                if self.told == Told::Boards {
-                    self.board(true)?;
+                if self.boards {
+                    self.set_apart(&self.drawn())?;
                 }
             }
+            Told::Steps => {
+                self.steps.moved(happened);
+                if self.boards && happened.rule.ends_step() {
+                    self.steps.apart(self.drawn());
+                }
+            }
+        }
+        Ok(())
+    }
+
+    /// All steps, where they are what is told. Only the end of an attempt shows
+    /// how it is told, so this comes last.
+    fn tell_steps(&mut self) -> Result<(), Failure> {
+        if self.told != Told::Steps {
+            return Ok(());
+        }
+        let told = fold::told(self.steps.entries());
+        let layout = Layout {
+            program: self.lesson.rehearsal().program(),
+            style: self.streams.style,
+            width: width(),
+            indent: 0,
+        };
+        for line in layout.lines(&told) {
+            writeln!(self.streams.out, "{line}")?;
+            self.after_gap = line.is_empty();
         }
         Ok(())
     }
@@ -240,41 +345,55 @@ impl Run<'_, '_, '_> {
     fn refused(&mut self, choice: Choice, refusal: Refusal, reason: &str) -> Result<(), Failure> {
         self.number += 1;
         let sentence = format!("refused {}, as expected: {reason}.", refusal.number);
+        if self.told == Told::Steps || self.draws {
+            let reason = format!("as expected: {reason}");
+            let name = self.acting.clone();
+            self.steps.refused(name, refusal.number, &reason);
+        }
         match self.told {
-            Told::Quiet => {}
+            Told::Quiet | Told::Steps => {}
             Told::Json => {
                 let object = refused_object(&self.lesson, choice, refusal, &sentence);
                 writeln!(self.streams.out, "{object}")?;
             }
-            Told::Sentences | Told::Boards => self.numbered("-", None, &sentence)?,
+            Told::Moves => self.numbered("-", None, &sentence)?,
         }
         Ok(())
     }
 
-    fn board(&mut self, after_choice: bool) -> Result<(), Failure> {
+    /// The hall, where the lesson wants to see it.
+    fn board(&mut self) -> Result<(), Failure> {
         // With --board every choice is followed by one already.
-        let wanted = match self.told {
-            Told::Quiet | Told::Json => false,
-            Told::Boards => after_choice || self.number == 0,
-            Told::Sentences => true,
-        };
-        if !wanted {
+        if self.boards && self.number > 0 {
             return Ok(());
         }
-        let lines = board(&self.lesson, self.streams).lines(self.lesson.now(), 6);
-        self.set_apart(&lines)
+        match self.told {
+            Told::Quiet | Told::Json => Ok(()),
+            Told::Moves => self.set_apart(&self.drawn()),
+            Told::Steps => {
+                self.steps.apart(self.drawn());
+                Ok(())
+            }
+        }
+    }
+
+    fn drawn(&self) -> Vec<String> {
+        board(&self.lesson, self.streams).lines(self.lesson.now(), 6)
     }
 
     fn why(&mut self, position: usize) -> Result<(), Failure> {
-        if matches!(self.told, Told::Quiet | Told::Json) {
-            return Ok(());
-        }
         let hall = self.lesson.rehearsal();
-        let lines: Vec<String> = why(hall.table(), hall.program(), hall.now(), position)
+        let lines = why(hall.table(), hall.program(), hall.now(), position);
+        let lines: Vec<String> = lines
             .into_iter()
-            .map(|line| format!("      {line}"))
+            .flat_map(|line| indented(&line, 6))
             .collect();
-        self.set_apart(&lines)
+        match self.told {
+            Told::Quiet | Told::Json => {}
+            Told::Moves => self.set_apart(&lines)?,
+            Told::Steps => self.steps.apart(lines),
+        }
+        Ok(())
     }
 
     fn set_apart(&mut self, lines: &[String]) -> Result<(), Failure> {
@@ -322,6 +441,7 @@ impl Run<'_, '_, '_> {
             1 => problem.help("1 choice below was not made"),
             _ => problem.help(format!("{left} choices below were not made")),
         };
+        self.tell_steps()?;
         self.streams.out.flush()?;
         if self.told == Told::Json {
             let object = Object::new().raw("problem", problem_object(self.source, &problem));
@@ -344,8 +464,7 @@ impl Run<'_, '_, '_> {
             0 => String::new(),
             refused => format!(", {refused} refused"),
         };
-        writeln!(
-            self.streams.out,
+        let words = format!(
             "{} done{refused}: {}, {} failed at commit, {} gave up. The hall is {}still.",
             counted(
                 u64::try_from(self.lesson.done()).unwrap_or(u64::MAX),
@@ -355,7 +474,10 @@ impl Run<'_, '_, '_> {
             counted(tally.failed.into(), "attempt"),
             counted(tally.retries.into(), "attempt"),
             if still { "" } else { "not " }
-        )?;
+        );
+        for line in wrapped("", &words) {
+            writeln!(self.streams.out, "{line}")?;
+        }
         Ok(())
     }
 }

@@ -6,6 +6,7 @@ use super::still;
 use crate::commands::Failure;
 use crate::json::{self, Object};
 use crate::lesson::Lesson;
+use crate::names::Names;
 use crate::rehearsal::{position_of, Happened};
 use crate::text::tree::Program;
 use crate::ways::count_of;
@@ -30,6 +31,7 @@ pub(crate) fn moved_object(lesson: &Lesson<'_>, happened: &Happened, sentence: &
     let object = Object::new()
         .raw("choice", bytes_of(happened.choice))
         .string("station", happened.before.names.name(happened.position()))
+        .count("position", happened.position())
         .number("moved", happened.rule.number)
         .string("rule", happened.rule.calculus)
         .string("word", happened.rule.word);
@@ -37,7 +39,13 @@ pub(crate) fn moved_object(lesson: &Lesson<'_>, happened: &Happened, sentence: &
         .string("sentence", sentence)
         .string("engine", by_engine(happened.choice, answer))
         .raw("trays", trays.written())
+        .raw("stations", names_of(&happened.after.names))
         .written()
+}
+
+/// The names of those that stand there, by their positions.
+fn names_of(names: &Names) -> String {
+    json::list((0..names.len()).map(|position| json::string(&names.name(position))))
 }
 
 /// With the tray that was short and by how many, where the engine told one.
@@ -61,6 +69,7 @@ pub(crate) fn refused_object(
     Object::new()
         .raw("choice", bytes_of(choice))
         .string("station", lesson.now().names.name(position_of(choice)))
+        .count("position", position_of(choice))
         .number("refused", refusal.number)
         .string("sentence", sentence)
         .string("engine", by_engine(choice, Answer::Refused(refusal.number)))
@@ -87,8 +96,6 @@ pub(crate) fn last_object(lesson: &Lesson<'_>) -> Result<String, Failure> {
             ];
             object.raw(&tray.name, json::list(counts))
         });
-    let names = &hall.now().names;
-    let stations = (0..names.len()).map(|position| json::string(&names.name(position)));
     // A call that a refusal ended, with nothing behind it.
     let ended = match lesson.calls() {
         [.., refused, open] if open.choices.is_empty() => refused.refused,
@@ -104,6 +111,6 @@ pub(crate) fn last_object(lesson: &Lesson<'_>) -> Result<String, Failure> {
         .number("retries", tally.retries)
         .truth("still", still(lesson)?)
         .raw("trays", trays.written())
-        .raw("stations", json::list(stations))
+        .raw("stations", names_of(&hall.now().names))
         .written())
 }

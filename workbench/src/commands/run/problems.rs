@@ -81,7 +81,7 @@ pub(crate) fn lost_problem(
         Lost::Several(count, first) => {
             return Problem::error(span, format!("there are {count} of '{words}'"))
                 .code("lesson")
-                .label(format!("say which, as '{words} {first}'"));
+                .label(format!("say which, as '{first}'"));
         }
         Lost::OtherNumber => Problem::error(span, format!("'{words}' does not stand now")),
     };
