@@ -149,7 +149,10 @@ fn the_first_fault_ends_the_search() {
     assert!(code == 1 && seen < 1_000, "{seen}");
     assert!(out.contains("cut short by --first"), "{out}");
     assert!(
-        out.contains("\"question\": \"c = 21\", \"verdict\": \"not known\""),
+        out.contains(
+            "\"question\": \"c = 21\", \"expected\": \"holds\", \"cost\": null, \
+             \"verdict\": \"not known\""
+        ),
         "{out}"
     );
     let (code, out, _) = explore(&text, &["--first", "--never", "a = 1"]);

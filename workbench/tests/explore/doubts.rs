@@ -210,7 +210,7 @@ fn a_cut_run_never_says_that_something_holds() {
             out.contains("\"complete\": false, \"exact\": false"),
             "{out}"
         );
-        assert!(!out.contains("\"holds\""), "{out}");
+        assert!(!out.contains("\"verdict\": \"holds\""), "{out}");
         arguments.pop();
         arguments.push("--engine");
         let (code, out, _) = explore(text, &arguments);
