@@ -24,7 +24,7 @@ use Rattle.answers.specs.declared.suggestions.SuggestAnswer.{SuggestAnsw
 use Rattle.answers.specs.declared.suggestions.SuggestAnswer.the-variants as suggest
 use Rattle.answers.specs.declared.sentences.SentenceAnswer.{SentenceAnswer}
 use Rattle.answers.specs.declared.sentences.SentenceAnswer.the-variants as sentence
-use Rattle.answers.specs.Answers.{entryOf, shortageIs, countersOf, verdictOf, hallVerdictOf, openAnswerOf, countersLeft, NumbersAre, suggestAnswerOf}
+use Rattle.answers.specs.Answers.{entryOf, shortageOf, countersOf, verdictOf, hallVerdictOf, openAnswerOf, countersLeft, NumbersAre, suggestAnswerOf}
 use Rattle.answers.specs.Answered.{VerdictSet, VerdictAnswered, tallyWords, RunTold, shortageWords, StepTold, choiceWords, SuggestionAnswered, SentenceTold}
 
 -- ---- a choice
@@ -37,12 +37,12 @@ inside-words e p k h = rw h refl
 
 -- ---- a shortage
 
-pub enough-words : (s : Shortage) → s ≡ Enough → 0 ∷ 0 ∷ [] ≡ shortageWords (shortageIs s)
-unfolding shortageIs
+pub enough-words : (s : Shortage) → s ≡ Enough → 0 ∷ 0 ∷ [] ≡ shortageWords (shortageOf s)
+unfolding shortageOf
 enough-words s h = rw h refl
 
-pub short-words : (s : Shortage) (a k : ℕ) → s ≡ Short a k → a ∷ k ∷ [] ≡ shortageWords (shortageIs s)
-unfolding shortageIs
+pub short-words : (s : Shortage) (a k : ℕ) → s ≡ Short a k → a ∷ k ∷ [] ≡ shortageWords (shortageOf s)
+unfolding shortageOf
 short-words s a k h = rw h refl
 
 -- ---- a verdict
@@ -105,7 +105,7 @@ run-told a o same w q = record {
 
 module _ (a : StepAnswer) (lent : Counters) (w : List ℕ) where
   pub step-moved : (by at : ℕ) (lacks : Shortage) (t : Counters) → a ≡ step.Moved by lacks at t → (b : List ℕ) →
-      b ≡ shortageWords (shortageIs lacks) → w ≡ tallyWords (countersOf t) → StepTold a lent 0 at by b w
+      b ≡ shortageWords (shortageOf lacks) → w ≡ tallyWords (countersOf t) → StepTold a lent 0 at by b w
   step-moved by at lacks t h b s q = record {
     told = λ hall.
         rw h

@@ -20,21 +20,21 @@ use Rattle.answers.specs.declared.steps.StepAnswer.the-variants as step
 use Rattle.answers.specs.declared.suggestions.SuggestAnswer.the-variants as suggest
 use Rattle.answers.specs.declared.sentences.SentenceAnswer.{SentenceAnswer}
 use Rattle.answers.specs.declared.sentences.SentenceAnswer.the-variants as sentence
-use Rattle.answers.specs.Answers.{shortageIs, replyIs, verdictOf, hallVerdictOf, openAnswerOf, buffersOf, runCallOf, RunCaseDecided, stepCallOf, StepCaseDecided, entryOf, suggestAnswerOf, sentenceAnswerOf}
+use Rattle.answers.specs.Answers.{shortageOf, replyOf, verdictOf, hallVerdictOf, openAnswerOf, buffersOf, runCallOf, RunCaseDecided, stepCallOf, StepCaseDecided, entryOf, suggestAnswerOf, sentenceAnswerOf}
 use Rattle.answers.specs.Claims.{ShortagesDiffer, RepliesDiffer, VerdictInjective, HallVerdictInjective, OpeningInjective, RunAnswerInjective, StepInjective, SuggestionInjective, SentenceCallInjective}
-use Rattle.answers.proofs.RisingCounters.{counters-injective}
+use Rattle.answers.proofs.Counters.{counters-injective}
 
 -- ---- the reply to a choice
 
 pub shortages-differ : ShortagesDiffer
-unfolding shortageIs
+unfolding shortageOf
 shortages-differ Enough Enough e = refl
 shortages-differ Enough (Short b m) e = absurd (let z : _≡_ {A = ℕ} 0 1 = cc in omega arith)
 shortages-differ (Short a k) Enough e = absurd (let z : _≡_ {A = ℕ} 0 1 = cc in omega arith)
 shortages-differ (Short a k) (Short b m) e = cc
 
 pub replies-differ : RepliesDiffer
-unfolding replyIs
+unfolding replyOf
 replies-differ (reply.Moved r v) (reply.Moved q w) e =
     let rule : r ≡ q = cc in
     let same : v ≡ w = shortages-differ v w (cc) in

@@ -1,4 +1,4 @@
-pub mod RisingCounters
+pub mod Counters
 pub mod Cases
 pub mod TurnCases
 pub mod SentenceBytes

@@ -52,14 +52,14 @@ entryOf (Act p) = moves.act p
 entryOf (Inside p k) = moves.inside p k
 
 -- each case with its numbers
-unfoldable pub shortageIs : Shortage → test.Shortage
-shortageIs Enough = test.enough
-shortageIs (Short a k) = test.short a k
+unfoldable pub shortageOf : Shortage → test.Shortage
+shortageOf Enough = test.enough
+shortageOf (Short a k) = test.short a k
 
-unfoldable pub replyIs : Reply → moves.Reply
-unfolding shortageIs
-replyIs (reply.Moved r w) = moves.movedBy r (shortageIs w)
-replyIs (reply.Refused n) = moves.refusedBy n
+unfoldable pub replyOf : Reply → moves.Reply
+unfolding shortageOf
+replyOf (reply.Moved r w) = moves.movedBy r (shortageOf w)
+replyOf (reply.Refused n) = moves.refusedBy n
 
 -- ---- a tally
 
@@ -146,7 +146,7 @@ countersLeft (run.Refused n p d c) = c
 -- choice moved; rule 0, nothing short and the counters that were lent where it is refused
 abbrev pub stepCallOf : StepAnswer → Buffers → StepCall
 stepCallOf (step.Moved r w p c) l =
-    record { number = 0; place = p; rule = r; shortage = shortageIs w; buffers = buffersOf (l .hall) c }
+    record { number = 0; place = p; rule = r; shortage = shortageOf w; buffers = buffersOf (l .hall) c }
 stepCallOf (step.Refused n p) l = record { number = n; place = p; rule = 0; shortage = test.enough; buffers = l }
 
 -- no refusal has number 0, so that the number tells the case

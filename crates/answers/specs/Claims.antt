@@ -31,16 +31,16 @@ use Rattle.answers.specs.declared.runs.RunAnswer.{RunAnswer}
 use Rattle.answers.specs.declared.steps.StepAnswer.{StepAnswer}
 use Rattle.answers.specs.declared.suggestions.SuggestAnswer.{SuggestAnswer}
 use Rattle.answers.specs.declared.sentences.SentenceAnswer.{SentenceAnswer}
-use Rattle.answers.specs.Answers.{shortageIs, replyIs, buffersOf, verdictOf, hallVerdictOf, openingOf, runCallOf, RunCaseDecided, stepCallOf, StepCaseDecided, suggestAnswerOf, sentenceCallOf}
+use Rattle.answers.specs.Answers.{shortageOf, replyOf, buffersOf, verdictOf, hallVerdictOf, openingOf, runCallOf, RunCaseDecided, stepCallOf, StepCaseDecided, suggestAnswerOf, sentenceCallOf}
 use Rattle.answers.specs.Answered.{VerdictAnswered, OpeningAnswered, TurnAnswered, shortageWords, choiceWords, SuggestionAnswered, replyFrom, SentenceAnswered}
 
 -- ---- no two answers of the code say the same
 
 abbrev pub ShortagesDiffer : Type 0
-ShortagesDiffer = (v w : Shortage) → shortageIs v ≡ shortageIs w → v ≡ w
+ShortagesDiffer = (v w : Shortage) → shortageOf v ≡ shortageOf w → v ≡ w
 
 abbrev pub RepliesDiffer : Type 0
-RepliesDiffer = (a b : Reply) → replyIs a ≡ replyIs b → a ≡ b
+RepliesDiffer = (a b : Reply) → replyOf a ≡ replyOf b → a ≡ b
 
 abbrev pub VerdictInjective : Type 0
 VerdictInjective = (a b : TableVerdict) → verdictOf a ≡ verdictOf b → a ≡ b

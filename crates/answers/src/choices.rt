@@ -15,7 +15,7 @@ pub enum Entry {
 }
 
 // A choice as its kind, position and node; the node of kind 1 is 0.
-pub fn choice_of(entry: Entry) -> [u8; 3]
+pub fn choice_words(entry: Entry) -> [u8; 3]
     ensures { λ r. ⌜ r ≡ choiceWords (entryOf entry) ⌝ }
 {
     match entry {

@@ -1,6 +1,6 @@
 // What running a schedule (document 01's list of choices) answers.
 use crate::tallies::Counters;
-use crate::tallies::tally_of;
+use crate::tallies::tally_words;
 ghost use mathlib.Core.Path.{_≡_};
 ghost use Rattle.answers.specs.Answers.{NumbersAre, countersLeft};
 ghost use Rattle.answers.specs.Answered.{RunTold};
@@ -58,7 +58,7 @@ pub fn numbers_of(answer: RunAnswer) -> RunAsNumbers
 }
 
 // The counters that a run leaves, completed or refused.
-pub fn counters_after(answer: RunAnswer) -> Counters
+pub fn counters_left(answer: RunAnswer) -> Counters
     ensures { λ r. ⌜ r ≡ countersLeft answer ⌝ }
 {
     match answer {
@@ -85,6 +85,6 @@ pub fn tell_run(answer: RunAnswer, tally: &mut [u32; 3], place: &mut usize, done
     let counters = numbers.counters;
     *place = numbers.place;
     *done = numbers.done;
-    *tally = tally_of(counters);
+    *tally = tally_words(counters);
     numbers.number
 }

@@ -1,8 +1,8 @@
 // What making one choice answers.
 use crate::replies::Shortage;
-use crate::replies::shortage_bytes;
+use crate::replies::shortage_words;
 use crate::tallies::Counters;
-use crate::tallies::tally_of;
+use crate::tallies::tally_words;
 ghost use Rattle.answers.specs.Answered.{StepTold};
 
 // The rule by which a choice moved and what it was short of, the place behind it and the counters after it; or the
@@ -42,15 +42,15 @@ pub fn tell_step(
         } => {
             *place = at;
             *rule = moved_by;
-            *shortage = shortage_bytes(lacks);
-            *tally = tally_of(counters);
+            *shortage = shortage_words(lacks);
+            *tally = tally_words(counters);
             0
         }
         StepAnswer::Refused { number, place: at } => {
             *place = at;
             *rule = 0;
             *shortage = [0, 0];
-            *tally = tally_of(before);
+            *tally = tally_words(before);
             number
         }
     }

@@ -1,6 +1,6 @@
 // What suggesting a choice answers.
 use crate::choices::Entry;
-use crate::choices::choice_of;
+use crate::choices::choice_words;
 ghost use Rattle.answers.specs.Answers.{suggestAnswerOf};
 ghost use Rattle.answers.specs.Answered.{SuggestionAnswered};
 
@@ -20,7 +20,7 @@ pub fn tell_suggestion(answer: SuggestAnswer, choice: &mut [u8; 3], place: &mut 
     *choice = [0, 0, 0];
     match answer {
         SuggestAnswer::Suggested(entry) => {
-            *choice = choice_of(entry);
+            *choice = choice_words(entry);
             0
         }
         SuggestAnswer::Still => 0,

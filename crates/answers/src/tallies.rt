@@ -30,7 +30,7 @@ fn counted_at(counts: u8, rule: u8, counter: u32) -> u32
 }
 
 // The tally after a move by the rule of this number: a number that none of the three counts leaves it as it is.
-fn counted_rule(counters: Counters, rule: u8) -> Counters
+fn counted_by(counters: Counters, rule: u8) -> Counters
     ensures { λ r. ⌜ r ≡ countedBy counters rule ⌝ }
 {
     Counters {
@@ -45,7 +45,7 @@ fn counted_rule(counters: Counters, rule: u8) -> Counters
 pub fn count_rule(counters: &mut Counters, rule: u8)
     ensures { λ _. ⌜ now (counters .exit) ≡ countedBy (now (counters .entry)) rule ⌝ }
 {
-    *counters = counted_rule(*counters, rule);
+    *counters = counted_by(*counters, rule);
 }
 
 impl Counters {
@@ -72,7 +72,7 @@ impl Counters {
 }
 
 // Counters as the numbers of a tally.
-pub fn tally_of(counters: Counters) -> [u32; 3]
+pub fn tally_words(counters: Counters) -> [u32; 3]
     ensures { λ r. ⌜ r ≡ tallyWords (countersOf counters) ⌝ }
 {
     [counters.commits, counters.failed, counters.retries]

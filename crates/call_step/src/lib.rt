@@ -40,7 +40,7 @@ fn step_held(
                 rule,
                 shortage,
                 place: bytes.len(),
-                counters: answers::counters_after(answer),
+                counters: answers::counters_left(answer),
             }
         }
         Reply::Refused(number) => StepAnswer::Refused { number, place: 0 },

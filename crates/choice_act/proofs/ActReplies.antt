@@ -9,13 +9,13 @@ use lib.ListN.{getD}
 use Rattle.semantics.specs.Definitions.Terms.{Term}
 use Rattle.semantics.specs.Definitions.Configuration.{transaction, Configuration}
 use Rattle.semantics.specs.Definitions.Stored.{componentBytes}
-use Rattle.semantics.specs.Definitions.Moves.{act, atPosition, entryAnswer, replyOf}
+use Rattle.semantics.specs.Definitions.Moves.{act, atPosition, entryAnswer, asReply}
 use Rattle.table_terms.specs.Decoded.{Decoded}
 use Rattle.hall_layout.specs.Layout.{indexSize}
 use Rattle.answers.specs.declared.replies.Reply.{Reply}
 use Rattle.answers.specs.declared.replies.Shortage.the-variants.{Enough}
 use Rattle.answers.specs.declared.replies.Reply.the-variants.{Moved, Refused}
-use Rattle.answers.specs.Answers.{replyIs}
+use Rattle.answers.specs.Answers.{replyOf}
 use Rattle.hall_held.specs.Holds.{Holds, Running}
 use Rattle.hall_held.specs.Choices.{EntryLooked}
 use Rattle.hall_held.proofs.AcceptedActs.{held-position}
@@ -35,7 +35,7 @@ occupant-is f e = rw e at f
 module _ {d s starts : List ℕ} {n p : ℕ} {o : Occupant} (f : OccupantRead d s starts n p o) where
   -- refusal 14
   pub nothing-looked : {q : ℕ} → o ≡ Nothing → p ≡ q → EntryLooked d s starts n (act q) (Refused 14)
-  unfolding entryAnswer atPosition replyOf replyIs
+  unfolding entryAnswer atPosition asReply replyOf
   nothing-looked is e = rw (← e) (record { found = λ ts h y x. rw (occupant-is f is .found ts h y x) refl })
 
   -- a transaction
@@ -91,7 +91,7 @@ module _ {d s starts : List ℕ} {n p : ℕ} {o : Occupant} (f : OccupantRead d 
 
   -- a block: ATST
   pub block-looked : {q : ℕ} → o ≡ Block → p ≡ q → EntryLooked d s starts n (act q) (Moved 4 Enough)
-  unfolding replyIs
+  unfolding replyOf
   block-looked is e = rw (← e) (record {
     found = λ ts h y x. let (m, M, there) = occupant-is f is .found ts h y x in sym (block-begins x p m M there);
   })

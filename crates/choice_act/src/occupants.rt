@@ -45,7 +45,7 @@ pub fn occupant_at(
     if kind == KIND_OUTPUT {
         return Occupant::Output { channel: body };
     }
-    if table_terms::kind_of(decoded, wide(body)) == ATOM {
+    if table_terms::kind_at(decoded, wide(body)) == ATOM {
         return Occupant::Block;
     }
     Occupant::Take { term: body }

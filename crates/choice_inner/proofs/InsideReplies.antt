@@ -13,14 +13,14 @@ use mir.Val.{Fits}
 use Rattle.semantics.specs.Definitions.Terms.{Term}
 use Rattle.semantics.specs.Definitions.Configuration.{Component, idle, transaction, Configuration}
 use Rattle.semantics.specs.Definitions.Stored.{componentBytes}
-use Rattle.semantics.specs.Definitions.Moves.{inside, actsInside, atPosition, applyAt, entryAnswer, replyOf}
+use Rattle.semantics.specs.Definitions.Moves.{inside, actsInside, atPosition, applyAt, entryAnswer, asReply}
 use Rattle.hall_layout.specs.declared.NodeStart.{NodeStart}
 use Rattle.hall_layout.specs.declared.NodeStart.the-variants.{At, Nowhere}
 use Rattle.hall_layout.specs.Layout.{transactionKind, transactionHead, idleSize, indexSize}
 use Rattle.hall_layout.specs.Nodes.{nodeStart}
 use Rattle.answers.specs.declared.replies.Reply.{Reply}
 use Rattle.answers.specs.declared.replies.Reply.the-variants.{Refused}
-use Rattle.answers.specs.Answers.{replyIs}
+use Rattle.answers.specs.Answers.{replyOf}
 use Rattle.hall_held.specs.Holds.{Holds, Running}
 use Rattle.hall_held.specs.Choices.{EntryLooked}
 use Rattle.hall_held.proofs.AcceptedActs.{held-position}
@@ -54,17 +54,17 @@ can-find-node {d} x = record { decoded = d; running = x }
 module _ {d s starts : List ℕ} {n k : ℕ} where
   -- refusal 14 before refusal 15
   pub inside-past : {p : ℕ} → n ≤ p → EntryLooked d s starts n (inside p k) (Refused 14)
-  unfolding entryAnswer atPosition replyOf replyIs
+  unfolding entryAnswer atPosition asReply replyOf
   inside-past {p} l = record { found = λ ts h y x. rw (no-component x p l) refl }
 
   pub inside-idle : {p : ℕ} → p < n → (getD s (getD starts p 0) 0 ≡ transactionKind → ⊥) →
       EntryLooked d s starts n (inside p k) (Refused 15)
-  unfolding entryAnswer atPosition applyAt actsInside componentBytes replyOf replyIs
+  unfolding entryAnswer atPosition applyAt actsInside componentBytes asReply replyOf
   inside-idle {p} l other = record { found = λ ts h y x. let (c, there) = component-at x p l in go ts h x c there }
     where
       go : (ts : List Term) (h : Configuration) → Holds ts h s starts n → (c : Component) →
           getElem? (h .components) p ≡ some c →
-          replyIs (Refused 15) ≡ replyOf (entryAnswer h (inside p k))
+          replyOf (Refused 15) ≡ asReply (entryAnswer h (inside p k))
       go ts h x (idle c) there = rw there refl
       go ts h x (transaction m M σ t) there = absurd (other (kind-here x p (transaction m M σ t) there))
 

@@ -21,7 +21,7 @@ use Rattle.answers.specs.declared.replies.Reply.{Reply}
 use Rattle.answers.specs.declared.replies.Reply.the-variants as reply
 use Rattle.answers.specs.declared.tallies.Counters as code
 use Rattle.answers.specs.Answers.{countersOf, countedBy, entryOf}
-use Rattle.answers.proofs.RisingCounters.{counted-by}
+use Rattle.answers.proofs.Counters.{counted-by}
 use Rattle.hall_held.specs.Holds.{Holds, Running}
 use Rattle.hall_held.specs.Choices.{EntryMade}
 use Rattle.hall_held.proofs.Holds.{hall-length}

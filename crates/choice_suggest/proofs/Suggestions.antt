@@ -13,7 +13,7 @@ use Rattle.semantics.specs.Definitions.Terms.{Term}
 use Rattle.semantics.specs.Definitions.Configuration.{Component, idle, transaction, Configuration, nodes}
 use Rattle.semantics.specs.Definitions.Moves as moves
 use Rattle.semantics.specs.Definitions.Shortage as test
-use Rattle.semantics.specs.Definitions.Moves.{act, inside, insideAnswer, actsInside, EntryAnswer, does, refuses, movedBy, refusedBy, applyAt, atPosition, entryAnswer, transitionOf, transition, replyOf, isMoved, isAccepted}
+use Rattle.semantics.specs.Definitions.Moves.{act, inside, insideAnswer, actsInside, EntryAnswer, does, refuses, movedBy, refusedBy, applyAt, atPosition, entryAnswer, transitionOf, transition, asReply, isMoved, isAccepted}
 use Rattle.semantics.specs.Definitions.Stored.{ComponentOk}
 use Rattle.semantics.specs.Definitions.Suggestion.{entriesBelow, firstAccepted}
 use Rattle.theorems.proofs.FirstElements.{passes-alone, fails-alone, none-yet, next-decides, next-found, none-kept, none-below}
@@ -23,7 +23,7 @@ use Rattle.hall_laws.proofs.Nodes.{few-nodes, beyond-nodes, move-at-past}
 use Rattle.answers.specs.declared.replies.Reply.{Reply}
 use Rattle.answers.specs.declared.replies.Shortage.{Shortage}
 use Rattle.answers.specs.declared.replies.Reply.the-variants.{Moved, Refused}
-use Rattle.answers.specs.Answers.{shortageIs, replyIs, entryOf}
+use Rattle.answers.specs.Answers.{shortageOf, replyOf, entryOf}
 use Rattle.hall_held.specs.Holds.{Holds, Running}
 use Rattle.hall_held.specs.Choices.{EntryLooked}
 use Rattle.hall_held.proofs.Holds.{component-ok}
@@ -38,24 +38,24 @@ use Rattle.choice_suggest.specs.Suggestions.{Always, firstIn, FirstFound
 
 -- ---- a look and its answer
 
-reply-moved : (a : EntryAnswer) (rule : ℕ) (w : test.Shortage) → replyOf a ≡ movedBy rule w → isMoved (transitionOf a) ≡ true
-unfolding replyOf isMoved transitionOf
+reply-moved : (a : EntryAnswer) (rule : ℕ) (w : test.Shortage) → asReply a ≡ movedBy rule w → isMoved (transitionOf a) ≡ true
+unfolding asReply isMoved transitionOf
 reply-moved (does r v g) rule w e = refl
 reply-moved (refuses m) rule w e = let z : _≡_ {A = ℕ} 0 1 = cc in absurd (omega arith)
 
-reply-refused : (a : EntryAnswer) (m : ℕ) → replyOf a ≡ refusedBy m → isMoved (transitionOf a) ≡ false
-unfolding replyOf isMoved transitionOf
+reply-refused : (a : EntryAnswer) (m : ℕ) → asReply a ≡ refusedBy m → isMoved (transitionOf a) ≡ false
+unfolding asReply isMoved transitionOf
 reply-refused (does r w g) m e = let z : _≡_ {A = ℕ} 0 1 = cc in absurd (omega arith)
 reply-refused (refuses k) m e = refl
 
 module _ {d s starts : List ℕ} {n : ℕ} {e : moves.Entry} {r : Reply} (l : EntryLooked d s starts n e r) where
   looked-moved : (rule : ℕ) (w : Shortage) → r ≡ Moved rule w → Always d s starts n (λ h. isAccepted h e ≡ true)
-  unfolding replyIs isAccepted transition
-  looked-moved rule w q ts h y x = reply-moved (entryAnswer h e) rule (shortageIs w) (sym (l .found ts h y x) ∙ ap replyIs q)
+  unfolding replyOf isAccepted transition
+  looked-moved rule w q ts h y x = reply-moved (entryAnswer h e) rule (shortageOf w) (sym (l .found ts h y x) ∙ ap replyOf q)
 
   looked-refused : (m : ℕ) → r ≡ Refused m → Always d s starts n (λ h. isAccepted h e ≡ false)
-  unfolding replyIs isAccepted transition
-  looked-refused m q ts h y x = reply-refused (entryAnswer h e) m (sym (l .found ts h y x) ∙ ap replyIs q)
+  unfolding replyOf isAccepted transition
+  looked-refused m q ts h y x = reply-refused (entryAnswer h e) m (sym (l .found ts h y x) ∙ ap replyOf q)
 
 -- ---- entries that need no look
 

@@ -76,13 +76,13 @@ pub fn term_kind(decoded: &[u8; DECODED], n: usize, byte: u8) -> u8
 {
     let i = wide(byte);
     if i < n {
-        return table_terms::kind_of(decoded, i);
+        return table_terms::kind_at(decoded, i);
     }
     0
 }
 
 // Whether a component may wait on a term of this kind: takes, repeated or not, and blocks.
-pub fn waits_on(kind: u8) -> bool
+pub fn waits(kind: u8) -> bool
     ensures { λ r. ⌜ r ≡ waits kind ⌝ }
 {
     if kind == TAKE {
@@ -139,7 +139,7 @@ pub fn component_scan(decoded: &[u8; DECODED], n: usize, s: &[u8], at: usize) ->
     let body = s[at + COMPONENT_BODY];
     match s[at] {
         KIND_WAITING => {
-            if waits_on(term_kind(decoded, n, body)) {
+            if waits(term_kind(decoded, n, body)) {
                 return Scan::Next(next);
             }
             Scan::Malformed

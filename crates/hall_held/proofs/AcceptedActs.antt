@@ -13,7 +13,7 @@ use Rattle.semantics.specs.Definitions.Layout.{maxComponents}
 use Rattle.semantics.specs.Definitions.Shortage.{Shortage}
 use Rattle.semantics.specs.Definitions.Terms.{Term}
 use Rattle.semantics.specs.Definitions.Configuration.{Component, Configuration}
-use Rattle.semantics.specs.Definitions.Moves.{Entry, act, acts, moves, EntryAnswer, does, refuses, entryAnswer, moved, transitionOf, transition, ruleNumber, movedBy, replyOf}
+use Rattle.semantics.specs.Definitions.Moves.{Entry, act, acts, moves, EntryAnswer, does, refuses, entryAnswer, moved, transitionOf, transition, ruleNumber, movedBy, asReply}
 use Rattle.semantics.specs.Definitions.Stored.{WellFormed}
 use Rattle.theorems.proofs.Lists.{length-replaceAt}
 use Rattle.theorems.proofs.Moves.{positionOf, componentAnswer, accepted-inverts}
@@ -26,11 +26,11 @@ use Rattle.hall_held.proofs.Holds.{few-components, position-below}
 
 -- ---- an entry that is accepted by a rule of number k
 
-pub by-number : (h : Configuration) (e : Entry) (k : ℕ) (w : Shortage) → replyOf (entryAnswer h e) ≡ movedBy k w → AcceptedBy h e k
-unfolding replyOf transition transitionOf
+pub by-number : (h : Configuration) (e : Entry) (k : ℕ) (w : Shortage) → asReply (entryAnswer h e) ≡ movedBy k w → AcceptedBy h e k
+unfolding asReply transition transitionOf
 by-number h e k w q = go (entryAnswer h e) refl q
   where
-    go : (a : EntryAnswer) → entryAnswer h e ≡ a → replyOf a ≡ movedBy k w → AcceptedBy h e k
+    go : (a : EntryAnswer) → entryAnswer h e ≡ a → asReply a ≡ movedBy k w → AcceptedBy h e k
     go (does r v g) f same = record { rule = r; result = g; answer = ap transitionOf f; numbered = cc }
     go (refuses n) f same = let z : _≡_ {A = ℕ} 0 1 = cc in absurd (omega arith)
 

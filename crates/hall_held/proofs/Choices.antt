@@ -5,21 +5,21 @@ use native.Mathlib.Omega.{arith}
 use mathlib.Core.Path.{_≡_, refl, sym, ap, _∙_}
 use mathlib.Core.List.{List}
 use Rattle.semantics.specs.Definitions.Configuration.{Configuration}
-use Rattle.semantics.specs.Definitions.Moves.{Entry, EntryAnswer, does, refuses, entryAnswer, transitionOf, transition, refusedBy, replyOf}
+use Rattle.semantics.specs.Definitions.Moves.{Entry, EntryAnswer, does, refuses, entryAnswer, transitionOf, transition, refusedBy, asReply}
 use Rattle.answers.specs.declared.replies.Shortage.{Shortage}
 use Rattle.answers.specs.declared.replies.Reply.{Reply}
 use Rattle.answers.specs.declared.replies.Reply.the-variants.{Moved, Refused}
-use Rattle.answers.specs.Answers.{shortageIs, replyIs}
+use Rattle.answers.specs.Answers.{shortageOf, replyOf}
 use Rattle.hall_held.specs.Holds.{Running}
 use Rattle.hall_held.specs.Choices.{afterwards, EntryLooked, CanApply, Applied, EntryMade}
 use Rattle.hall_held.proofs.AcceptedActs.{by-number}
 
 -- a refusal leaves the configuration as it was
-refused-leaves : (e : Entry) (h : Configuration) (m : ℕ) → replyOf (entryAnswer h e) ≡ refusedBy m → afterwards (transition h e) h ≡ h
-unfolding replyOf afterwards transition transitionOf
+refused-leaves : (e : Entry) (h : Configuration) (m : ℕ) → asReply (entryAnswer h e) ≡ refusedBy m → afterwards (transition h e) h ≡ h
+unfolding asReply afterwards transition transitionOf
 refused-leaves e h m q = go (entryAnswer h e) q
   where
-    go : (a : EntryAnswer) → replyOf a ≡ refusedBy m → afterwards (transitionOf a) h ≡ h
+    go : (a : EntryAnswer) → asReply a ≡ refusedBy m → afterwards (transitionOf a) h ≡ h
     go (does r w g) q = let z : _≡_ {A = ℕ} 0 1 = cc in absurd (omega arith)
     go (refuses k) q = refl
 
@@ -28,34 +28,34 @@ module _ {d s starts : List ℕ} {n : ℕ} where
   pub looked-can-apply : {e : Entry} {r : Reply} {rule : ℕ} {w : Shortage} → Running d s starts n → EntryLooked d s starts n e r →
       r ≡ Moved rule w →
       CanApply d s starts n e rule
-  unfolding replyIs
+  unfolding replyOf
   looked-can-apply {e} {rule = rule} {w} x l q = record {
     terms = x .terms;
     configuration = x .configuration;
     decoded = x .decoded;
     holds = x .holds;
     by =
-        by-number (x .configuration) e rule (shortageIs w)
-        (sym (l .found (x .terms) (x .configuration) (x .decoded) (x .holds)) ∙ ap replyIs q);
+        by-number (x .configuration) e rule (shortageOf w)
+        (sym (l .found (x .terms) (x .configuration) (x .decoded) (x .holds)) ∙ ap replyOf q);
   }
 
   -- one that is made
   pub entry-made-moved : {e : Entry} {r : Reply} {rule : ℕ} {w : Shortage} {s′ starts′ : List ℕ} {n′ : ℕ} → EntryLooked d s starts n e r →
       r ≡ Moved rule w →
       Applied d s starts n e rule s′ starts′ n′ → EntryMade d s starts n e (Moved rule w) s′ starts′ n′
-  unfolding replyIs
+  unfolding replyOf
   entry-made-moved {e} {rule = rule} {w} l q a = record {
     looked = rw q at l;
-    found = λ ts h y x. a .found ts h y x (by-number h e rule (shortageIs w) (sym (l .found ts h y x) ∙ ap replyIs q));
+    found = λ ts h y x. a .found ts h y x (by-number h e rule (shortageOf w) (sym (l .found ts h y x) ∙ ap replyOf q));
   }
 
   -- and one that is refused
   pub entry-made-refused : {e : Entry} {r : Reply} {m : ℕ} → EntryLooked d s starts n e r → r ≡ Refused m →
       EntryMade d s starts n e (Refused m) s starts n
-  unfolding replyIs
+  unfolding replyOf
   entry-made-refused {e} {r} {m} l q = record {
     looked = rw q at l;
-    found = λ ts h y x. rw (refused-leaves e h m (sym (l .found ts h y x) ∙ ap replyIs q)) x;
+    found = λ ts h y x. rw (refused-leaves e h m (sym (l .found ts h y x) ∙ ap replyOf q)) x;
   }
 
   -- what is held afterwards is a run's again

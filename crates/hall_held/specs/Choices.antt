@@ -8,10 +8,10 @@ use mathlib.Core.List.{List}
 use Rattle.calculus.specs.Reduction.{Rule}
 use Rattle.semantics.specs.Definitions.Terms.{Term}
 use Rattle.semantics.specs.Definitions.Configuration.{Configuration}
-use Rattle.semantics.specs.Definitions.Moves.{Entry, entryAnswer, Transition, moved, refused, transition, ruleNumber, replyOf}
+use Rattle.semantics.specs.Definitions.Moves.{Entry, entryAnswer, Transition, moved, refused, transition, ruleNumber, asReply}
 use Rattle.table_terms.specs.Decoded.{Decoded}
 use Rattle.answers.specs.declared.replies.Reply.{Reply}
-use Rattle.answers.specs.Answers.{replyIs}
+use Rattle.answers.specs.Answers.{replyOf}
 use Rattle.hall_held.specs.Holds.{Holds}
 
 -- the configuration after an answer: a refusal leaves it as it was
@@ -22,7 +22,7 @@ afterwards (refused n) h = h
 -- r is what the entry is answered, whichever configuration of whichever table is held
 pub record EntryLooked (d s starts : List ℕ) (n : ℕ) (e : Entry) (r : Reply) : Type 0 where
   pub found : (ts : List Term) (h : Configuration) → Decoded ts d → Holds ts h s starts n →
-      replyIs r ≡ replyOf (entryAnswer h e)
+      replyOf r ≡ asReply (entryAnswer h e)
 
 -- an entry is accepted on a configuration, by a rule of this number
 pub record AcceptedBy (h : Configuration) (e : Entry) (number : ℕ) : Type 0 where

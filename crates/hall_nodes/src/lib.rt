@@ -45,12 +45,12 @@ pub fn remaining_at(decoded: &[u8; DECODED], n: usize, byte: u8) -> Remaining
 {
     let i = wide(byte);
     if i < n {
-        if table_records::class_of(table_terms::kind_of(decoded, i)) != EXPRESSION {
+        if table_records::class_of(table_terms::kind_at(decoded, i)) != EXPRESSION {
             return Remaining::Unknown;
         }
         return Remaining::Measured {
-            branches: table_terms::breadth_of(decoded, i),
-            length: table_terms::length_of(decoded, i),
+            branches: table_terms::breadth_at(decoded, i),
+            length: table_terms::length_at(decoded, i),
         };
     }
     if byte == NO_TERM {
@@ -70,7 +70,7 @@ pub fn excess(byte: u8, limit: u8) -> u8
 }
 
 // The largest byte that may stand at a place.
-fn limit_at(place: u8) -> u8
+fn place_limit(place: u8) -> u8
     ensures { λ r. ⌜ r ≡ placeLimit place ⌝ }
 {
     if place < ZEROS { ACTIONS - 1 } else { 0 }
@@ -79,7 +79,7 @@ fn limit_at(place: u8) -> u8
 // Whether the 16 bytes at an offset are a log of `size` actions, with zeros behind them. Each byte is held against
 // its limit with no way out of the loop, so that all are compared at once. The limits are computed: a table of them would
 // be stored for each log, and a load across two stores waits for both.
-pub fn log_at(s: &[u8], at: usize, size: usize) -> bool
+pub fn is_log(s: &[u8], at: usize, size: usize) -> bool
     requires { ⌜ (size ≤ logSize) × (at + logSize ≤ length (now s)) ⌝ }
     ensures { λ r. ⌜ r ≡ isLog size (take logSize (drop at (now (s .entry)))) ⌝ }
 {
@@ -87,7 +87,7 @@ pub fn log_at(s: &[u8], at: usize, size: usize) -> bool
     let mut exceeded: u8 = 0;
     let mut i: u8 = 0;
     while i < LOG_SIZE as u8 {
-        exceeded = larger(exceeded, excess(s[at + wide(i)], limit_at(first + i)));
+        exceeded = larger(exceeded, excess(s[at + wide(i)], place_limit(first + i)));
         i += 1;
     }
     exceeded == 0
@@ -106,7 +106,7 @@ pub fn leaf_at(decoded: &[u8; DECODED], n: usize, s: &[u8], at: usize) -> NodeTe
     if LOG_SIZE < size + wide(length) {
         return NodeTest::Malformed;
     }
-    if log_at(s, at + LEAF_LOG, size) {
+    if is_log(s, at + LEAF_LOG, size) {
         return NodeTest::Branches(branches);
     }
     NodeTest::Malformed

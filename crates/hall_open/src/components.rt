@@ -37,9 +37,9 @@ pub fn write_single(decoded: &[u8; DECODED], term: usize, hall: &mut [u8], at: u
     requires { ⌜ (kindAt (now decoded) term ≡ kindByte parK → ⊥) ⌝ }
     ensures { λ r. ⌜ ComponentsWritten (now (decoded .entry)) term (now (hall .entry)) at (now (hall .exit)) r ⌝ }
 {
-    match table_terms::kind_of(decoded, term) {
+    match table_terms::kind_at(decoded, term) {
         NIL => at,
-        PUT => write_idle(hall, at, KIND_OUTPUT, table_terms::first_of(decoded, term)),
+        PUT => write_idle(hall, at, KIND_OUTPUT, table_terms::first_at(decoded, term)),
         _ => write_idle(hall, at, KIND_WAITING, term as u8),
     }
 }

@@ -53,9 +53,9 @@ pub fn turn(
     let waiting = from.waiting;
     let term = from.next;
     let below = waiting - 1;
-    if table_terms::kind_of(decoded, term) == PAR {
-        let left = table_terms::first_of(decoded, term);
-        let right = table_terms::second_of(decoded, term);
+    if table_terms::kind_at(decoded, term) == PAR {
+        let left = table_terms::first_at(decoded, term);
+        let right = table_terms::second_at(decoded, term);
         let more = waiting + 1;
         stack[below] = right;
         stack[waiting] = left;

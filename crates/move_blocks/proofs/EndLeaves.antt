@@ -22,7 +22,7 @@ use Rattle.hall_layout.specs.Layout.{channels, maxActions, maxComponents, idleS
 use Rattle.answers.specs.declared.replies.Shortage.{Shortage}
 use Rattle.answers.specs.declared.replies.Shortage.the-variants.{Enough, Short}
 use Rattle.answers.specs.declared.replies.Reply.the-variants.{Moved, Refused}
-use Rattle.answers.specs.Answers.{shortageIs, replyIs}
+use Rattle.answers.specs.Answers.{shortageOf, replyOf}
 use Rattle.hall_held.specs.Holds.{Holds}
 use Rattle.hall_held.proofs.Holds.{sixteen}
 use Rattle.move_logs.specs.declared.Outputs.{Outputs}
@@ -112,28 +112,28 @@ module _ (s : List ℕ) (leaf n : ℕ) (x : CanLookCommit s leaf n) where
 -- ---- the reply to a commit
 
 module _ (s : List ℕ) (leaf n size : ℕ) (r : Shortage) (e : size ≡ getD s (leaf + leafLogLength) 0)
-    (g : shortageIs r ≡ shortAt (take size (drop (leaf + leafLog) s)) s 0) where
-  short-here : {σ : State} {δ : Log} → EndLogAt s leaf σ δ → shortageIs r ≡ shortage σ δ
+    (g : shortageOf r ≡ shortAt (take size (drop (leaf + leafLog) s)) s 0) where
+  short-here : {σ : State} {δ : Log} → EndLogAt s leaf σ δ → shortageOf r ≡ shortage σ δ
   short-here {σ} {δ} y = stored-shortage s (leaf + leafLog) size δ (y .log) (e ∙ y .size) 0 σ _ (y .counts) g
 
   -- ATFAIL
   pub commit-fails : (a k : ℕ) → r ≡ Short a k → CommitLooked s leaf n (Moved 6 (Short a k))
-  unfolding replyIs shortageIs commitReply readable isEnough
+  unfolding replyOf shortageOf commitReply readable isEnough
   commit-fails a k q = record {
-    found = λ σ δ y. let is : shortage σ δ ≡ short a k = sym (short-here y) ∙ ap shortageIs q in rw is;
+    found = λ σ δ y. let is : shortage σ δ ≡ short a k = sym (short-here y) ∙ ap shortageOf q in rw is;
   }
 
   module _ (o : Outputs) (w : OutputsAre o (writesOf (take size (drop (leaf + leafLog) s)))) (q : r ≡ Enough) where
     enough-here : {σ : State} {δ : Log} → EndLogAt s leaf σ δ → readable σ δ ≡ true
-    unfolding shortageIs readable isEnough
-    enough-here y = ap isEnough (sym (short-here y) ∙ ap shortageIs q)
+    unfolding shortageOf readable isEnough
+    enough-here y = ap isEnough (sym (short-here y) ∙ ap shortageOf q)
 
     many-here : {σ : State} {δ : Log} → EndLogAt s leaf σ δ → o .count ≡ length (WT δ)
     many-here {σ} {δ} y = stored-outputs-count s (leaf + leafLog) size δ (y .log) (e ∙ y .size) o w
 
     -- refused by the number of components
     pub commit-crowded : maxComponents < n - 1 + o .count → CommitLooked s leaf n (Refused 19)
-    unfolding replyIs commitReply
+    unfolding replyOf commitReply
     commit-crowded l = record {
       found = λ σ δ y.
           let c = many-here y in
@@ -143,7 +143,7 @@ module _ (s : List ℕ) (leaf n size : ℕ) (r : Shortage) (e : size ≡ getD s 
 
     -- ATOK
     pub commit-done : n - 1 + o .count ≤ maxComponents → CommitLooked s leaf n (Moved 7 Enough)
-    unfolding replyIs commitReply
+    unfolding replyOf commitReply
     commit-done l = record {
       found = λ σ δ y.
           let c = many-here y in

@@ -20,7 +20,7 @@ use Rattle.semantics.specs.Definitions.Terms.{Expression, endT, retryT, rdT, wt
 use Rattle.semantics.specs.Definitions.Shortage.{Shortage, enough}
 use Rattle.semantics.specs.Definitions.Logs.{shortage, readable}
 use Rattle.semantics.specs.Definitions.Configuration.{block, output, Tree, leaf, fork, Component, idle, transaction, Configuration}
-use Rattle.semantics.specs.Definitions.Moves.{act, moves, blocked, commits, ends, acts, EntryAnswer, applyAt, entryAnswer, ruleNumber, Reply, movedBy, refusedBy, replyOf}
+use Rattle.semantics.specs.Definitions.Moves.{act, moves, blocked, commits, ends, acts, EntryAnswer, applyAt, entryAnswer, ruleNumber, Reply, movedBy, refusedBy, asReply}
 use Rattle.theorems.proofs.Lists.{found-below, length-replaceAt}
 use Rattle.theorems.proofs.Moves.{positionOf, componentAnswer, chosen-at}
 use Rattle.table_records.specs.Shapes.{kindByte}
@@ -29,7 +29,7 @@ use Rattle.hall_laws.specs.ReadParts.{termKind}
 use Rattle.answers.specs.declared.replies.Reply as code
 use Rattle.answers.specs.declared.replies.Shortage.the-variants.{Enough}
 use Rattle.answers.specs.declared.replies.Reply.the-variants.{Moved, Refused}
-use Rattle.answers.specs.Answers.{replyIs}
+use Rattle.answers.specs.Answers.{replyOf}
 use Rattle.hall_held.specs.Holds.{Holds}
 use Rattle.hall_held.proofs.Holds.{hall-length, few-components}
 use Rattle.move_leaves.specs.Leaves.{CanReadNode, LeafKindRead, kindOfNode, TransactionAt}
@@ -39,7 +39,7 @@ use Rattle.move_blocks.proofs.EndLeaves.{end-log-at}
 
 -- ---- the reply to an act
 
-reply-cond : (b : Bool) (x y : EntryAnswer) → replyOf (cond b x y) ≡ cond b (replyOf x) (replyOf y)
+reply-cond : (b : Bool) (x y : EntryAnswer) → asReply (cond b x y) ≡ cond b (asReply x) (asReply y)
 reply-cond true x y = refl
 reply-cond false x y = refl
 
@@ -47,26 +47,26 @@ module _ {ts : List Term} {h : Configuration} {s starts : List ℕ} {n : ℕ} (y
     (c : Component)
     (e : getElem? (h .components) p ≡ some c) where
   -- a component that has nothing to do
-  reply-blocked : (k : ℕ) → acts (h .counts) c ≡ blocked k → replyOf (entryAnswer h (act p)) ≡ refusedBy k
-  unfolding positionOf componentAnswer applyAt replyOf
-  reply-blocked k q = ap replyOf (chosen-at h (act p) c e) ∙ rw q
+  reply-blocked : (k : ℕ) → acts (h .counts) c ≡ blocked k → asReply (entryAnswer h (act p)) ≡ refusedBy k
+  unfolding positionOf componentAnswer applyAt asReply
+  reply-blocked k q = ap asReply (chosen-at h (act p) c e) ∙ rw q
 
   -- one that gives way to others: refused where too many are left
   reply-moves : (r : Rule) (w : Shortage) (τ : State) (cs : List Component) → acts (h .counts) c ≡ moves r w τ cs →
-      replyOf (entryAnswer h (act p)) ≡ cond (leb (n - 1 + length cs) maxComponents) (movedBy (ruleNumber r) w)
+      asReply (entryAnswer h (act p)) ≡ cond (leb (n - 1 + length cs) maxComponents) (movedBy (ruleNumber r) w)
       (refusedBy 19)
-  unfolding positionOf componentAnswer applyAt replyOf
+  unfolding positionOf componentAnswer applyAt asReply
   reply-moves r w τ cs q =
       let below = found-below (h .components) p c e in
       let counted = y .counted in
       let l = length-replaceAt (h .components) cs p below in
       let many : length (replaceAt p cs (h .components)) ≡ n - 1 + length cs = omega arith in
-      ap replyOf (chosen-at h (act p) c e)
+      ap asReply (chosen-at h (act p) c e)
       ∙ rw q (reply-cond (leb (length (replaceAt p cs (h .components))) maxComponents) _ _ ∙ rw many)
 
   -- one that gives way to one
   reply-moves-one : (r : Rule) (w : Shortage) (τ : State) (d : Component) → acts (h .counts) c ≡ moves r w τ (d ∷ []) →
-      replyOf (entryAnswer h (act p)) ≡ movedBy (ruleNumber r) w
+      asReply (entryAnswer h (act p)) ≡ movedBy (ruleNumber r) w
   reply-moves-one r w τ d q =
       let few = few-components y in
       let below = found-below (h .components) p c e in
@@ -80,17 +80,17 @@ module _ {ts : List Term} {h : Configuration} {s starts : List ℕ} {n : ℕ} (y
     (M : Expression) (σ : State) where
   -- at a retry leaf
   retry-reply : (e : ℕ) (δ : Log) → getElem? (h .components) p ≡ some (transaction m M σ (leaf (retryT e) δ)) →
-      replyOf (entryAnswer h (act p)) ≡ movedBy 5 enough
+      asReply (entryAnswer h (act p)) ≡ movedBy 5 enough
   unfolding acts ends ruleNumber
   retry-reply e δ f = reply-moves-one y p _ f _ enough (h .counts) (idle (block m M)) refl
 
   -- at an end leaf
   end-reply : (e : ℕ) (δ : Log) → getElem? (h .components) p ≡ some (transaction m M σ (leaf (endT e) δ)) →
-      replyOf (entryAnswer h (act p)) ≡ commitReply (h .counts) δ n
+      asReply (entryAnswer h (act p)) ≡ commitReply (h .counts) δ n
   unfolding acts ends commits ruleNumber commitReply
   end-reply e δ f = go (readable (h .counts) δ) refl
     where
-      go : (b : Bool) → readable (h .counts) δ ≡ b → replyOf (entryAnswer h (act p)) ≡ commitReply (h .counts) δ n
+      go : (b : Bool) → readable (h .counts) δ ≡ b → asReply (entryAnswer h (act p)) ≡ commitReply (h .counts) δ n
       go true q =
           rw q (reply-moves y p _ f (ATOK δ) enough (without (h .counts) (RD δ)) (map (λ a. idle (output a)) (WT δ)) (rw q)
           ∙ rw (length-map (WT δ) (λ a. idle (output a))))
@@ -99,7 +99,7 @@ module _ {ts : List Term} {h : Configuration} {s starts : List ℕ} {n : ℕ} (y
   -- while there is more to do
   more-reply : (t : Tree) → getElem? (h .components) p ≡ some (transaction m M σ t) →
       ends (h .counts) m M t ≡ blocked 15 →
-      replyOf (entryAnswer h (act p)) ≡ refusedBy 15
+      asReply (entryAnswer h (act p)) ≡ refusedBy 15
   unfolding acts
   more-reply t f q = reply-blocked y p _ f 15 q
 
@@ -166,7 +166,7 @@ module _ (d s : List ℕ) (n at : ℕ) (x : CanLookEnd d s n at) where
 
 module _ (d s : List ℕ) (n at : ℕ) where
   pub look-retry : (k : ℕ) → LeafKindRead d s (at + transactionHead) k → k ≡ kindByte retryK → EndLooked d s n at (Moved 5 Enough)
-  unfolding replyIs
+  unfolding replyOf
   look-retry k q same = record {
     found = λ ts h starts p w.
         let f = transaction-parts w in
@@ -189,7 +189,7 @@ module _ (d s : List ℕ) (n at : ℕ) where
   pub look-more : (k : ℕ) → LeafKindRead d s (at + transactionHead) k → (k ≡ kindByte endK → ⊥) →
       (k ≡ kindByte retryK → ⊥) →
       EndLooked d s n at (Refused 15)
-  unfolding replyIs
+  unfolding replyOf
   look-more k q no-end no-retry = record {
     found = λ ts h starts p w.
         let f = transaction-parts w in

@@ -13,7 +13,7 @@ use Rattle.semantics.specs.Definitions.Logs.{emptyLog}
 use Rattle.semantics.specs.Definitions.Configuration.{block, leaf, Component, idle, transaction, Configuration}
 use Rattle.semantics.specs.Definitions.Stored.{treeBytes, componentBytes, ComponentOk}
 use Rattle.semantics.specs.Definitions.Shortage.{enough}
-use Rattle.semantics.specs.Definitions.Moves.{act, acts, entryAnswer, transition, ruleNumber, movedBy, replyOf}
+use Rattle.semantics.specs.Definitions.Moves.{act, acts, entryAnswer, transition, ruleNumber, movedBy, asReply}
 use Rattle.theorems.proofs.Lists.{found-below, length-replaceAt}
 use Rattle.theorems.proofs.Moves.{positionOf, componentAnswer, entry-answer-made}
 use Rattle.table_terms.specs.Decoded.{Decoded, maxTerms, firstAt}
@@ -155,8 +155,8 @@ module _ (d s starts : List ℕ) (n p b e : ℕ) (new : List ℕ) (f : b ≡ get
 -- ATST is never refused: the number of components stays
 pub block-begins : {ts : List Term} {h : Configuration} {s starts : List ℕ} {n : ℕ} → Holds ts h s starts n →
     (p m : ℕ) (M : Expression) → getElem? (h .components) p ≡ some (idle (block m M)) →
-    replyOf (entryAnswer h (act p)) ≡ movedBy 4 enough
-unfolding positionOf componentAnswer acts replyOf ruleNumber
+    asReply (entryAnswer h (act p)) ≡ movedBy 4 enough
+unfolding positionOf componentAnswer acts asReply ruleNumber
 block-begins {h = h} y p m M there =
     let few = y .form .few in
     let same = length-replaceAt (h .components) (transaction m M (h .counts) (leaf M emptyLog) ∷ []) p

@@ -17,11 +17,11 @@ use Rattle.semantics.specs.Definitions.Terms.{Term}
 use Rattle.semantics.specs.Definitions.Configuration.{Configuration}
 use Rattle.semantics.specs.Definitions.Logs.{shortage, readable}
 use Rattle.semantics.specs.Definitions.Moves as moves
-use Rattle.semantics.specs.Definitions.Moves.{act, entryAnswer, replyOf}
+use Rattle.semantics.specs.Definitions.Moves.{act, entryAnswer, asReply}
 use Rattle.hall_layout.specs.Layout.{maxComponents, leafLogLength, leafLog}
 use Rattle.move_logs.specs.LogOffsets.{LogAt, CountsAt}
 use Rattle.answers.specs.declared.replies.Reply.{Reply}
-use Rattle.answers.specs.Answers.{replyIs}
+use Rattle.answers.specs.Answers.{replyOf}
 use Rattle.hall_held.specs.Choices.{CanApply, Applied}
 use Rattle.move_leaves.specs.Leaves.{TransactionAt}
 
@@ -38,7 +38,7 @@ pub record CanLookEnd (d s : List ℕ) (n at : ℕ) : Type 0 where
 -- r is what an act is answered there, whichever transaction it is
 pub record EndLooked (d s : List ℕ) (n at : ℕ) (r : Reply) : Type 0 where
   pub found : (ts : List Term) (h : Configuration) (starts : List ℕ) (p : ℕ) →
-      TransactionAt ts h d s starts n p at → replyIs r ≡ replyOf (entryAnswer h (act p))
+      TransactionAt ts h d s starts n p at → replyOf r ≡ asReply (entryAnswer h (act p))
 
 -- ---- the look at an end leaf
 
@@ -65,7 +65,7 @@ commitReply σ δ n =
 
 -- r is the reply to a commit, whichever log and counts stand there
 pub record CommitLooked (s : List ℕ) (leaf n : ℕ) (r : Reply) : Type 0 where
-  pub found : (σ : State) (δ : Log) → EndLogAt s leaf σ δ → replyIs r ≡ commitReply σ δ n
+  pub found : (σ : State) (δ : Log) → EndLogAt s leaf σ δ → replyOf r ≡ commitReply σ δ n
 
 -- ---- the block comes back: ATRE (5) and ATFAIL (6)
 

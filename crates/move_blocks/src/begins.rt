@@ -69,7 +69,7 @@ pub fn begin(
 {
     let at = starts[position];
     let block = hall[at + COMPONENT_BODY];
-    let expression = table_terms::first_of(decoded, wide(block));
+    let expression = table_terms::first_at(decoded, wide(block));
     let new = begun(hall, block, expression);
     replace_component(hall, starts, components, position, &new, 1);
 }

@@ -54,7 +54,7 @@ pub fn look_end(
     ensures { λ r. ⌜ EndLooked (now (decoded .entry)) (now (hall .entry)) components transaction r ⌝ }
 {
     let leaf = transaction + TRANSACTION_HEAD;
-    match move_leaves::expression_kind_at(decoded, hall, leaf) {
+    match move_leaves::leaf_kind_at(decoded, hall, leaf) {
         RETRY => Reply::Moved(ATRE, Shortage::Enough),
         END => look_commit(hall, leaf, components),
         _ => Reply::Refused(WRONG_COMPONENT),

@@ -9,13 +9,13 @@ use lib.ListN.{length, getD, getElem?}
 use Rattle.calculus.specs.Syntax.{State}
 use Rattle.semantics.specs.Definitions.Terms.{Expression, Term}
 use Rattle.semantics.specs.Definitions.Configuration.{Tree, transaction, Configuration}
-use Rattle.semantics.specs.Definitions.Moves.{NodeAnswer, evolves, noRule, outOfRange, moveAt, insideAnswer, actsInside, inside, applyAt, entryAnswer, replyOf}
+use Rattle.semantics.specs.Definitions.Moves.{NodeAnswer, evolves, noRule, outOfRange, moveAt, insideAnswer, actsInside, inside, applyAt, entryAnswer, asReply}
 use Rattle.theorems.proofs.Lists.{found-below, length-replaceAt}
 use Rattle.theorems.proofs.Moves.{positionOf, componentAnswer, chosen-at, entry-answer-made}
 use Rattle.answers.specs.declared.replies.Reply.{Reply}
 use Rattle.answers.specs.declared.replies.Shortage.{Shortage}
 use Rattle.answers.specs.declared.replies.Reply.the-variants.{Moved, Refused}
-use Rattle.answers.specs.Answers.{shortageIs, replyIs}
+use Rattle.answers.specs.Answers.{shortageOf, replyOf}
 use Rattle.hall_layout.specs.declared.NodeStart.{NodeStart}
 use Rattle.hall_layout.specs.declared.NodeStart.the-variants.{At, Nowhere}
 use Rattle.hall_layout.specs.Layout.{idleSize, transactionHead}
@@ -38,11 +38,11 @@ module _ {ts : List Term} {h : Configuration} {s starts : List ℕ} {n : ℕ} (x
     (M : Expression)
     (σ : State) (t : Tree) (e : getElem? (h .components) p ≡ some (transaction m M σ t)) where
   -- what the tree is answered is what the entry is: a move inside leaves as many components
-  pub reply-inside : (k : ℕ) → replyOf (entryAnswer h (inside p k)) ≡ nodeReply (moveAt σ t k)
-  unfolding positionOf componentAnswer actsInside insideAnswer applyAt replyOf nodeReply
+  pub reply-inside : (k : ℕ) → asReply (entryAnswer h (inside p k)) ≡ nodeReply (moveAt σ t k)
+  unfolding positionOf componentAnswer actsInside insideAnswer applyAt asReply nodeReply
   reply-inside k = go (moveAt σ t k) refl
     where
-      go : (I : NodeAnswer) → moveAt σ t k ≡ I → replyOf (entryAnswer h (inside p k)) ≡ nodeReply I
+      go : (I : NodeAnswer) → moveAt σ t k ≡ I → asReply (entryAnswer h (inside p k)) ≡ nodeReply I
       go (evolves r w u) q =
           let l =
           length-replaceAt (h .components) (transaction m M σ u ∷ []) p
@@ -56,7 +56,7 @@ module _ {ts : List Term} {h : Configuration} {s starts : List ℕ} {n : ℕ} (x
 
   -- at a node
   pub reply-node : (k : ℕ) (y : Context) (u : Tree) → subtreeAt t k ≡ node y u →
-      replyOf (entryAnswer h (inside p k)) ≡ nodeReply (moveAt σ u 0)
+      asReply (entryAnswer h (inside p k)) ≡ nodeReply (moveAt σ u 0)
   unfolding around nodeReply
   reply-node k y u f = reply-inside k ∙ ap nodeReply (move-at-node σ t k y u f) ∙ go (moveAt σ u 0)
     where
@@ -66,7 +66,7 @@ module _ {ts : List Term} {h : Configuration} {s starts : List ℕ} {n : ℕ} (x
       go outOfRange = refl
 
   -- past the last one
-  pub reply-past : (k j : ℕ) → subtreeAt t k ≡ beyond j → replyOf (entryAnswer h (inside p k)) ≡ nodeReply outOfRange
+  pub reply-past : (k j : ℕ) → subtreeAt t k ≡ beyond j → asReply (entryAnswer h (inside p k)) ≡ nodeReply outOfRange
   reply-past k j f = reply-inside k ∙ ap nodeReply (move-at-past σ t k j f)
 
 -- ---- an open transaction
@@ -122,7 +122,7 @@ pub record SomeTransactionAt (d s : List ℕ) (transaction : ℕ) : Type 0 where
 pub record NodeReplied (d s : List ℕ) (transaction k : ℕ) (r : Reply) : Type 0 where
   pub found : (ts : List Term) (h : Configuration) (starts : List ℕ) (n p : ℕ) →
       TransactionAt ts h d s starts n p transaction →
-      replyIs r ≡ replyOf (entryAnswer h (inside p k))
+      replyOf r ≡ asReply (entryAnswer h (inside p k))
 
 module _ (d s : List ℕ) (transaction : ℕ) (x : SomeTransactionAt d s transaction) where
   pub some-transaction-inside : transaction + transactionHead ≤ length s
@@ -158,7 +158,7 @@ module _ (d s : List ℕ) (transaction k : ℕ) (r : NodeStart)
 module _ (d s : List ℕ) (transaction k : ℕ) (r : NodeStart)
     (found : r ≡ nodeStart s (transaction + transactionHead) k) where
   pub search-missing : r ≡ Nowhere → NodeReplied d s transaction k (Refused 16)
-  unfolding replyIs nodeReply
+  unfolding replyOf nodeReply
   search-missing g = record {
     found = λ ts h starts n p x.
         let o = transaction-parts x in
@@ -171,10 +171,10 @@ module _ (d s : List ℕ) (transaction k : ℕ) (r : NodeStart)
 pub found-moves : {ts : List Term} {h : Configuration} {d s starts : List ℕ} {n p transaction : ℕ} {w : Shortage} (k rule at : ℕ) →
     TransactionAt ts h d s starts n p transaction → nodeStart s (transaction + transactionHead) k ≡ At at →
     NodeReplied d s transaction k (Moved rule w) → NodeMovesBy ts h d s starts n p k rule at
-unfolding replyIs
+unfolding replyOf
 found-moves {ts} {h} {starts = starts} {n = n} {p = p} {w = w} k rule at x place found = record {
   decoded = x .decoded;
   holds = x .holds;
   place = rw (x .begins) at place;
-  by = by-number h (inside p k) rule (shortageIs w) (sym (found .found ts h starts n p x));
+  by = by-number h (inside p k) rule (shortageOf w) (sym (found .found ts h starts n p x));
 }

@@ -17,7 +17,7 @@ use Rattle.answers.specs.declared.replies.Shortage.{Shortage}
 use Rattle.answers.specs.declared.replies.Shortage.the-variants.{Enough, Short}
 use Rattle.answers.specs.declared.replies.Reply.{Reply}
 use Rattle.answers.specs.declared.replies.Reply.the-variants.{Moved, Refused}
-use Rattle.answers.specs.Answers.{shortageIs, replyIs}
+use Rattle.answers.specs.Answers.{shortageOf, replyOf}
 use Rattle.hall_layout.specs.Layout.{leafLog}
 use Rattle.move_logs.specs.Needs.{shortAt}
 use Rattle.move_logs.proofs.LogOffsets.{counts-held}
@@ -31,7 +31,7 @@ use Rattle.move_inside.proofs.NodeRedexes.{LeafAt, leaf-at, redex-here}
 -- ---- a read
 
 pub read-shortage-found : (s : List ℕ) (snapshot at a w : ℕ) (r : Shortage) → a < channels → w ≡ sizeAt s at →
-    shortageIs r ≡ shortAt (take w (drop (at + leafLog) s) ++ (a ∷ [])) s snapshot → ReadShortageFound s snapshot at a r
+    shortageOf r ≡ shortAt (take w (drop (at + leafLog) s) ++ (a ∷ [])) s snapshot → ReadShortageFound s snapshot at a r
 read-shortage-found s snapshot at a w r below size tested = record {
   found = λ δ σ x.
       stored-shortage-with s (at + leafLog) w δ (x .log) (size ∙ x .size) snapshot σ a _ (x .counts) below tested;
@@ -40,15 +40,15 @@ read-shortage-found s snapshot at a w r below size tested = record {
 -- what the test answers is the rule's number
 module _ (s : List ℕ) (snapshot at a : ℕ) (r : Shortage) (tested : ReadShortageFound s snapshot at a r) where
   pub read-allowed : r ≡ Enough → ReadRuleFound s snapshot at a (Moved 8 Enough)
-  unfolding reads nodeReply replyIs shortageIs readable isEnough
+  unfolding reads nodeReply replyOf shortageOf readable isEnough
   read-allowed e = record {
-    found = λ δ σ M x. let is : shortage σ (δ ++ (rd a ∷ [])) ≡ enough = sym (tested .found δ σ x) ∙ ap shortageIs e in rw is;
+    found = λ δ σ M x. let is : shortage σ (δ ++ (rd a ∷ [])) ≡ enough = sym (tested .found δ σ x) ∙ ap shortageOf e in rw is;
   }
 
   pub read-failed : (b k : ℕ) → r ≡ Short b k → ReadRuleFound s snapshot at a (Moved 9 (Short b k))
-  unfolding reads nodeReply replyIs shortageIs readable isEnough
+  unfolding reads nodeReply replyOf shortageOf readable isEnough
   read-failed b k e = record {
-    found = λ δ σ M x. let is : shortage σ (δ ++ (rd a ∷ [])) ≡ short b k = sym (tested .found δ σ x) ∙ ap shortageIs e in rw is;
+    found = λ δ σ M x. let is : shortage σ (δ ++ (rd a ∷ [])) ≡ short b k = sym (tested .found δ σ x) ∙ ap shortageOf e in rw is;
   }
 
 -- ---- a node
@@ -87,21 +87,21 @@ module _ (d s : List ℕ) (snapshot at : ℕ) where
       }
 
     pub write-rule : {a : ℕ} → w ≡ Write a → RuleFound d s snapshot at (Moved 10 Enough)
-    unfolding moveAt atLeaf nodeReply replyIs
+    unfolding moveAt atLeaf nodeReply replyOf
     write-rule is = record { found = λ ts u σ y. let (n, M, δ, e) = redex-here read is (y .tree) in rw e }
 
     pub or-else-rule : w ≡ OrElse → RuleFound d s snapshot at (Moved 11 Enough)
-    unfolding moveAt atLeaf nodeReply replyIs
+    unfolding moveAt atLeaf nodeReply replyOf
     or-else-rule is = record { found = λ ts u σ y. let (n, M, N, δ, e) = redex-here read is (y .tree) in rw e }
 
     pub left-retries-rule : w ≡ LeftRetries → RuleFound d s snapshot at (Moved 12 Enough)
-    unfolding moveAt atFork nodeReply replyIs
+    unfolding moveAt atFork nodeReply replyOf
     left-retries-rule is = record { found = λ ts u σ y. let (n, δ, r, e) = redex-here read is (y .tree) in rw e }
 
     pub left-ends-rule : w ≡ LeftEnds → RuleFound d s snapshot at (Moved 13 Enough)
-    unfolding moveAt atFork nodeReply replyIs
+    unfolding moveAt atFork nodeReply replyOf
     left-ends-rule is = record { found = λ ts u σ y. let (n, δ, r, e) = redex-here read is (y .tree) in rw e }
 
     pub no-rule : w ≡ Nothing → RuleFound d s snapshot at (Refused 17)
-    unfolding nodeReply replyIs
+    unfolding nodeReply replyOf
     no-rule is = record { found = λ ts u σ y. rw (redex-here read is (y .tree) σ) }

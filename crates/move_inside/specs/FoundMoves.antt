@@ -13,7 +13,7 @@ use Rattle.semantics.specs.Definitions.Configuration.{Tree, leaf, fork}
 use Rattle.semantics.specs.Definitions.Moves.{NodeAnswer, evolves, noRule, outOfRange, reads, moveAt, ruleNumber, Reply, movedBy, refusedBy}
 use Rattle.answers.specs.declared.replies.Reply as code
 use Rattle.answers.specs.declared.replies.Shortage.{Shortage}
-use Rattle.answers.specs.Answers.{shortageIs, replyIs}
+use Rattle.answers.specs.Answers.{shortageOf, replyOf}
 use Rattle.hall_layout.specs.Layout.{channels, leafSize, leafLog, logSize}
 use Rattle.move_logs.specs.LogOffsets.{LogAt, CountsAt}
 use Rattle.move_leaves.specs.Leaves.{TreeAt}
@@ -49,12 +49,12 @@ pub record CanTestRead (s : List ℕ) (snapshot at : ℕ) : Type 0 where
 
 -- r tells what the log with a read of channel a is short of at the counts, whatever they are
 pub record ReadShortageFound (s : List ℕ) (snapshot at a : ℕ) (r : Shortage) : Type 0 where
-  pub found : (δ : Log) (σ : State) → LogAndCountsAt s snapshot at δ σ → shortageIs r ≡ shortage σ (δ ++ (rd a ∷ []))
+  pub found : (δ : Log) (σ : State) → LogAndCountsAt s snapshot at δ σ → shortageOf r ≡ shortage σ (δ ++ (rd a ∷ []))
 
 -- r tells the rule by which a read of channel a moves, and what was short, whatever the log, the counts and what follows are
 pub record ReadRuleFound (s : List ℕ) (snapshot at a : ℕ) (r : code.Reply) : Type 0 where
   pub found : (δ : Log) (σ : State) (M : Expression) → LogAndCountsAt s snapshot at δ σ →
-      replyIs r ≡ nodeReply (reads σ a M δ)
+      replyOf r ≡ nodeReply (reads σ a M δ)
 
 -- ---- a redex
 
@@ -94,4 +94,4 @@ pub record CanReadRule (d s : List ℕ) (snapshot at : ℕ) : Type 0 where
 -- r is what a move of the tree at its first node is answered, whatever the tree and the counts are
 pub record RuleFound (d s : List ℕ) (snapshot at : ℕ) (r : code.Reply) : Type 0 where
   pub found : (ts : List Term) (u : Tree) (σ : State) → TreeAndCountsAt ts u σ d s snapshot at →
-      replyIs r ≡ nodeReply (moveAt σ u 0)
+      replyOf r ≡ nodeReply (moveAt σ u 0)

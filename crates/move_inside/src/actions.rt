@@ -13,7 +13,7 @@ pub fn log_action(decoded: &[u8; DECODED], hall: &mut [u8], at: usize, action: u
     requires { ⌜ CanLogAction (now hall) at ⌝ }
     ensures { λ _. ⌜ now (hall .exit) ≡ logged (now (decoded .entry)) (now (hall .entry)) at action ⌝ }
 {
-    let next = table_terms::second_of(decoded, wide(hall[at + LEAF_TERM]));
+    let next = table_terms::second_at(decoded, wide(hall[at + LEAF_TERM]));
     let length = hall[at + LEAF_LOG_LENGTH];
     hall[at + LEAF_TERM] = next;
     hall[at + LEAF_LOG_LENGTH] = length + 1;

@@ -46,8 +46,8 @@ fn fork_bytes(decoded: &[u8; DECODED], hall: &[u8], at: usize) -> [u8; SPLIT_SIZ
     write_at(&mut new, FORK_SIZE, leaf);
     write_at(&mut new, LEFT_SIZE, leaf);
     new[0] = KIND_FORK;
-    new[FORK_SIZE + LEAF_TERM] = table_terms::first_of(decoded, term);
-    new[LEFT_SIZE + LEAF_TERM] = table_terms::second_of(decoded, term);
+    new[FORK_SIZE + LEAF_TERM] = table_terms::first_at(decoded, term);
+    new[LEFT_SIZE + LEAF_TERM] = table_terms::second_at(decoded, term);
     new
 }
 

@@ -4,7 +4,7 @@ use hall_layout::FORK_SIZE;
 use hall_layout::KIND_FORK;
 use hall_layout::LEAF_TERM;
 use move_leaves::expression_kind;
-use move_leaves::expression_kind_at;
+use move_leaves::leaf_kind_at;
 use table_records::END;
 use table_records::OR_ELSE;
 use table_records::RD;
@@ -31,7 +31,7 @@ pub fn redex_at(decoded: &[u8; DECODED], hall: &[u8], at: usize) -> Redex
     ensures { λ r. ⌜ RedexFound (now (decoded .entry)) (now (hall .entry)) at r ⌝ }
 {
     if hall[at] == KIND_FORK {
-        return match expression_kind_at(decoded, hall, at + FORK_SIZE) {
+        return match leaf_kind_at(decoded, hall, at + FORK_SIZE) {
             END => Redex::LeftEnds,
             RETRY => Redex::LeftRetries,
             _ => Redex::Nothing,
@@ -41,10 +41,10 @@ pub fn redex_at(decoded: &[u8; DECODED], hall: &[u8], at: usize) -> Redex
     let term = wide(byte);
     match expression_kind(decoded, byte) {
         RD => Redex::Read {
-            channel: table_terms::first_of(decoded, term),
+            channel: table_terms::first_at(decoded, term),
         },
         WT => Redex::Write {
-            channel: table_terms::first_of(decoded, term),
+            channel: table_terms::first_at(decoded, term),
         },
         OR_ELSE => Redex::OrElse,
         _ => Redex::Nothing,

@@ -19,11 +19,11 @@ pub fn expression_kind(decoded: &[u8; DECODED], term: u8) -> u8
     if term == NO_TERM {
         return RETRY;
     }
-    table_terms::kind_of(decoded, wide(term))
+    table_terms::kind_at(decoded, wide(term))
 }
 
 // The kind of the expression at the node that begins at an offset; none for a fork.
-pub fn expression_kind_at(decoded: &[u8; DECODED], hall: &[u8], at: usize) -> u8
+pub fn leaf_kind_at(decoded: &[u8; DECODED], hall: &[u8], at: usize) -> u8
     requires { ⌜ CanReadNode (now decoded) (now hall) at ⌝ }
     ensures { λ r. ⌜ LeafKindRead (now (decoded .entry)) (now (hall .entry)) at r ⌝ }
 {

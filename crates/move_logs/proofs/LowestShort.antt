@@ -17,7 +17,7 @@ use Rattle.semantics.specs.Definitions.Shortage.{enough, short}
 use Rattle.theorems.proofs.Shortages.{found-is}
 use Rattle.answers.specs.declared.replies.Shortage.{Shortage}
 use Rattle.answers.specs.declared.replies.Shortage.the-variants.{Enough, Short}
-use Rattle.answers.specs.Answers.{shortageIs}
+use Rattle.answers.specs.Answers.{shortageOf}
 use Rattle.move_logs.specs.Needs.{readsOf, countsIn, shortAt, alsoNeeded, needsOf, withinAt}
 use Rattle.move_logs.specs.Values.{LowestFound}
 use Rattle.move_logs.proofs.Needs.{needs-count, needs-few, also-needed, none-needed}
@@ -59,21 +59,21 @@ counts-read s k a h = getD-take channels (drop k s) a 0 h ∙ getD-drop k s a 0
 
 -- where every channel has what is needed of it nothing is short
 all-enough : (bs s : List ℕ) (k : ℕ) → ((a : ℕ) → a < channels → getD (needsOf bs) a 0 ≤ getD s (k + a) 0) →
-    shortageIs Enough ≡ shortAt bs s k
-unfolding shortageIs shortAt Included
+    shortageOf Enough ≡ shortAt bs s k
+unfolding shortageOf shortAt Included
 all-enough bs s k f = sym (found-is (readsOf bs) (countsIn s k) enough (λ a. elim (decLt a channels) [
   | yes h ↦ (let n = needs-reads bs a h in let c = counts-read s k a h in let l = f a h in omega arith)
   | no h ↦ (let z = reads-none bs a (omega arith) in omega arith)
 ]))
 
-within-enough : (bs s : List ℕ) (k : ℕ) → withinAt (needsOf bs) s k ≡ true → shortageIs Enough ≡ shortAt bs s k
+within-enough : (bs s : List ℕ) (k : ℕ) → withinAt (needsOf bs) s k ≡ true → shortageOf Enough ≡ shortAt bs s k
 within-enough bs s k e = all-enough bs s k (λ a h. covered (needsOf bs) s k a e h)
 
 -- a write more needs nothing
-pub write-enough : (bs s : List ℕ) (k : ℕ) (r : Bool) → r ≡ withinAt (needsOf (bs ++ (16 ∷ []))) s k → r ≡ true → shortageIs Enough ≡ shortAt bs s k
+pub write-enough : (bs s : List ℕ) (k : ℕ) (r : Bool) → r ≡ withinAt (needsOf (bs ++ (16 ∷ []))) s k → r ≡ true → shortageOf Enough ≡ shortAt bs s k
 write-enough bs s k r is e = within-enough bs s k (ap (λ n. withinAt n s k) (none-needed bs 16 (omega arith)) ∙ sym is ∙ e)
 
-pub readable-enough : (bs s : List ℕ) (k : ℕ) (r : Bool) → r ≡ withinAt (needsOf bs) s k → r ≡ true → shortageIs Enough ≡ shortAt bs s k
+pub readable-enough : (bs s : List ℕ) (k : ℕ) (r : Bool) → r ≡ withinAt (needsOf bs) s k → r ≡ true → shortageOf Enough ≡ shortAt bs s k
 readable-enough bs s k r is e = within-enough bs s k (sym is ∙ e)
 
 -- ---- turns: the channels below i have what is needed of them
@@ -93,7 +93,7 @@ module _ (need s : List ℕ) (k i : ℕ) (below : EnoughBelow need s k i) where
       here a q = rw (q, ← e, ← f, ← g) l
 
   pub short-here : (v w n c : ℕ) → v ≡ i → v < channels → w ≡ i → n ≡ getD need w 0 → c ≡ getD s (k + w) 0 → c < n → LowestFound (Short i (n - c)) need s k
-  unfolding shortageIs shortAt
+  unfolding shortageOf shortAt
   short-here v w n c d u e f g l = record {
     found = λ bs is.
         let h : i < channels = omega arith in
@@ -119,10 +119,10 @@ pub lowest-same : (r : Shortage) (need all s : List ℕ) (k : ℕ) → LowestFou
 lowest-same r need all s k l e = rw (← e) l
 
 -- what bytes with a write more are short of they are without it
-pub lowest-found : (r : Shortage) (bs s : List ℕ) (k : ℕ) → LowestFound r (needsOf (bs ++ (16 ∷ []))) s k → shortageIs r ≡ shortAt bs s k
+pub lowest-found : (r : Shortage) (bs s : List ℕ) (k : ℕ) → LowestFound r (needsOf (bs ++ (16 ∷ []))) s k → shortageOf r ≡ shortAt bs s k
 lowest-found r bs s k l = l .found bs (sym (none-needed bs 16 (omega arith)))
 
-pub lowest-with : (r : Shortage) (bs s : List ℕ) (k a : ℕ) → LowestFound r (needsOf (bs ++ (a ∷ []))) s k → shortageIs r ≡ shortAt (bs ++ (a ∷ [])) s k
+pub lowest-with : (r : Shortage) (bs s : List ℕ) (k a : ℕ) → LowestFound r (needsOf (bs ++ (a ∷ []))) s k → shortageOf r ≡ shortAt (bs ++ (a ∷ [])) s k
 lowest-with r bs s k a l = l .found (bs ++ (a ∷ [])) refl
 
 -- ---- one action more

@@ -7,7 +7,7 @@ use mathlib.Core.List.{List, [], _∷_}
 use lib.ListN.{getD, set, take, drop, replicate}
 use lib.Dec.{leb, ltb}
 use Rattle.semantics.specs.Definitions.Layout.{channels, writeOffset}
-use Rattle.semantics.specs.Definitions.Shortage.{Shortage, shortageOf}
+use Rattle.semantics.specs.Definitions.Shortage.{Shortage, shortageAgainst}
 
 -- ---- reads
 
@@ -22,8 +22,8 @@ countsIn s at = take channels (drop at s)
 
 -- the one test: what the reads of these bytes are short of at those counts
 unfoldable pub shortAt : (bytes s : List ℕ) (at : ℕ) → Shortage
-unfolding shortageOf readsOf
-shortAt bytes s at = shortageOf (readsOf bytes) (countsIn s at)
+unfolding shortageAgainst readsOf
+shortAt bytes s at = shortageAgainst (readsOf bytes) (countsIn s at)
 
 -- ---- needs, by channel
 

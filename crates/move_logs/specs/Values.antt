@@ -11,7 +11,7 @@ use Rattle.semantics.specs.Definitions.Stored.{actionByte}
 use Rattle.move_logs.specs.declared.Log as code
 use Rattle.move_logs.specs.declared.Outputs as code-outputs
 use Rattle.answers.specs.declared.replies.Shortage.{Shortage}
-use Rattle.answers.specs.Answers.{shortageIs}
+use Rattle.answers.specs.Answers.{shortageOf}
 use Rattle.move_logs.specs.Needs.{needsOf, shortAt}
 use Rattle.move_logs.specs.Writes.{outputsSize, outputBytes}
 
@@ -27,4 +27,4 @@ pub record OutputsAre (o : code-outputs.Outputs) (written : List Name) : Type 0 
 
 -- a value of the code says what bytes that need so much, whichever they are, are short of at the counts at an offset
 pub record LowestFound (r : Shortage) (need s : List ℕ) (k : ℕ) : Type 0 where
-  pub found : (bytes : List ℕ) → need ≡ needsOf bytes → shortageIs r ≡ shortAt bytes s k
+  pub found : (bytes : List ℕ) → need ≡ needsOf bytes → shortageOf r ≡ shortAt bytes s k

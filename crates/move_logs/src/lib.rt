@@ -19,7 +19,7 @@ ghost use Prim.Native.Nat.{_+_, _≤_, _<_};
 ghost use lib.ListN.{length, take, drop};
 ghost use Rattle.semantics.specs.Definitions.Layout.{maxByte, channels, maxActions};
 ghost use Rattle.semantics.specs.Definitions.Logs.{emptyLog};
-ghost use Rattle.answers.specs.Answers.{shortageIs};
+ghost use Rattle.answers.specs.Answers.{shortageOf};
 ghost use Rattle.move_logs.specs.Needs.{needsOf, takenBy, withinAt, shortAt, lowered};
 ghost use Rattle.move_logs.specs.Writes.{writesOf};
 ghost use Rattle.move_logs.specs.Values.{LogIs, OutputsAre, LowestFound};
@@ -172,7 +172,7 @@ fn lowest_lacking(s: &[u8], at: usize, size: usize, action: u8, counts: usize) -
 // action more is a write, which needs nothing.
 pub fn shortage(s: &[u8], at: usize, size: usize, counts: usize) -> Shortage
     requires { ⌜ (size ≤ maxActions) × (at + size ≤ length (now s)) × (counts + channels ≤ length (now s)) ⌝ }
-    ensures { λ r. ⌜ shortageIs r ≡ shortAt (take size (drop at (now (s .entry)))) (now (s .entry)) counts ⌝ }
+    ensures { λ r. ⌜ shortageOf r ≡ shortAt (take size (drop at (now (s .entry)))) (now (s .entry)) counts ⌝ }
 {
     if suffice(s, at, size, WRITE_OFFSET, counts) {
         return Shortage::Enough;
@@ -184,7 +184,7 @@ pub fn shortage(s: &[u8], at: usize, size: usize, counts: usize) -> Shortage
 pub fn shortage_with(s: &[u8], at: usize, size: usize, channel: u8, counts: usize) -> Shortage
     requires { ⌜ (size ≤ maxActions) × (at + size ≤ length (now s)) × (channel < channels)
         × (counts + channels ≤ length (now s)) ⌝ }
-    ensures { λ r. ⌜ shortageIs r ≡ shortAt (take size (drop at (now (s .entry))) ++ (channel ∷ []))
+    ensures { λ r. ⌜ shortageOf r ≡ shortAt (take size (drop at (now (s .entry))) ++ (channel ∷ []))
         (now (s .entry)) counts ⌝ }
 {
     if suffice(s, at, size, channel, counts) {

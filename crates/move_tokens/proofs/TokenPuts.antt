@@ -8,12 +8,12 @@ use lib.ListN.{length, getD, set}
 use Rattle.semantics.specs.Definitions.Layout.{maxCount}
 use Rattle.semantics.specs.Definitions.Configuration.{output, idle}
 use Rattle.semantics.specs.Definitions.Stored.{ComponentOk}
-use Rattle.semantics.specs.Definitions.Moves.{replyOf, ruleNumber}
+use Rattle.semantics.specs.Definitions.Moves.{asReply, ruleNumber}
 use Rattle.theorems.proofs.WellFormedKept.{count-byte}
 use Rattle.hall_layout.specs.Layout.{channels, maxComponents, componentBody}
 use Rattle.answers.specs.declared.replies.Shortage.the-variants.{Enough}
 use Rattle.answers.specs.declared.replies.Reply.the-variants.{Moved, Refused}
-use Rattle.answers.specs.Answers.{replyIs}
+use Rattle.answers.specs.Answers.{replyOf}
 use Rattle.hall_held.specs.Holds.{CanReplace, Replaced}
 use Rattle.hall_held.proofs.Holds.{hall-length, count-here, component-ok}
 use Rattle.move_tokens.specs.Tokens.{CanLookOutput, OutputLooked, CanPut, TokenPut}
@@ -32,7 +32,7 @@ module _ (s : List ℕ) (a : ℕ) where
 
   module _ (i : ℕ) (e : i ≡ a) where
     pub full-looked : getD s i 0 ≡ maxCount → OutputLooked s a (Refused 20)
-    unfolding ComponentOk replyIs
+    unfolding ComponentOk replyOf
     full-looked q = record {
       found = λ ts h starts n p x f.
           let c = count-here x a (component-ok x p (idle (output a)) f) in
@@ -40,14 +40,14 @@ module _ (s : List ℕ) (a : ℕ) where
     }
 
     pub put-looked : (getD s i 0 ≡ maxCount → ⊥) → OutputLooked s a (Moved 1 Enough)
-    unfolding ComponentOk replyIs replyOf ruleNumber
+    unfolding ComponentOk replyOf asReply ruleNumber
     put-looked q = record {
       found = λ ts h starts n p x f.
           let c = count-here x a (component-ok x p (idle (output a)) f) in
           let b = count-byte (h .counts) a (x .form .channelCounts) in
           let k : getD s a 0 ≡ maxCount → ⊥ = rw e at q in
           let l = below (getD s a 0) (omega arith) k in
-          sym (ap replyOf (put-accepted h p a f (x .form .few) (omega arith)));
+          sym (ap asReply (put-accepted h p a f (x .form .few) (omega arith)));
     }
       where
         below : (n : ℕ) → n ≤ maxCount → (n ≡ maxCount → ⊥) → n < maxCount

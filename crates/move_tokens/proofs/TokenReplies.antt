@@ -19,7 +19,7 @@ use Rattle.semantics.specs.Definitions.Terms.{Expression, Program, endT, retryT
 use Rattle.semantics.specs.Definitions.Shortage.{Shortage, enough}
 use Rattle.semantics.specs.Definitions.Logs.{readable, addToken, takeToken}
 use Rattle.semantics.specs.Definitions.Configuration.{taking, repeating, block, output, Tree, leaf, fork, Component, idle, transaction, Configuration, opens}
-use Rattle.semantics.specs.Definitions.Moves.{act, ComponentAnswer, moves, blocked, takes, puts, ends, commits, acts, does, applyAt, entryAnswer, ruleNumber, refusedBy, replyOf}
+use Rattle.semantics.specs.Definitions.Moves.{act, ComponentAnswer, moves, blocked, takes, puts, ends, commits, acts, does, applyAt, entryAnswer, ruleNumber, refusedBy, asReply}
 use Rattle.theorems.proofs.Lists.{found-below, length-replaceAt}
 use Rattle.theorems.proofs.ByteReads.{by-cases}
 use Rattle.theorems.proofs.Moves.{positionOf, componentAnswer, chosen-at, entry-answer-made}
@@ -34,9 +34,9 @@ module _ (h : Configuration) (p : ℕ) (a : Name) (e : getElem? (h .components) 
   abbrev pub afterPut : Configuration
   afterPut = record { counts = addToken (h .counts) a; components = replaceAt p [] (h .components) }
 
-  pub full-refused : maxCount ≤ count (h .counts) a → replyOf (entryAnswer h (act p)) ≡ refusedBy 20
-  unfolding positionOf componentAnswer acts puts applyAt replyOf
-  full-refused q = ap replyOf (chosen-at h (act p) (idle (output a)) e) ∙ rw (le-leb maxCount (count (h .counts) a) q)
+  pub full-refused : maxCount ≤ count (h .counts) a → asReply (entryAnswer h (act p)) ≡ refusedBy 20
+  unfolding positionOf componentAnswer acts puts applyAt asReply
+  full-refused q = ap asReply (chosen-at h (act p) (idle (output a)) e) ∙ rw (le-leb maxCount (count (h .counts) a) q)
 
   -- what is left is fewer than it was
   pub put-accepted : length (h .components) ≤ maxComponents → count (h .counts) a < maxCount →
@@ -86,15 +86,15 @@ module _ (h : Configuration) (p : ℕ) (b : Bool) (m : ℕ) (a : Name) (P : Prog
   unfolding positionOf componentAnswer
   take-answer = chosen-at h (act p) (idle (takeOf b m a P)) e ∙ ap (λ l. applyAt p l h) (acts-take (h .counts) b m a P)
 
-  pub empty-refused : count (h .counts) a ≡ 0 → replyOf (entryAnswer h (act p)) ≡ refusedBy 18
-  unfolding takes applyAt replyOf
-  empty-refused q = ap replyOf take-answer ∙ rw (eq-eqb (count (h .counts) a) 0 q)
+  pub empty-refused : count (h .counts) a ≡ 0 → asReply (entryAnswer h (act p)) ≡ refusedBy 18
+  unfolding takes applyAt asReply
+  empty-refused q = ap asReply take-answer ∙ rw (eq-eqb (count (h .counts) a) 0 q)
 
   pub crowded-refused : (count (h .counts) a ≡ 0 → ⊥) → maxComponents < length (replaceAt p laid (h .components)) →
-      replyOf (entryAnswer h (act p)) ≡ refusedBy 19
-  unfolding takes applyAt replyOf
+      asReply (entryAnswer h (act p)) ≡ refusedBy 19
+  unfolding takes applyAt asReply
   crowded-refused q l =
-      ap replyOf take-answer
+      ap asReply take-answer
       ∙ rw (ne-eqb (count (h .counts) a) 0 q, lt-leb (length (replaceAt p laid (h .components))) maxComponents l)
 
   pub take-accepted : (count (h .counts) a ≡ 0 → ⊥) → length (replaceAt p laid (h .components)) ≤ maxComponents →

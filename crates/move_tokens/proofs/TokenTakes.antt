@@ -18,7 +18,7 @@ use Rattle.semantics.specs.Definitions.Configuration.{repeating, idle, Configur
 use Rattle.semantics.specs.Definitions.Stored.{componentBytes}
 use Rattle.semantics.specs.Definitions.Moves as moves
 use Rattle.semantics.specs.Definitions.Shortage.{enough}
-use Rattle.semantics.specs.Definitions.Moves.{act, entryAnswer, replyOf}
+use Rattle.semantics.specs.Definitions.Moves.{act, entryAnswer, asReply}
 use Rattle.theorems.proofs.Lists.{found-below}
 use Rattle.theorems.proofs.RoundTrip.{width-bounds-opening}
 use Rattle.table_records.specs.Shapes.{kindByte}
@@ -33,7 +33,7 @@ use Rattle.hall_open.proofs.Processes.{opened-fits}
 use Rattle.answers.specs.declared.replies.Reply.{Reply}
 use Rattle.answers.specs.declared.replies.Shortage.the-variants.{Enough}
 use Rattle.answers.specs.declared.replies.Reply.the-variants.{Moved, Refused}
-use Rattle.answers.specs.Answers.{replyIs}
+use Rattle.answers.specs.Answers.{replyOf}
 use Rattle.hall_held.specs.Holds.{Holds, CanReplace, Replaced}
 use Rattle.hall_held.proofs.Holds.{hall-length, few-components, count-here, position-below}
 use Rattle.move_tokens.specs.Tokens.{takeOf, takeTerm, successors, staying, takeNumber, repeats, termOf, successorsSize, singleSize, ATake, CanLookTake, TakeLooked, CanTestCrowded, CrowdedTested, CanWriteSuccessors, SuccessorsWritten, CanTake, TokenTaken}
@@ -152,7 +152,7 @@ module _ (d s : List ℕ) (n m i : ℕ) (same : i ≡ m) where
         rw v (count-here x c (take-in y b m c P e .below))
 
     pub empty-looked : getD s a 0 ≡ 0 → TakeLooked d s n m (Refused 18)
-    unfolding replyIs
+    unfolding replyOf
     empty-looked z = record {
       found = λ ts h starts p b c P y x e.
           let v = counted y x b c P (waits-on x p b m c P e) in sym (empty-refused h p b m c P e (sym v ∙ z));
@@ -162,7 +162,7 @@ module _ (d s : List ℕ) (n m i : ℕ) (same : i ≡ m) where
         (u : kind ≡ kindAt d i) where
       room-looked : (b : Bool) → b ≡ repeats kind → (r : Bool) → CrowdedTested d k (staying b) n r →
           TakeLooked d s n m (roomReply b r)
-      unfolding replyIs replyOf
+      unfolding replyOf asReply
       room-looked b w r told = record {
         found = λ ts h starts p b′ c P y x e.
             let l = waits-on x p b′ m c P e in
@@ -177,7 +177,7 @@ module _ (d s : List ℕ) (n m i : ℕ) (same : i ≡ m) where
           go : (h : Configuration) (p : ℕ) (c : Name) (P : Program) →
               getElem? (h .components) p ≡ some (idle (takeOf b m c P)) → (getD (h .counts) c 0 ≡ 0 → ⊥) → (r : Bool) →
               r ≡ ltb maxComponents (length (h .components) - 1 + staying b + length (opens P)) →
-              replyIs (roomReply b r) ≡ replyOf (entryAnswer h (act p))
+              replyOf (roomReply b r) ≡ asReply (entryAnswer h (act p))
           go h p c P e j true told =
               let l = ltb-true maxComponents (length (h .components) - 1 + staying b + length (opens P)) (sym told) in
               let f = many-after h p b m c P e in
@@ -185,7 +185,7 @@ module _ (d s : List ℕ) (n m i : ℕ) (same : i ≡ m) where
           go h p c P e j false told =
               let l = ltb-false maxComponents (length (h .components) - 1 + staying b + length (opens P)) (sym told) in
               let f = many-after h p b m c P e in
-              sym (ap replyOf (take-accepted h p b m c P e j (omega arith)) ∙ ap (λ k. moves.movedBy k enough) (take-number b c))
+              sym (ap asReply (take-accepted h p b m c P e j (omega arith)) ∙ ap (λ k. moves.movedBy k enough) (take-number b c))
 
       module _ (more : ℕ) (stays : more ≡ staying (repeats kind)) (r : Bool) (told : CrowdedTested d k more n r) where
         pub crowded-looked : r ≡ true → TakeLooked d s n m (Refused 19)

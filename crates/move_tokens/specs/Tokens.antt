@@ -15,14 +15,14 @@ use Rattle.calculus.specs.Reduction.{Rule, IN, REP}
 use Rattle.semantics.specs.Definitions.Layout.{maxComponents}
 use Rattle.semantics.specs.Definitions.Terms.{Program, takeT, repeatT, Term, process, width}
 use Rattle.semantics.specs.Definitions.Configuration.{Idle, taking, repeating, output, idle, Configuration, opens}
-use Rattle.semantics.specs.Definitions.Moves.{act, entryAnswer, replyOf}
+use Rattle.semantics.specs.Definitions.Moves.{act, entryAnswer, asReply}
 use Rattle.semantics.specs.Definitions.Table.{repeatK}
 use Rattle.table_records.specs.Shapes.{kindByte}
 use Rattle.table_terms.specs.Decoded.{Decoded, AProcess}
 use Rattle.hall_layout.specs.Layout.{idleSize, componentBody}
 use Rattle.hall_laws.specs.Positions.{allBytes}
 use Rattle.answers.specs.declared.replies.Reply.{Reply}
-use Rattle.answers.specs.Answers.{replyIs}
+use Rattle.answers.specs.Answers.{replyOf}
 use Rattle.hall_held.specs.Holds.{Holds}
 use Rattle.hall_held.specs.Choices.{CanApply, Applied}
 
@@ -41,7 +41,7 @@ pub record CanLookOutput (s : List ℕ) (channel : ℕ) : Type 0 where
 -- r is what an entry of kind 1 is answered there, whichever configuration is held and wherever such an output stands
 pub record OutputLooked (s : List ℕ) (channel : ℕ) (r : Reply) : Type 0 where
   pub found : (ts : List Term) (h : Configuration) (starts : List ℕ) (n p : ℕ) → Holds ts h s starts n →
-      getElem? (h .components) p ≡ some (idle (output channel)) → replyIs r ≡ replyOf (entryAnswer h (act p))
+      getElem? (h .components) p ≡ some (idle (output channel)) → replyOf r ≡ asReply (entryAnswer h (act p))
 
 -- the entry of kind 1 at position p is accepted by rule 1: of a table only this is asked, that there is one
 pub record CanPut (s starts : List ℕ) (n p : ℕ) : Type 0 where
@@ -105,7 +105,7 @@ pub record CanLookTake (d s : List ℕ) (n term : ℕ) : Type 0 where
 pub record TakeLooked (d s : List ℕ) (n term : ℕ) (r : Reply) : Type 0 where
   pub found : (ts : List Term) (h : Configuration) (starts : List ℕ) (p : ℕ) (b : Bool) (a : Name) (P : Program) →
       Decoded ts d → Holds ts h s starts n → getElem? (h .components) p ≡ some (idle (takeOf b term a P)) →
-      replyIs r ≡ replyOf (entryAnswer h (act p))
+      replyOf r ≡ asReply (entryAnswer h (act p))
 
 -- one of n components may give way to what process number i opens into and to so many more, at most one
 pub record CanTestCrowded (d : List ℕ) (i more n : ℕ) : Type 0 where

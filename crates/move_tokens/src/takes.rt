@@ -29,22 +29,22 @@ const SUCCESSORS_SIZE: usize = IDLE_SIZE * (MAX_COMPONENTS + 1);
 const SUCCESSOR_SIZE: usize = IDLE_SIZE * 2;
 
 // By the kind of a take's record: whether it is repeated, its rule, and how many stay of it.
-fn is_repeated(kind: u8) -> bool
+fn repeats(kind: u8) -> bool
     ensures { λ r. ⌜ r ≡ repeats kind ⌝ }
 {
     kind == REPEATED_TAKE
 }
 
-fn take_rule(kind: u8) -> u8
+fn take_number(kind: u8) -> u8
     ensures { λ r. ⌜ r ≡ takeNumber (repeats kind) ⌝ }
 {
-    if is_repeated(kind) { REP } else { IN }
+    if repeats(kind) { REP } else { IN }
 }
 
 fn staying_of(kind: u8) -> usize
     ensures { λ r. ⌜ r ≡ staying (repeats kind) ⌝ }
 {
-    if is_repeated(kind) { 1 } else { 0 }
+    if repeats(kind) { 1 } else { 0 }
 }
 
 // Whether there are too many components once one has given way to what a process opens into and so many more. The width
@@ -54,7 +54,7 @@ fn is_crowded(decoded: &[u8; DECODED], term: usize, more: usize, components: usi
     ensures { λ r. ⌜ CrowdedTested (now (decoded .entry)) term more components r ⌝ }
 {
     let others = components - 1 + more;
-    if others + wide(table_terms::breadth_of(decoded, term)) <= MAX_COMPONENTS {
+    if others + wide(table_terms::breadth_at(decoded, term)) <= MAX_COMPONENTS {
         return false;
     }
     MAX_COMPONENTS < others + component_count(decoded, term)
@@ -67,9 +67,9 @@ pub fn look_take(decoded: &[u8; DECODED], hall: &[u8], components: usize, term: 
     ensures { λ r. ⌜ TakeLooked (now (decoded .entry)) (now (hall .entry)) components term r ⌝ }
 {
     let i = wide(term);
-    let channel = wide(table_terms::first_of(decoded, i));
-    let continuation = wide(table_terms::second_of(decoded, i));
-    let kind = table_terms::kind_of(decoded, i);
+    let channel = wide(table_terms::first_at(decoded, i));
+    let continuation = wide(table_terms::second_at(decoded, i));
+    let kind = table_terms::kind_at(decoded, i);
     let staying = staying_of(kind);
     let count = hall[channel];
     if count == 0 {
@@ -78,7 +78,7 @@ pub fn look_take(decoded: &[u8; DECODED], hall: &[u8], components: usize, term: 
     if is_crowded(decoded, continuation, staying, components) {
         return Reply::Refused(TOO_MANY_COMPONENTS);
     }
-    Reply::Moved(take_rule(kind), Shortage::Enough)
+    Reply::Moved(take_number(kind), Shortage::Enough)
 }
 
 // The bytes of what stands in the take's place afterwards: the answer is how many they are.
@@ -89,11 +89,11 @@ fn write_successors(decoded: &[u8; DECODED], term: u8, successors: &mut [u8]) ->
     let i = wide(term);
     let end = write_components(
         decoded,
-        wide(table_terms::second_of(decoded, i)),
+        wide(table_terms::second_at(decoded, i)),
         successors,
         0,
     );
-    if is_repeated(table_terms::kind_of(decoded, i)) {
+    if repeats(table_terms::kind_at(decoded, i)) {
         return write_idle(successors, end, KIND_WAITING, term);
     }
     end
@@ -115,7 +115,7 @@ fn take_by(
 {
     let begin = starts[position];
     let term = hall[begin + COMPONENT_BODY];
-    let channel = wide(table_terms::first_of(decoded, wide(term)));
+    let channel = wide(table_terms::first_at(decoded, wide(term)));
     hall[channel] = hall[channel] - 1;
     let end = write_successors(decoded, term, successors);
     replace_component(
@@ -143,8 +143,8 @@ pub fn take(
 {
     let begin = starts[position];
     let term = wide(hall[begin + COMPONENT_BODY]);
-    let continuation = wide(table_terms::second_of(decoded, term));
-    if table_terms::kind_of(decoded, continuation) == PAR {
+    let continuation = wide(table_terms::second_at(decoded, term));
+    if table_terms::kind_at(decoded, continuation) == PAR {
         let mut successors = [0u8; SUCCESSORS_SIZE];
         return take_by(decoded, hall, starts, components, position, &mut successors);
     }

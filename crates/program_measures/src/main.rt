@@ -174,13 +174,13 @@ fn print_term(decoded: &[u8; DECODED], i: usize)
     let measures = table_terms::measures_of(decoded, 0, i);
     io::write_all(1, b"T");
     print_field(i as u64);
-    print_field(table_terms::kind_of(decoded, i) as u64);
+    print_field(table_terms::kind_at(decoded, i) as u64);
     print_field(measures.breadth as u64);
     print_field(measures.length as u64);
     if same(
         measures,
-        table_terms::breadth_of(decoded, i),
-        table_terms::length_of(decoded, i),
+        table_terms::breadth_at(decoded, i),
+        table_terms::length_at(decoded, i),
     ) {
         io::write_all(1, b" =\n");
     } else {

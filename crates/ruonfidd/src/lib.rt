@@ -80,7 +80,7 @@ pub extern "C" fn ruonfidd_fresh_tally(tally: &mut [u32; 3])
     ensures { λ _. ⌜ now (tally .exit) ≡ tallyWords freshCounters ⌝ }
 {
     let fresh = Counters::fresh();
-    *tally = answers::tally_of(fresh);
+    *tally = answers::tally_words(fresh);
 }
 
 // Runs choices: 0, with their length as the place; or the number of the refusal, and its place. `done` is how many
@@ -178,7 +178,7 @@ pub extern "C" fn ruonfidd_sentence(
         r (now (length .entry)) (now (length .exit)) (now (buffer .exit)) ⌝ }
     ensures promised { λ _. ⌜ Promised ToldSentences ⌝ }
 {
-    let short = answers::tells_shortage(tray, by);
+    let short = answers::tells_short(tray, by);
     let answer = print_sentence::sentence(
         kind,
         position,

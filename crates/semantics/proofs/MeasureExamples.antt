@@ -9,7 +9,7 @@ use lib.ListN.{getElem?}
 use Rattle.calculus.specs.Syntax.{Log}
 use Rattle.semantics.specs.Definitions.Terms.{width}
 use Rattle.semantics.specs.Definitions.Logs.{firstReadable}
-use Rattle.semantics.specs.Definitions.Table.{emptyReading, readTable}
+use Rattle.semantics.specs.Definitions.Table.{emptyTable, readTable}
 use Rattle.semantics.specs.Definitions.Report.{decimal, printedRun}
 use Rattle.semantics.specs.Checks.EdgeExamples.{tableSeen, storedTable, formIn}
 use Rattle.semantics.specs.Checks.Branches.{Finish, inEnd, inRetry, Side, onLeft, onRight, Branch, at-end, at-retry, after-read, in-left, in-right, LeftOf, parts, parts-later}
@@ -18,7 +18,7 @@ use Rattle.semantics.specs.Checks.Examples.{times}
 use Rattle.semantics.specs.Checks.MeasureExamples.{twoBranches, leftBranch, rightBranch, RunningOut, BranchRows, measured, measures, firsts, processWidths, digitRows, shortRecords, TableThenChoices, deepTrees, MeasureExamples}
 
 running-out : RunningOut
-unfolding readOr emptyReading treeOr componentsOr tableSizeOr digitsOr times
+unfolding readOr emptyTable treeOr componentsOr tableSizeOr digitsOr times
 running-out = record { in-a-table = refl; in-a-tree = refl; in-a-hall = refl; in-an-input = refl; in-a-number = refl }
 
 both : {w : List Side} {δ : Log} {f : Finish} → Branch twoBranches w δ f →

@@ -2,12 +2,12 @@
 -- Assumes nothing.
 use mathlib.Core.Path.{refl}
 use Rattle.semantics.specs.Definitions.Basics.{countUp}
-use Rattle.semantics.specs.Definitions.Shortage.{shortageOf}
+use Rattle.semantics.specs.Definitions.Shortage.{shortageAgainst}
 use Rattle.semantics.specs.Checks.Examples.{numbers, trays}
 use Rattle.semantics.specs.Checks.ShortageExamples.{toldOn, readFive, ReadsShort, ChoicesShort, ShortageExamples}
 
 reads-short : ReadsShort
-unfolding countUp shortageOf numbers trays
+unfolding countUp shortageAgainst numbers trays
 reads-short = record {
   nothing-read = refl;
   all-there = refl;

@@ -13,7 +13,7 @@ use lib.Dec.{ltb}
 use borrow.Author.Tests.{lt-ltb, le-ltb}
 use Rattle.semantics.specs.Definitions.Basics.{firstOf}
 use Rattle.semantics.specs.Definitions.Terms.{Term}
-use Rattle.semantics.specs.Definitions.Table.{Kind, nilK, putK, takeK, repeatK, parK, atomK, endK, retryK, rdK, wtK, orElseK, tokensK, startK, kindByNumber, Field, fields, Reading, refusedAt, Content, recordContent, anyField, channelOutOfRange, forwardReference, classMismatch, tests, RecordAnswer, stop, recordPassed, recordTested, recordOfKind, readRecord}
+use Rattle.semantics.specs.Definitions.Table.{Kind, nilK, putK, takeK, repeatK, parK, atomK, endK, retryK, rdK, wtK, orElseK, tokensK, startK, kindByNumber, Field, fields, TableSoFar, refusedAt, Content, recordContent, anyField, channelOutOfRange, forwardReference, classMismatch, tests, RecordAnswer, stop, recordPassed, recordTested, recordOfKind, readRecord}
 use Rattle.table_records.specs.declared.Record.{Record}
 use Rattle.table_records.specs.Shapes.{lastKind, bodyOf}
 use Rattle.table_records.specs.ParsedRecords.{ShortRecord, WholeRecord}
@@ -53,12 +53,12 @@ any-two fails (f ∷ e ∷ d ∷ fs) bs h g = absurd (omega arith)
 -- ---- the first test that fails decides the turn
 
 -- the turn after a refusal's number, 0 for none
-unfoldable pub afterTests : ℕ → Reading → ℕ → Content → (w next : ℕ) → List ℕ → RecordAnswer
+unfoldable pub afterTests : ℕ → TableSoFar → ℕ → Content → (w next : ℕ) → List ℕ → RecordAnswer
 unfolding recordPassed
 afterTests zero x at c w next rest = recordPassed x at c w next rest
 afterTests (suc m) x at c w next rest = stop (refusedAt (suc m) at)
 
-module _ (x : Reading) (at : ℕ) (K : Kind) (bs : List ℕ) where
+module _ (x : TableSoFar) (at : ℕ) (K : Kind) (bs : List ℕ) where
   abbrev size : ℕ
   size = length (fields K)
 
@@ -100,7 +100,7 @@ module _ (x : Reading) (at : ℕ) (K : Kind) (bs : List ℕ) where
 
 -- ---- what stands at an offset
 
-module _ (x : Reading) (s : List ℕ) (at : ℕ) where
+module _ (x : TableSoFar) (s : List ℕ) (at : ℕ) where
   pub end-turn : length s ≤ at → readRecord x at (drop at s) ≡ stop (refusedAt 9 at)
   unfolding readRecord
   end-turn h = rw (drop-of-length-le s h)

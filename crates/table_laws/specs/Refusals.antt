@@ -6,7 +6,7 @@ use mathlib.Core.Bool.{cond}
 use mathlib.Core.Option.{some}
 use mathlib.Core.List.{List, [], _∷_}
 use Rattle.semantics.specs.Definitions.Terms.{Term}
-use Rattle.semantics.specs.Definitions.Table.{Kind, kindByNumber, fields, adds, Content, Reading, recordContent, anyField, tooManyTerms, channelOutOfRange, forwardReference, classMismatch, overLimit, badTokens}
+use Rattle.semantics.specs.Definitions.Table.{Kind, kindByNumber, fields, adds, Content, TableSoFar, recordContent, anyField, tooManyTerms, channelOutOfRange, forwardReference, classMismatch, overLimit, badTokens}
 use Rattle.table_records.specs.Shapes.{kindByte}
 
 -- a byte of kind, with its kind
@@ -29,7 +29,7 @@ fieldRefusal ts K l r then =
     (cond (anyField (classMismatch ts) (fields K) (l ∷ r ∷ [])) 6 then)))
 
 -- 7 and 8, on what it says; 0 where every test passes
-unfoldable pub refusal : Reading → Kind → (l r : ℕ) → ℕ
+unfoldable pub refusal : TableSoFar → Kind → (l r : ℕ) → ℕ
 unfolding fieldRefusal recordContent overLimit badTokens
 refusal x K l r =
     fieldRefusal (x .terms) K l r

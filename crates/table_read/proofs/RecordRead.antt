@@ -11,7 +11,7 @@ use lib.Dec.{ltb}
 use borrow.Author.Tests.{lt-ltb, le-ltb, ltb-true, ltb-false}
 use Rattle.semantics.specs.Definitions.Layout.{channels, maxTerms}
 use Rattle.semantics.specs.Definitions.Terms.{Term}
-use Rattle.semantics.specs.Definitions.Table.{Kind, tokensK, startK, fields, Reading, refusedAt, Content, termRecord, tokensRecord, overLimit, badTokens, stop, tableEnd, recordPassed}
+use Rattle.semantics.specs.Definitions.Table.{Kind, tokensK, startK, fields, TableSoFar, refusedAt, Content, termRecord, tokensRecord, overLimit, badTokens, stop, tableEnd, recordPassed}
 use Rattle.theorems.proofs.GoodTable.{good-snoc, within-limits}
 use Rattle.table_records.specs.declared.Record.{Record}
 use Rattle.table_records.specs.declared.ParsedRecord.{ParsedRecord}
@@ -100,7 +100,7 @@ module _ (d : List ℕ) (at n : ℕ) (x : Record) where
 
 -- ---- a whole record
 
-after-refused : (q : ℕ) → (q ≡ 0 → ⊥) → (x : Reading) (at : ℕ) (c : Content) (w next : ℕ) (rest : List ℕ) →
+after-refused : (q : ℕ) → (q ≡ 0 → ⊥) → (x : TableSoFar) (at : ℕ) (c : Content) (w next : ℕ) (rest : List ℕ) →
     afterTests q x at c w next rest ≡ stop (refusedAt q at)
 unfolding afterTests
 after-refused zero h x at c w next rest = absurd (h refl)

@@ -7,7 +7,7 @@ use mathlib.Core.Path.{_≡_, refl, ap, _∙_}
 use mathlib.Core.List.{List, []}
 use lib.ListN.{length, drop, replicate, length-replicate}
 use lib.Seq.{drop-drop}
-use Rattle.semantics.specs.Definitions.Table.{Reading, TableAnswer, accepted, refusedAt, RecordAnswer, stop, more, readRecord, thenRead, readFrom, emptyReading, readTable}
+use Rattle.semantics.specs.Definitions.Table.{TableSoFar, TableAnswer, accepted, refusedAt, RecordAnswer, stop, more, readRecord, thenRead, readFrom, emptyTable, readTable}
 use Rattle.semantics.specs.Definitions.Calls.{ok, tableVerdict, checkTable}
 use Rattle.table_terms.proofs.Stores.{none-decoded}
 use Rattle.table_read.specs.declared.ReadAnswer.{ReadAnswer}
@@ -30,7 +30,7 @@ pub record ReadSoFar (s : List ℕ) (at n : ℕ) (d : List ℕ) : Type 0 where
   pub inside : at ≤ length s
 
 pub nothing-read : (s d : List ℕ) → d ≡ replicate decodedBytes 0 → ReadSoFar s 0 0 d
-unfolding readTable emptyReading
+unfolding readTable emptyTable
 nothing-read s d e = record {
   held = record { terms = []; decoded = none-decoded d (ap length e ∙ length-replicate {A = ℕ} decodedBytes 0); counted = refl };
   fuel = suc (length s);
@@ -41,7 +41,7 @@ nothing-read s d e = record {
 
 module _ (s : List ℕ) (at n : ℕ) (d : List ℕ) (w : ReadSoFar s at n d)
     (x : AfterRecord) (d′ : List ℕ) (reads : RecordRead s at n d x d′) where
-  abbrev so-far : Reading
+  abbrev so-far : TableSoFar
   so-far = readingOf (w .held .terms) d
 
   -- one record more of the fuel
@@ -55,7 +55,7 @@ module _ (s : List ℕ) (at n : ℕ) (d : List ℕ) (w : ReadSoFar s at n d)
   agrees = reads .found (w .held .terms) (w .held .decoded) (w .held .counted)
 
   module _ (next m : ℕ) (e : x ≡ More next m) where
-    advanced : {C : Type 0} → ((y : Reading) (v : ℕ) → readRecord so-far at (drop at s) ≡ more y v → Advanced s at next m y v d′ → C) → C
+    advanced : {C : Type 0} → ((y : TableSoFar) (v : ℕ) → readRecord so-far at (drop at s) ≡ more y v → Advanced s at next m y v d′ → C) → C
     advanced {C} k = go (readRecord so-far at (drop at s)) refl (rw e at agrees)
       where
         go : (t : RecordAnswer) → readRecord so-far at (drop at s) ≡ t → AfterRecordIs s at (More next m) t d′ → C
@@ -66,7 +66,7 @@ module _ (s : List ℕ) (at n : ℕ) (d : List ℕ) (w : ReadSoFar s at n d)
     unfolding thenRead
     read-on = advanced (λ y v p h. go y v p h (step-of (w .fuel) (w .enough) (readTable s) (w .says)))
       where
-        go : (y : Reading) (v : ℕ) → readRecord so-far at (drop at s) ≡ more y v → Advanced s at next m y v d′ →
+        go : (y : TableSoFar) (v : ℕ) → readRecord so-far at (drop at s) ≡ more y v → Advanced s at next m y v d′ →
             (g : ℕ) × (w .fuel ≡ suc g) × (readTable s ≡ thenRead (readRecord so-far at (drop at s)) (λ y v. readFrom g y (at + v) (drop v (drop at s)))) →
             ReadSoFar s next m d′
         go y v p h q =

@@ -9,7 +9,7 @@ use lib.ListN.{length, drop, set}
 use lib.Dec.{ltb}
 use Rattle.semantics.specs.Definitions.Layout.{maxTerms}
 use Rattle.semantics.specs.Definitions.Terms.{Term}
-use Rattle.semantics.specs.Definitions.Table.{tokensRecord, badTokens, Reading, RecordAnswer, stop, more, readRecord}
+use Rattle.semantics.specs.Definitions.Table.{tokensRecord, badTokens, TableSoFar, RecordAnswer, stop, more, readRecord}
 use Rattle.table_records.specs.declared.Record.{Record}
 use Rattle.table_terms.specs.Decoded.{decodedBytes, tokensIn, withRecord, withMeasures, Decoded}
 use Rattle.table_terms.specs.TermMeasures.{CanMeasure, MeasuresOf, LimitTested}
@@ -19,7 +19,7 @@ use Rattle.table_read.specs.declared.AfterRecord.the-variants.{More, Sto
 use Rattle.table_read.specs.ReadAnswers.{ReadAnswerIs}
 
 -- the reading goes on w bytes behind the record, with n terms
-pub record Advanced (s : List ℕ) (at next n : ℕ) (y : Reading) (w : ℕ) (d : List ℕ) : Type 0 where
+pub record Advanced (s : List ℕ) (at next n : ℕ) (y : TableSoFar) (w : ℕ) (d : List ℕ) : Type 0 where
   pub behind : next ≡ at + w
   pub some-bytes : 1 ≤ w
   pub inside : next ≤ length s
@@ -34,7 +34,7 @@ AfterRecordIs s at (Stop a) (stop b) d = ReadAnswerIs a b d
 AfterRecordIs s at (Stop a) (more y w) d = ⊥
 
 -- what has been read, where d is the decoded table of the terms ts
-abbrev pub readingOf : List Term → List ℕ → Reading
+abbrev pub readingOf : List Term → List ℕ → TableSoFar
 readingOf ts d = record { terms = ts; tokens = tokensIn d }
 
 -- d is the decoded table of n terms before the record, and d′ afterwards

@@ -72,7 +72,7 @@ fn class_mismatch(decoded: &[u8; DECODED], field: u8, byte: u8) -> bool
     ensures { λ r. ⌜ ClassTested (now (decoded .entry)) field byte r ⌝ }
 {
     match field {
-        PROCESS | EXPRESSION => table_records::class_of(table_terms::kind_of(decoded, wide(byte)))
+        PROCESS | EXPRESSION => table_records::class_of(table_terms::kind_at(decoded, wide(byte)))
             != field,
         _ => false,
     }
@@ -86,7 +86,7 @@ fn bad_tokens(decoded: &[u8; DECODED], channel: u8, count: u8) -> bool
     if count == 0 {
         return true;
     }
-    table_terms::tokens_of(decoded, wide(channel)) != 0
+    table_terms::tokens_at(decoded, wide(channel)) != 0
 }
 
 // The tests 3 to 6 on a record of this kind, in number order, each on both fields before the next: the number of the

@@ -52,42 +52,42 @@ pub struct Measures {
 
 // ---- reading
 
-pub fn kind_of(decoded: &[u8; DECODED], i: usize) -> u8
+pub fn kind_at(decoded: &[u8; DECODED], i: usize) -> u8
     requires { ⌜ i < maxTerms ⌝ }
     ensures { λ r. ⌜ r ≡ kindAt (now (decoded .entry)) i ⌝ }
 {
     decoded[CHANNELS + TERM * i + KIND]
 }
 
-pub fn first_of(decoded: &[u8; DECODED], i: usize) -> u8
+pub fn first_at(decoded: &[u8; DECODED], i: usize) -> u8
     requires { ⌜ i < maxTerms ⌝ }
     ensures { λ r. ⌜ r ≡ firstAt (now (decoded .entry)) i ⌝ }
 {
     decoded[CHANNELS + TERM * i + FIRST]
 }
 
-pub fn second_of(decoded: &[u8; DECODED], i: usize) -> u8
+pub fn second_at(decoded: &[u8; DECODED], i: usize) -> u8
     requires { ⌜ i < maxTerms ⌝ }
     ensures { λ r. ⌜ r ≡ secondAt (now (decoded .entry)) i ⌝ }
 {
     decoded[CHANNELS + TERM * i + SECOND]
 }
 
-pub fn breadth_of(decoded: &[u8; DECODED], i: usize) -> u8
+pub fn breadth_at(decoded: &[u8; DECODED], i: usize) -> u8
     requires { ⌜ i < maxTerms ⌝ }
     ensures { λ r. ⌜ r ≡ breadthAt (now (decoded .entry)) i ⌝ }
 {
     decoded[CHANNELS + TERM * i + BREADTH]
 }
 
-pub fn length_of(decoded: &[u8; DECODED], i: usize) -> u8
+pub fn length_at(decoded: &[u8; DECODED], i: usize) -> u8
     requires { ⌜ i < maxTerms ⌝ }
     ensures { λ r. ⌜ r ≡ lengthAt (now (decoded .entry)) i ⌝ }
 {
     decoded[CHANNELS + TERM * i + LENGTH]
 }
 
-pub fn tokens_of(decoded: &[u8; DECODED], channel: usize) -> u8
+pub fn tokens_at(decoded: &[u8; DECODED], channel: usize) -> u8
     requires { ⌜ channel < channels ⌝ }
     ensures { λ r. ⌜ r ≡ getD (now (decoded .entry)) channel 0 ⌝ }
 {
@@ -180,7 +180,7 @@ fn stored_measures(decoded: &[u8; DECODED], i: usize) -> u16
     ensures { λ p. ⌜ breadthIn p ≡ breadthAt (now (decoded .entry)) i ⌝ }
     ensures { λ p. ⌜ lengthIn p ≡ lengthAt (now (decoded .entry)) i ⌝ }
 {
-    packed(breadth_of(decoded, i), length_of(decoded, i))
+    packed(breadth_at(decoded, i), length_at(decoded, i))
 }
 
 // The walk: the measures of the term at a number, over the unfolded term. References go to smaller numbers. The
@@ -192,10 +192,10 @@ fn walk(decoded: &[u8; DECODED], measured: usize, at: usize) -> u16
     requires { ⌜ CanMeasure (now decoded) measured at ⌝ }
     ensures { λ p. ⌜ MeasuresOf (now (decoded .entry)) measured at (breadthIn p) (lengthIn p) ⌝ }
 {
-    match kind_of(decoded, at) {
+    match kind_at(decoded, at) {
         PAR | OR_ELSE => {
-            let first = wide(first_of(decoded, at));
-            let second = wide(second_of(decoded, at));
+            let first = wide(first_at(decoded, at));
+            let second = wide(second_at(decoded, at));
             let left = if first < measured {
                 stored_measures(decoded, first)
             } else {
@@ -209,7 +209,7 @@ fn walk(decoded: &[u8; DECODED], measured: usize, at: usize) -> u16
             of_both(left, right)
         }
         RD | WT => {
-            let second = wide(second_of(decoded, at));
+            let second = wide(second_at(decoded, at));
             let rest = if second < measured {
                 stored_measures(decoded, second)
             } else {
@@ -227,7 +227,7 @@ pub fn measures_of(decoded: &[u8; DECODED], measured: usize, at: usize) -> Measu
     requires { ⌜ CanMeasure (now decoded) measured at ⌝ }
     ensures { λ m. ⌜ MeasuresOf (now (decoded .entry)) measured at (m .breadth) (m .length) ⌝ }
 {
-    let p = match kind_of(decoded, at) {
+    let p = match kind_at(decoded, at) {
         PAR | OR_ELSE | RD | WT => walk(decoded, measured, at),
         _ => ALONE,
     };

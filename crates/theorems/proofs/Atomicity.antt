@@ -21,7 +21,7 @@ use Rattle.theorems.proofs.Simulation.{atomic-of-runs, unbegun-stations
 use Rattle.theorems.proofs.PathClause.{commits-ok, attempts-ok}
 use Rattle.theorems.proofs.Converse.{converse-holds}
 use Rattle.theorems.proofs.StatedMoves.{chosen-printed}
-use Rattle.theorems.proofs.ToldShort.{opened-lacks-one}
+use Rattle.theorems.proofs.ShortageClaims.{opened-lacks-one}
 
 pub atomicity-of-calls : AtomicityOfCalls
 unfolding AtomicityOfCalls initialBuffers finalBuffers allDone doneWithoutAborted atomic firstBuffers

@@ -12,7 +12,7 @@ use lib.Dec.{leb, ltb, eqb}
 use borrow.Author.Tests.{lt-ltb, le-ltb}
 use Rattle.semantics.specs.Definitions.Basics.{Bytes}
 use Rattle.semantics.specs.Definitions.Terms.{Term}
-use Rattle.semantics.specs.Definitions.Table.{kindByNumber, fields, Reading, TableAnswer, refusedAt, RecordAnswer, stop, more, readRecord, thenRead, emptyReading, readFrom, readTable}
+use Rattle.semantics.specs.Definitions.Table.{kindByNumber, fields, TableSoFar, TableAnswer, refusedAt, RecordAnswer, stop, more, readRecord, thenRead, emptyTable, readFrom, readTable}
 use Rattle.semantics.specs.Definitions.Configuration.{taking, repeating, block, output, Tree, fork, Component, idle, transaction, Configuration, branchesOf, opening}
 use Rattle.semantics.specs.Definitions.Stored.{WellFormed, ComponentOk, splitBytes, leafFrom, NodeKind, forkN, leafN, otherN, nodeKind, nodeFrom, treeFrom, waitingComponent, transactionOn, ComponentKind, waitingC, outputC, transactionC, otherC, componentKind, componentFrom, componentsFrom, configurationOf}
 use Rattle.semantics.specs.Definitions.Moves.{ruleNumber, act, inside}
@@ -38,7 +38,7 @@ use Rattle.theorems.proofs.Decimals.{tenth}
 -- ---- reading a table
 
 -- each record takes a byte at least, so two readings with a turn more than there are bytes go alike
-read-same : (z y : Reading → ℕ → List ℕ → TableAnswer) (f g : ℕ) (r : Reading) (at : ℕ) (bs : List ℕ) → length bs < f → length bs < g →
+read-same : (z y : TableSoFar → ℕ → List ℕ → TableAnswer) (f g : ℕ) (r : TableSoFar) (at : ℕ) (bs : List ℕ) → length bs < f → length bs < g →
     readOr z f r at bs ≡ readOr y g r at bs
 unfolding readOr thenRead
 read-same z y zero g r at bs h k = absurd (omega arith)
@@ -47,7 +47,7 @@ read-same z y (suc f) (suc g) r at bs h k =
     go (readRecord r at bs) (turn-reason r at bs) (λ s w. read-same z y f g s (at + w) (drop w bs))
   where
     go : (t : RecordAnswer) → TurnReason r at bs t →
-        ((s : Reading) (w : ℕ) → length (drop w bs) < f → length (drop w bs) < g →
+        ((s : TableSoFar) (w : ℕ) → length (drop w bs) < f → length (drop w bs) < g →
         readOr z f s (at + w) (drop w bs) ≡ readOr y g s (at + w) (drop w bs)) →
         thenRead t (λ s w. readOr z f s (at + w) (drop w bs)) ≡ thenRead t (λ s w. readOr y g s (at + w) (drop w bs))
     go (stop a) x next = refl
@@ -55,10 +55,10 @@ read-same z y (suc f) (suc g) r at bs h k =
         let p = printed-within r bs w (x .1) (x .0) (x .2) in
         let l = length-drop w bs in next s w (omega arith) (omega arith)
 
-atEnd : Reading → ℕ → List ℕ → TableAnswer
+atEnd : TableSoFar → ℕ → List ℕ → TableAnswer
 atEnd r at bs = refusedAt 9 at
 
-read-own : (f : ℕ) (r : Reading) (at : ℕ) (bs : List ℕ) → readFrom f r at bs ≡ readOr atEnd f r at bs
+read-own : (f : ℕ) (r : TableSoFar) (at : ℕ) (bs : List ℕ) → readFrom f r at bs ≡ readOr atEnd f r at bs
 unfolding readFrom readOr thenRead atEnd
 read-own zero r at bs = refl
 read-own (suc f) r at bs =
@@ -67,9 +67,9 @@ read-own (suc f) r at bs =
 pub table-read-to-its-end : TableReadToItsEnd
 unfolding TableReadToItsEnd readTable
 table-read-to-its-end bs f h =
-    let given = read-own (suc (length bs)) emptyReading 0 bs in (
-      read-own f emptyReading 0 bs ∙ read-same atEnd atEnd f (suc (length bs)) emptyReading 0 bs h (omega arith) ∙ sym given,
-      λ z. read-same z atEnd f (suc (length bs)) emptyReading 0 bs h (omega arith) ∙ sym given,
+    let given = read-own (suc (length bs)) emptyTable 0 bs in (
+      read-own f emptyTable 0 bs ∙ read-same atEnd atEnd f (suc (length bs)) emptyTable 0 bs h (omega arith) ∙ sym given,
+      λ z. read-same z atEnd f (suc (length bs)) emptyTable 0 bs h (omega arith) ∙ sym given,
     )
 
 -- ---- reading a tree of nodes
@@ -294,7 +294,7 @@ digits-printed-to-the-last n (suc f) l h =
 -- ---- the numbers that are printed
 
 -- a condition of a record is told at a byte of the table or at its end
-offset-within : (r : Reading) (n o : ℕ) (bs : List ℕ) → TableCondition r n o bs → o ≤ length bs
+offset-within : (r : TableSoFar) (n o : ℕ) (bs : List ℕ) → TableCondition r n o bs → o ≤ length bs
 offset-within r n o bs (kind-unknown e) = omega arith
 offset-within r n o bs (body-short fs e f) = omega arith
 offset-within r n o bs (terms-many e f g) = omega arith

@@ -14,7 +14,7 @@ use borrow.Author.Tests.{leb-false}
 use Rattle.calculus.specs.Syntax.{State}
 use Rattle.semantics.specs.Definitions.Basics.{firstOf, All}
 use Rattle.semantics.specs.Definitions.Terms.{Expression, endT, retryT, rdT, wtT, orElseT, Program, nilT, putT, takeT, repeatT, parT, atomT, Term, process, expression, number, width, branches, pathLength}
-use Rattle.semantics.specs.Definitions.Table.{Kind, nilK, putK, takeK, repeatK, parK, atomK, endK, retryK, rdK, wtK, orElseK, tokensK, startK, kindByNumber, Reading, Table, TableAnswer, accepted, refusedAt, isProgram, isExpression, Field, Content, termRecord, tokensRecord, startRecord, nothing, ofProgram, ofExpression, recordContent, fields, adds, anyField, tooManyTerms, channelOutOfRange, classMismatch, overLimit, Test, tests, RecordAnswer, stop, more, tableEnd, recordPassed, recordTested, recordOfKind, readRecord, thenRead, readFrom, emptyReading, readTable}
+use Rattle.semantics.specs.Definitions.Table.{Kind, nilK, putK, takeK, repeatK, parK, atomK, endK, retryK, rdK, wtK, orElseK, tokensK, startK, kindByNumber, TableSoFar, Table, TableAnswer, accepted, refusedAt, isProgram, isExpression, Field, Content, termRecord, tokensRecord, startRecord, nothing, ofProgram, ofExpression, recordContent, fields, adds, anyField, tooManyTerms, channelOutOfRange, classMismatch, overLimit, Test, tests, RecordAnswer, stop, more, tableEnd, recordPassed, recordTested, recordOfKind, readRecord, thenRead, readFrom, emptyTable, readTable}
 use Rattle.semantics.specs.Checks.AcceptedTables.{programNumber, termNumber, ProgramIn, ExpressionIn, SubtermsIn, ChannelBelow, MeasuresWithinLimits, GoodTable}
 use Rattle.semantics.specs.Checks.StoredForm.{AcceptedIsGood, StartIsTerm, TokensAreCounts}
 use Rattle.theorems.proofs.ByteReads.{or-false}
@@ -108,14 +108,14 @@ none-holds (t ∷ ts) e = go (t .holds) refl e (none-holds ts)
     go false p q k = (p, k q)
 
 -- a record that passed the tests on its fields
-pub record Passing (r : Reading) (K : Kind) (bs : List ℕ) : Type 0 where
+pub record Passing (r : TableSoFar) (K : Kind) (bs : List ℕ) : Type 0 where
   pub whole : ltb (length bs) (length (fields K)) ≡ false
   pub room : tooManyTerms (r .terms) (adds K) ≡ false
   pub channels : anyField channelOutOfRange (fields K) bs ≡ false
   pub classes : anyField (classMismatch (r .terms)) (fields K) bs ≡ false
 
 -- and that of its limits
-passing : (r : Reading) (K : Kind) (bs : List ℕ) → firstOf (λ t. t .holds) (tests r K bs) ≡ none →
+passing : (r : TableSoFar) (K : Kind) (bs : List ℕ) → firstOf (λ t. t .holds) (tests r K bs) ≡ none →
     Passing r K bs × (overLimit (recordContent (r .terms) bs K) ≡ false)
 unfolding tests
 passing r K bs e =
@@ -152,7 +152,7 @@ unfolding tooManyTerms
 next-term ts u F m e s c = record { room = leb-false 200 (length ts) m; place = e; parts = s; below = c }
 
 module _ (B : ℕ → Type 0) (ts : List Term) (σ : State) (g : GoodTable ts) where
-  abbrev pub so-far : Reading
+  abbrev pub so-far : TableSoFar
   so-far = record { terms = ts; tokens = σ }
 
   -- a record that passed them is sound
@@ -209,7 +209,7 @@ module _ (B : ℕ → Type 0) (ts : List Term) (σ : State) (g : GoodTable ts) w
 -- ---- record by record
 
 -- what has been read so far is good: its terms are, and its tokens are 16 counts with the property B
-record ReadingGood (B : ℕ → Type 0) (r : Reading) : Type 0 where
+record ReadingGood (B : ℕ → Type 0) (r : TableSoFar) : Type 0 where
   terms : GoodTable (r .terms)
   channelCounts : length (r .tokens) ≡ 16
   counts : All B (r .tokens)
@@ -230,12 +230,12 @@ TurnGood B (stop x) = AnswerGood B x
 TurnGood B (more r w) = ReadingGood B r
 
 module _ (B : ℕ → Type 0) where
-  closed-good : (r : Reading) (P : Program) (at : ℕ) (bs : List ℕ) → ReadingGood B r → ProgramIn (r .terms) P → AnswerGood B (tableEnd r P at bs)
+  closed-good : (r : TableSoFar) (P : Program) (at : ℕ) (bs : List ℕ) → ReadingGood B r → ProgramIn (r .terms) P → AnswerGood B (tableEnd r P at bs)
   unfolding tableEnd AnswerGood
   closed-good r P at [] g s = record { terms = g .terms; start = s; channelCounts = g .channelCounts; counts = g .counts }
   closed-good r P at (b ∷ bs) g s = tt
 
-  passed-good : (r : Reading) (at : ℕ) (c : Content) (w next : ℕ) (bs : List ℕ) → ReadingGood B r → Sound B (r .terms) c → overLimit c ≡ false →
+  passed-good : (r : TableSoFar) (at : ℕ) (c : Content) (w next : ℕ) (bs : List ℕ) → ReadingGood B r → Sound B (r .terms) c → overLimit c ≡ false →
       TurnGood B (recordPassed r at c w next bs)
   unfolding recordPassed TurnGood Sound
   passed-good r at (termRecord u) w next bs g s l = record { terms = good-snoc (r .terms) u (g .terms) s (within-limits u l); channelCounts = g .channelCounts; counts = g .counts }
@@ -244,14 +244,14 @@ module _ (B : ℕ → Type 0) where
   passed-good r at (startRecord P) w next bs g s l = closed-good r P next bs g s
   passed-good r at nothing w next bs g s l = absurd s
 
-  tested-good : (r : Reading) (at : ℕ) (K : Kind) (bs : List ℕ) (o : Option Test) → firstOf (λ t. t .holds) (tests r K bs) ≡ o →
+  tested-good : (r : TableSoFar) (at : ℕ) (K : Kind) (bs : List ℕ) (o : Option Test) → firstOf (λ t. t .holds) (tests r K bs) ≡ o →
       ReadingGood B r → All B bs → TurnGood B (recordTested r at K bs o)
   unfolding recordTested TurnGood AnswerGood
   tested-good r at K bs (some t) e g b = tt
   tested-good r at K bs none e g b =
       let h = passing r K bs e in passed-good r at _ _ _ _ g (sound B (r .terms) (r .tokens) (g .terms) K bs b (h .0)) (h .1)
 
-  turn-good : (r : Reading) (at : ℕ) (bs : List ℕ) → ReadingGood B r → All B bs → TurnGood B (readRecord r at bs)
+  turn-good : (r : TableSoFar) (at : ℕ) (bs : List ℕ) → ReadingGood B r → All B bs → TurnGood B (readRecord r at bs)
   unfolding readRecord TurnGood AnswerGood
   turn-good r at [] g b = tt
   turn-good r at (k ∷ bs) g b = go (kindByNumber k)
@@ -260,24 +260,24 @@ module _ (B : ℕ → Type 0) where
       go none = tt
       go (some K) = tested-good r at K bs _ refl g (b .1)
 
-  after-good : (x : RecordAnswer) (next : Reading → ℕ → TableAnswer) → TurnGood B x → ((s : Reading) (w : ℕ) → ReadingGood B s → AnswerGood B (next s w)) →
+  after-good : (x : RecordAnswer) (next : TableSoFar → ℕ → TableAnswer) → TurnGood B x → ((s : TableSoFar) (w : ℕ) → ReadingGood B s → AnswerGood B (next s w)) →
       AnswerGood B (thenRead x next)
   unfolding thenRead TurnGood
   after-good (stop a) next g k = g
   after-good (more r w) next g k = k r w g
 
   -- whatever has been read so far, the answer on the rest keeps its promise
-  from-good : (f : ℕ) (r : Reading) (at : ℕ) (bs : List ℕ) → ReadingGood B r → All B bs → AnswerGood B (readFrom f r at bs)
+  from-good : (f : ℕ) (r : TableSoFar) (at : ℕ) (bs : List ℕ) → ReadingGood B r → All B bs → AnswerGood B (readFrom f r at bs)
   unfolding readFrom AnswerGood
   from-good zero r at bs g b = tt
   from-good (suc f) r at bs g b =
       after-good (readRecord r at bs) _ (turn-good r at bs g b) (λ s w h. from-good f s (at + w) (drop w bs) h (all-drop B w bs b))
 
   table-good : B 0 → (bs : List ℕ) (t : Table) → All B bs → readTable bs ≡ accepted t → TableGood B t
-  unfolding readTable emptyReading AnswerGood
-  table-good z bs t b e = rw e at (from-good (suc (length bs)) emptyReading 0 bs nothing b)
+  unfolding readTable emptyTable AnswerGood
+  table-good z bs t b e = rw e at (from-good (suc (length bs)) emptyTable 0 bs nothing b)
     where
-      nothing : ReadingGood B emptyReading
+      nothing : ReadingGood B emptyTable
       nothing = record { terms = empty-good; channelCounts = refl; counts = all-replicate B 16 0 z }
 
 -- ---- the claims

@@ -21,7 +21,7 @@ pub mod Limits
 pub mod Outcome
 pub mod InnerMoves
 pub mod StatedMoves
-pub mod ToldShort
+pub mod ShortageClaims
 pub mod Simulation
 pub mod Notes
 pub mod PathClause

@@ -13,9 +13,9 @@ use lib.Dec.{eqb, ltb}
 use borrow.Author.Tests.{eqb-true, eqb-false, eq-eqb, ne-eqb, ltb-false, lt-ltb, le-ltb}
 use Rattle.semantics.specs.Definitions.Basics.{firstOf}
 use Rattle.semantics.specs.Definitions.Terms.{Program}
-use Rattle.semantics.specs.Definitions.Table.{Kind, kindByNumber, fields, Reading, Table, TableAnswer, accepted, refusedAt, Content}
+use Rattle.semantics.specs.Definitions.Table.{Kind, kindByNumber, fields, TableSoFar, Table, TableAnswer, accepted, refusedAt, Content}
 use Rattle.semantics.specs.Definitions.Table.{termRecord, tokensRecord, startRecord, nothing, recordContent, Test, tests, RecordAnswer, stop, more, tableEnd}
-use Rattle.semantics.specs.Definitions.Table.{recordPassed, recordTested, recordOfKind, readRecord, thenRead, readFrom, emptyReading, readTable}
+use Rattle.semantics.specs.Definitions.Table.{recordPassed, recordTested, recordOfKind, readRecord, thenRead, readFrom, emptyTable, readTable}
 use Rattle.semantics.specs.Definitions.Configuration.{opening}
 use Rattle.semantics.specs.Definitions.Stored.{WellFormed, hallBytes, bytesOf, configurationOf}
 use Rattle.semantics.specs.Definitions.Run.{freshCounters, run}
@@ -100,7 +100,7 @@ table-found bs =
 -- ---- an accepted table is found in front of any choices
 
 -- a record that passed its tests has its whole body
-whole-body : (r : Reading) (K : Kind) (bs : List ℕ) → firstOf (λ t. t .holds) (tests r K bs) ≡ none →
+whole-body : (r : TableSoFar) (K : Kind) (bs : List ℕ) → firstOf (λ t. t .holds) (tests r K bs) ≡ none →
     length (fields K) ≤ length bs
 unfolding firstOf tests
 whole-body r K bs e = ltb-false _ _ (fails (ltb (length bs) (length (fields K))) _ _ e)
@@ -129,14 +129,14 @@ module _ (cs : List ℕ) where
       (after-record {n = length (drop size rest)} {bs = rest ++ cs} K named ne
       (rw (drop-append-le size rest cs whole) x))
 
-  closed-ends : (r : Reading) (P : Program) (k at : ℕ) (rest : List ℕ) → k ≡ 13 → 1 ≤ length rest →
+  closed-ends : (r : TableSoFar) (P : Program) (k at : ℕ) (rest : List ℕ) → k ≡ 13 → 1 ≤ length rest →
       AnswerEnds (k ∷ rest) (tableEnd r P at (drop 1 rest))
   unfolding tableEnd AnswerEnds
   closed-ends r P k at [] e h = absurd (omega arith)
   closed-ends r P k at (x ∷ []) e h = rw e at-start
   closed-ends r P k at (x ∷ y ∷ ys) e h = tt
 
-  passed-ends : (r : Reading) (k place at : ℕ) (rest : List ℕ) (K : Kind) → kindByNumber k ≡ some K →
+  passed-ends : (r : TableSoFar) (k place at : ℕ) (rest : List ℕ) (K : Kind) → kindByNumber k ≡ some K →
       length (fields K) ≤ length rest → (c : Content) → ContentReason K rest c →
       TurnEnds (k ∷ rest) (recordPassed r place c (suc (length (fields K))) at (drop (length (fields K)) rest))
   unfolding recordPassed TurnEnds AnswerEnds
@@ -149,7 +149,7 @@ module _ (cs : List ℕ) where
       rw (y .1) (closed-ends r P k at rest (kind-number k K named ∙ y .0) (rw (y .1) at whole))
   passed-ends r k place at rest K named whole nothing y = tt
 
-  turn-ends : (r : Reading) (at : ℕ) (bs : List ℕ) → TurnEnds bs (readRecord r at bs)
+  turn-ends : (r : TableSoFar) (at : ℕ) (bs : List ℕ) → TurnEnds bs (readRecord r at bs)
   unfolding readRecord recordOfKind recordTested TurnEnds AnswerEnds
   turn-ends r at [] = tt
   turn-ends r at (k ∷ rest) = by-kind (kindByNumber k) refl
@@ -165,7 +165,7 @@ module _ (cs : List ℕ) where
       by-kind none e = tt
       by-kind (some K) e = by-test K e _ refl
 
-  from-ends : (f : ℕ) (r : Reading) (at : ℕ) (bs : List ℕ) → AnswerEnds bs (readFrom f r at bs)
+  from-ends : (f : ℕ) (r : TableSoFar) (at : ℕ) (bs : List ℕ) → AnswerEnds bs (readFrom f r at bs)
   unfolding readFrom thenRead TurnEnds AnswerEnds
   from-ends zero r at bs = tt
   from-ends (suc f) r at bs = go (readRecord r at bs) (turn-ends r at bs) (λ s w. from-ends f s (at + w) (drop w bs))
@@ -177,7 +177,7 @@ module _ (cs : List ℕ) where
       lifted w (refusedAt n p) g x = tt
 
       go : (x : RecordAnswer) → TurnEnds bs x →
-          ((s : Reading) (w : ℕ) → AnswerEnds (drop w bs) (readFrom f s (at + w) (drop w bs))) →
+          ((s : TableSoFar) (w : ℕ) → AnswerEnds (drop w bs) (readFrom f s (at + w) (drop w bs))) →
           AnswerEnds bs (thenRead x (λ s w. readFrom f s (at + w) (drop w bs)))
       go (stop a) e later = e
       go (more s w) e later = lifted w (readFrom f s (at + w) (drop w bs)) e (later s w)
@@ -186,7 +186,7 @@ pub accepted-is-found : AcceptedIsFound
 unfolding AcceptedIsFound readTable AnswerEnds
 accepted-is-found table t reads choices =
     let x : TableEnds (table ++ choices) (length table) =
-    rw reads at (from-ends choices (suc (length table)) emptyReading 0 table) in
+    rw reads at (from-ends choices (suc (length table)) emptyTable 0 table) in
     rw (take-at table choices (length table) refl) at (up-to-start (length table) x)
 
 -- ---- the text

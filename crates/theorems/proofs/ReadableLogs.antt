@@ -7,7 +7,7 @@ use mathlib.Core.Bool.{Bool, true, false, true≢false}
 use Rattle.calculus.specs.Syntax.{Log, State}
 use Rattle.calculus.specs.State.{Included}
 use Rattle.calculus.specs.Log.{RD}
-use Rattle.semantics.specs.Definitions.Shortage.{Shortage, enough, short, isEnough, shortageOf}
+use Rattle.semantics.specs.Definitions.Shortage.{Shortage, enough, short, isEnough, shortageAgainst}
 use Rattle.semantics.specs.Definitions.Logs.{shortage, readable}
 use Rattle.semantics.specs.Checks.StatedMoves.{LowestShort}
 use Rattle.theorems.proofs.Shortages.{Found, shortage-found, found-is, enough-true}
@@ -16,8 +16,8 @@ use Rattle.theorems.proofs.Shortages.{Found, shortage-found, found-is, 
 pub readable-included : (σ : State) (δ : Log) → readable σ δ ≡ true → Included (RD δ) σ
 unfolding readable shortage
 readable-included σ δ e =
-    let q : shortageOf (RD δ) σ ≡ enough = enough-true (shortageOf (RD δ) σ) e in
-    let f : Found (RD δ) σ (shortageOf (RD δ) σ) = shortage-found (RD δ) σ in
+    let q : shortageAgainst (RD δ) σ ≡ enough = enough-true (shortageAgainst (RD δ) σ) e in
+    let f : Found (RD δ) σ (shortageAgainst (RD δ) σ) = shortage-found (RD δ) σ in
     rw q at f
 
 -- included is readable
@@ -42,10 +42,10 @@ not-included-unreadable σ δ h = go (readable σ δ) refl
 -- where it is not readable, some channel is the lowest that is short
 pub unreadable-short : (σ : State) (δ : Log) → readable σ δ ≡ false → (a : ℕ) × (k : ℕ) × (shortage σ δ ≡ short a k) × LowestShort (RD δ) σ a k
 unfolding readable shortage isEnough
-unreadable-short σ δ e = go (shortageOf (RD δ) σ) refl e (shortage-found (RD δ) σ)
+unreadable-short σ δ e = go (shortageAgainst (RD δ) σ) refl e (shortage-found (RD δ) σ)
   where
-    go : (w : Shortage) → shortageOf (RD δ) σ ≡ w → isEnough w ≡ false → Found (RD δ) σ w →
-        (a : ℕ) × (k : ℕ) × (shortageOf (RD δ) σ ≡ short a k) × LowestShort (RD δ) σ a k
+    go : (w : Shortage) → shortageAgainst (RD δ) σ ≡ w → isEnough w ≡ false → Found (RD δ) σ w →
+        (a : ℕ) × (k : ℕ) × (shortageAgainst (RD δ) σ ≡ short a k) × LowestShort (RD δ) σ a k
     go enough q n f = absurd (true≢false n)
     go (short a k) q n f = (a, k, q, f)
 

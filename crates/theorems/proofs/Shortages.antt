@@ -13,7 +13,7 @@ use borrow.Author.Tests.{leb-true, leb-false}
 use Rattle.calculus.specs.Syntax.{Name, State}
 use Rattle.calculus.specs.State.{count, occurrences, Included}
 use Rattle.calculus.proofs.States.{same-other}
-use Rattle.semantics.specs.Definitions.Shortage.{Shortage, enough, short, isEnough, shortIn, lower, lowest, shortageOf}
+use Rattle.semantics.specs.Definitions.Shortage.{Shortage, enough, short, isEnough, shortIn, lower, lowest, shortageAgainst}
 use Rattle.semantics.specs.Checks.StatedMoves.{LowestShort}
 
 -- what a finding says of reads and counts
@@ -73,9 +73,9 @@ module _ (bs : List Name) (σ : State) where
       go true t behind = among-enough c cs rest (leb-true _ _ t) behind
       go false t behind = let z = leb-false (occurrences c bs) (count σ c) t in among-short c _ cs rest (omega arith) (omega arith) behind
 
-  pub shortage-found : Found bs σ (shortageOf bs σ)
-  unfolding shortageOf Included
-  shortage-found = go (shortageOf bs σ) (among-found bs)
+  pub shortage-found : Found bs σ (shortageAgainst bs σ)
+  unfolding shortageAgainst Included
+  shortage-found = go (shortageAgainst bs σ) (among-found bs)
     where
       none : (b : Name) → occurrences b bs ≡ 0 → Enough b
       none b z = omega arith
@@ -124,8 +124,8 @@ module _ (bs : List Name) (σ : State) where
   found-alone (short a k) (short b m) f g = lowest-alone f g
 
   -- what is found is what is so
-  pub found-is : (w : Shortage) → Found bs σ w → shortageOf bs σ ≡ w
-  found-is w f = found-alone (shortageOf bs σ) w shortage-found f
+  pub found-is : (w : Shortage) → Found bs σ w → shortageAgainst bs σ ≡ w
+  found-is w f = found-alone (shortageAgainst bs σ) w shortage-found f
 
 -- ---- the test's first half
 

@@ -14,7 +14,7 @@ use Rattle.semantics.specs.Definitions.Table.{Table}
 use Rattle.semantics.specs.Definitions.Shortage.{enough, short}
 use Rattle.semantics.specs.Definitions.Configuration.{Configuration}
 use Rattle.semantics.specs.Definitions.Stored.{bytesOf}
-use Rattle.semantics.specs.Definitions.Moves.{Entry, act, inside, EntryAnswer, does, refuses, entryAnswer, transitionOf, transition, ruleNumber, replyOf}
+use Rattle.semantics.specs.Definitions.Moves.{Entry, act, inside, EntryAnswer, does, refuses, entryAnswer, transitionOf, transition, ruleNumber, asReply}
 use Rattle.semantics.specs.Definitions.Run.{entry, schedule, entries, runFrom, run, steps}
 use Rattle.semantics.specs.Definitions.Calls.{Admission, admitted, notAdmitted, admission, Buffers, RunCall, runResult, runAdmitted, runCall, StepCall, stepRefused, stepEntry, stepKind, stepAdmitted, stepCall, stepBytes, stepChoice, callAnswer, callEntries}
 use Rattle.semantics.specs.Claims.Shortages.{FailuresAloneName}
@@ -24,7 +24,7 @@ use Rattle.theorems.proofs.GoodTable.{accepted-is-good}
 use Rattle.theorems.proofs.TableConditions.{table-numbers}
 use Rattle.theorems.proofs.HallConditions.{hall-numbers, admitted-stored, refusal-numbers}
 use Rattle.theorems.proofs.ChoiceConditions.{choice-numbers}
-use Rattle.theorems.proofs.ToldShort.{failures-alone-name, shortage-small}
+use Rattle.theorems.proofs.ShortageClaims.{failures-alone-name, shortage-small}
 use Rattle.theorems.proofs.CallConditions.{choice-range}
 use Rattle.theorems.proofs.CallsAsOne.{AnswerHigh, choose-high}
 
@@ -162,11 +162,11 @@ printed-numbered table l tb hb kind p k a (has-moved {t} {h} {g} {e = d} {r = r}
 
 -- what a step tells is the reply to its choice
 pub step-replies : StepReplies
-unfolding StepReplies stepEntry stepRefused replyOf transition transitionOf
+unfolding StepReplies stepEntry stepRefused asReply transition transitionOf
 step-replies table l t h admits kind p k size e named =
     rw (step-named table l t h admits named) (go (entryAnswer h e) (choose-high h e))
   where
-    go : (x : EntryAnswer) → AnswerHigh (transitionOf x) → stepReply (stepEntry l size x) ≡ replyOf x
+    go : (x : EntryAnswer) → AnswerHigh (transitionOf x) → stepReply (stepEntry l size x) ≡ asReply x
     go (does r lacks g) high = refl
     go (refuses n) high = rw (ne-eqb n 0 (λ z. omega arith))
 

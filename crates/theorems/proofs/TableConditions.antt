@@ -18,7 +18,7 @@ use borrow.Author.Tests.{leb-true, leb-false, lt-leb, eqb-true, eqb-false}
 use Rattle.calculus.specs.State.{count}
 use Rattle.semantics.specs.Definitions.Basics.{firstOf}
 use Rattle.semantics.specs.Definitions.Terms.{Program, Term, process, expression, width, branches, pathLength}
-use Rattle.semantics.specs.Definitions.Table.{Kind, kindByNumber, Field, channelF, programF, expressionF, amountF, fields, Reading, Table, TableAnswer, accepted, refusedAt, isProgram, isExpression, Content, termRecord, tokensRecord, startRecord, nothing, recordContent, adds, anyField, tooManyTerms, channelOutOfRange, forwardReference, classMismatch, overLimit, badTokens, Test, tests, RecordAnswer, stop, more, tableEnd, recordPassed, recordTested, recordOfKind, readRecord, thenRead, readFrom, emptyReading, readTable}
+use Rattle.semantics.specs.Definitions.Table.{Kind, kindByNumber, Field, channelF, programF, expressionF, amountF, fields, TableSoFar, Table, TableAnswer, accepted, refusedAt, isProgram, isExpression, Content, termRecord, tokensRecord, startRecord, nothing, recordContent, adds, anyField, tooManyTerms, channelOutOfRange, forwardReference, classMismatch, overLimit, badTokens, Test, tests, RecordAnswer, stop, more, tableEnd, recordPassed, recordTested, recordOfKind, readRecord, thenRead, readFrom, emptyTable, readTable}
 use Rattle.semantics.specs.Checks.Conditions.{Body, BodyByte, RecordAsStated, start13, ReadAsStated, TableCondition, kind-unknown, body-short, terms-many, channel-over, forward-reference, class-expression, class-process, width-over, paths-over, tokens-none, tokens-again, byte-follows, start-missing, NoCondition, Reached, at-first, after-term, after-tokens, TableRefused, TableAccepted, TableNumbers, MissingAtLength}
 use Rattle.theorems.proofs.Lists.{none-found, found-below, none-past}
 use Rattle.semantics.specs.Checks.AcceptedTables.{kindByte}
@@ -53,7 +53,7 @@ module _ (fails : Field → ℕ → Bool) where
 -- ---- the conditions of a record
 
 -- their numbers
-pub condition-number : (r : Reading) (n o : ℕ) (bs : List ℕ) → TableCondition r n o bs → (1 ≤ n) × (n ≤ 9)
+pub condition-number : (r : TableSoFar) (n o : ℕ) (bs : List ℕ) → TableCondition r n o bs → (1 ≤ n) × (n ≤ 9)
 condition-number r n o bs (kind-unknown e) = omega arith
 condition-number r n o bs (body-short fs e f) = omega arith
 condition-number r n o bs (terms-many e f g) = omega arith
@@ -73,7 +73,7 @@ offsetOf : ℕ → List ℕ → ℕ
 offsetOf n [] = 0
 offsetOf n (k ∷ bs) = cond (eqb n 9) 2 0
 
-condition-offset : (r : Reading) (n o : ℕ) (bs : List ℕ) → TableCondition r n o bs → o ≡ offsetOf n bs
+condition-offset : (r : TableSoFar) (n o : ℕ) (bs : List ℕ) → TableCondition r n o bs → o ≡ offsetOf n bs
 unfolding offsetOf
 condition-offset r n o bs (kind-unknown e) = refl
 condition-offset r n o bs (body-short fs e f) = refl
@@ -90,12 +90,12 @@ condition-offset r n o bs byte-follows = refl
 condition-offset r n o bs start-missing = refl
 
 -- what 8 says of a record
-tokens-mean : (r : Reading) (o k : ℕ) (bs : List ℕ) → TableCondition r 8 o (k ∷ bs) → (k ≡ 12) ×
+tokens-mean : (r : TableSoFar) (o k : ℕ) (bs : List ℕ) → TableCondition r 8 o (k ∷ bs) → (k ≡ 12) ×
     ((getD bs 1 0 ≡ 0) ⊎ (count (r .tokens) (getD bs 0 0) ≢ 0))
 tokens-mean r o k bs tokens-none = (refl, inl refl)
 tokens-mean r o k bs (tokens-again e) = (refl, inr e)
 
-tokens-hold : (r : Reading) (k : ℕ) (bs : List ℕ) → k ≡ 12 → 2 ≤ length bs → (getD bs 1 0 ≡ 0) ⊎
+tokens-hold : (r : TableSoFar) (k : ℕ) (bs : List ℕ) → k ≡ 12 → 2 ≤ length bs → (getD bs 1 0 ≡ 0) ⊎
     (count (r .tokens) (getD bs 0 0) ≢ 0) → TableCondition r 8 0 (k ∷ bs)
 tokens-hold r k [] e l h = absurd (omega arith)
 tokens-hold r k (a ∷ []) e l h = absurd (omega arith)
@@ -103,7 +103,7 @@ tokens-hold r k (a ∷ n ∷ bs) e l (inl h) = rw (e, h) tokens-none
 tokens-hold r k (a ∷ n ∷ bs) e l (inr h) = rw e (tokens-again h)
 
 -- what 9 says of a record
-follow-means : (r : Reading) (o k : ℕ) (bs : List ℕ) → TableCondition r 9 o (k ∷ bs) → (k ≡ 13) × (2 ≤ length bs)
+follow-means : (r : TableSoFar) (o k : ℕ) (bs : List ℕ) → TableCondition r 9 o (k ∷ bs) → (k ≡ 13) × (2 ≤ length bs)
 follow-means r o k bs byte-follows = (refl, omega arith)
 
 -- what 7 says of a record's content
@@ -118,7 +118,7 @@ false-true : false ≡ true → ⊥
 false-true e = let z : _≡_ {A = ℕ} 0 1 = cc in omega arith
 
 -- a record's first byte and what follows
-module _ (r : Reading) (k : ℕ) (bs : List ℕ) where
+module _ (r : TableSoFar) (k : ℕ) (bs : List ℕ) where
   -- no condition of a smaller number holds
   abbrev Clear : ℕ → Type 0
   Clear n = (m o : ℕ) → m < n → TableCondition r m o (k ∷ bs) → ⊥
@@ -133,7 +133,7 @@ module _ (r : Reading) (k : ℕ) (bs : List ℕ) where
   meets-none clear last n o c = let z = condition-number r n o (k ∷ bs) c in clear-next 9 clear last n o (omega arith) c
 
 -- a record of kind K
-module _ (r : Reading) (k : ℕ) (bs : List ℕ) (K : Kind) (named : kindByNumber k ≡ some K) where
+module _ (r : TableSoFar) (k : ℕ) (bs : List ℕ) (K : Kind) (named : kindByNumber k ≡ some K) where
   -- a test decides its condition
   abbrev Decides : ℕ → Bool → Type 0
   Decides n true = TableCondition r n 0 (k ∷ bs)
@@ -434,14 +434,14 @@ module _ (r : Reading) (k : ℕ) (bs : List ℕ) (K : Kind) (named : kindByNumbe
 -- ---- one turn
 
 -- what a record that passed makes of a reading
-abbrev After : Reading → Content → Reading → Type 0
+abbrev After : TableSoFar → Content → TableSoFar → Type 0
 After r (termRecord t) s = s ≡ record { terms = r .terms ++ (t ∷ []); tokens = r .tokens }
 After r (tokensRecord a n) s = s ≡ record { terms = r .terms; tokens = set (r .tokens) a n }
 After r (startRecord P) s = ⊥
 After r nothing s = ⊥
 
 -- the record at a place of the table met a condition, closes the table, or is passed
-abbrev pub TurnReason : Reading → ℕ → List ℕ → RecordAnswer → Type 0
+abbrev pub TurnReason : TableSoFar → ℕ → List ℕ → RecordAnswer → Type 0
 TurnReason r p bs (stop (refusedAt n q)) =
     (o : ℕ) × TableCondition r n o bs × ((m i : ℕ) → m < n → TableCondition r m i bs → ⊥) × (q ≡ p + o)
 TurnReason r p bs (stop (accepted t)) =
@@ -450,7 +450,7 @@ TurnReason r p bs (stop (accepted t)) =
 TurnReason r p bs (more s w) = NoCondition r bs × (c : Content) × RecordAsStated (r .terms) bs w c × After r c s
 
 -- a start record: the table ends there, or 9 holds
-closed-reason : (r : Reading) (p : ℕ) (bs : List ℕ) (w : ℕ) (P : Program) → RecordAsStated (r .terms) bs w (startRecord P) →
+closed-reason : (r : TableSoFar) (p : ℕ) (bs : List ℕ) (w : ℕ) (P : Program) → RecordAsStated (r .terms) bs w (startRecord P) →
     ((m i : ℕ) → m < 9 → TableCondition r m i bs → ⊥) → TurnReason r p bs (stop (tableEnd r P (p + w) (drop w bs)))
 unfolding tableEnd
 closed-reason r p bs w P (start13 {r = b} {bs = rest} e) clear = go rest clear
@@ -463,7 +463,7 @@ closed-reason r p bs w P (start13 {r = b} {bs = rest} e) clear = go rest clear
     go [] h = (meets-none r 13 (b ∷ []) h none-follows, b, P, refl, e, refl)
     go (c ∷ cs) h = (2, byte-follows, h, refl)
 
-module _ (r : Reading) (p k : ℕ) (rest : List ℕ) where
+module _ (r : TableSoFar) (p k : ℕ) (rest : List ℕ) where
   -- a record that is no start record and passed its tests meets no condition
   met-none : (K : Kind) → kindByNumber k ≡ some K → Clear r k rest 9 → kindByte K ≤ 12 → NoCondition r (k ∷ rest)
   met-none K named clear l =
@@ -503,7 +503,7 @@ module _ (r : Reading) (p k : ℕ) (rest : List ℕ) where
   kind-reason (some K) e = tested-reason K e (firstOf (λ t. t .holds) (tests r K rest)) (found r k rest K e)
 
 -- every turn has its reason
-pub turn-reason : (r : Reading) (p : ℕ) (bs : List ℕ) → TurnReason r p bs (readRecord r p bs)
+pub turn-reason : (r : TableSoFar) (p : ℕ) (bs : List ℕ) → TurnReason r p bs (readRecord r p bs)
 unfolding readRecord
 turn-reason r p [] = (0, start-missing, (λ m i l c. ends m i l c), omega arith)
   where
@@ -512,7 +512,7 @@ turn-reason r p [] = (0, start-missing, (λ m i l c. ends m i l c), omega arith)
 turn-reason r p (k ∷ rest) = kind-reason r p k rest (kindByNumber k) refl
 
 -- a record of which a condition is the first that holds is refused with it
-turn-refuses : (r : Reading) (p : ℕ) (bs : List ℕ) (n o : ℕ) → TableCondition r n o bs →
+turn-refuses : (r : TableSoFar) (p : ℕ) (bs : List ℕ) (n o : ℕ) → TableCondition r n o bs →
     ((m i : ℕ) → m < n → TableCondition r m i bs → ⊥) →
     readRecord r p bs ≡ stop (refusedAt n (p + o))
 turn-refuses r p bs n o c before = go (readRecord r p bs) (turn-reason r p bs)
@@ -533,7 +533,7 @@ turn-refuses r p bs n o c before = go (readRecord r p bs) (turn-reason r p bs)
     go (more s w) h = absurd (h .0 n o c)
 
 -- a record as printed that passes is passed
-turn-passes : (r : Reading) (p : ℕ) (bs : List ℕ) (w : ℕ) (c : Content) → NoCondition r bs → RecordAsStated (r .terms) bs w c →
+turn-passes : (r : TableSoFar) (p : ℕ) (bs : List ℕ) (w : ℕ) (c : Content) → NoCondition r bs → RecordAsStated (r .terms) bs w c →
     readRecord r p bs ≡ recordPassed r p c w (p + w) (drop w bs)
 unfolding ReadAsStated readRecord recordOfKind recordTested
 turn-passes r p [] w c passes prints = absurd (elim prints [ ])
@@ -552,7 +552,7 @@ turn-passes r p (k ∷ rest) w c passes prints = go (read-as-stated (r .terms) k
         none-holds none h = refl
 
 -- a start record on a process, with nothing behind it, closes the table
-turn-closes : (r : Reading) (p b : ℕ) (P : Program) → getElem? (r .terms) b ≡ some (process P) →
+turn-closes : (r : TableSoFar) (p b : ℕ) (P : Program) → getElem? (r .terms) b ≡ some (process P) →
     readRecord r p (13 ∷ b ∷ []) ≡ stop (accepted (record { terms = r .terms; tokens = r .tokens; start = P }))
 unfolding readRecord
 turn-closes r p b P e = rw (lt-leb (length (r .terms)) b (found-below (r .terms) b (process P) e), e) (rw e)
@@ -560,18 +560,18 @@ turn-closes r p b P e = rw (lt-leb (length (r .terms)) b (found-below (r .terms)
 -- ---- record by record
 
 -- reading goes on after a record, or stops at it
-read-on : (f : ℕ) (r : Reading) (p : ℕ) (bs : List ℕ) (s : Reading) (w : ℕ) → readRecord r p bs ≡ more s w →
+read-on : (f : ℕ) (r : TableSoFar) (p : ℕ) (bs : List ℕ) (s : TableSoFar) (w : ℕ) → readRecord r p bs ≡ more s w →
     readFrom (suc f) r p bs ≡ readFrom f s (p + w) (drop w bs)
 unfolding readFrom thenRead
 read-on f r p bs s w e = rw e
 
-read-stop : (f : ℕ) (r : Reading) (p : ℕ) (bs : List ℕ) (a : TableAnswer) → readRecord r p bs ≡ stop a →
+read-stop : (f : ℕ) (r : TableSoFar) (p : ℕ) (bs : List ℕ) (a : TableAnswer) → readRecord r p bs ≡ stop a →
     readFrom (suc f) r p bs ≡ a
 unfolding readFrom thenRead
 read-stop f r p bs a e = rw e
 
 -- a record as printed has a byte at least, and lies within its bytes
-pub printed-within : (r : Reading) (bs : List ℕ) (w : ℕ) (c : Content) → NoCondition r bs → RecordAsStated (r .terms) bs w c → (1 ≤ w) ×
+pub printed-within : (r : TableSoFar) (bs : List ℕ) (w : ℕ) (c : Content) → NoCondition r bs → RecordAsStated (r .terms) bs w c → (1 ≤ w) ×
     (w ≤ length bs)
 unfolding ReadAsStated
 printed-within r [] w c passes prints = absurd (elim prints [ ])
@@ -583,7 +583,7 @@ printed-within r (k ∷ rest) w c passes prints = go (read-as-stated (r .terms) 
 
 module _ (bs : List ℕ) where
   -- a record that is passed leads to the next one
-  reached-next : (p : ℕ) (r : Reading) → Reached bs p r → (s : Reading) (w : ℕ) →
+  reached-next : (p : ℕ) (r : TableSoFar) → Reached bs p r → (s : TableSoFar) (w : ℕ) →
       TurnReason r p (drop p bs) (more s w) → Reached bs (p + w) s
   reached-next p r reached s w (passes, termRecord t, prints, is) = rw is (after-term reached passes prints)
   reached-next p r reached s w (passes, tokensRecord a n, prints, is) = rw is (after-tokens reached passes prints)
@@ -595,14 +595,14 @@ module _ (bs : List ℕ) where
   AnswerReason (refusedAt n q) = TableRefused bs n q
 
   -- an answer that a turn gives has its reason in the record reached
-  stop-reason : (p : ℕ) (r : Reading) → Reached bs p r → (a : TableAnswer) → TurnReason r p (drop p bs) (stop a) →
+  stop-reason : (p : ℕ) (r : TableSoFar) → Reached bs p r → (a : TableAnswer) → TurnReason r p (drop p bs) (stop a) →
       AnswerReason a
   unfolding TableRefused TableAccepted
   stop-reason p r reached (refusedAt n q) (o, c, before, e) = (p, r, o, reached, c, before, e)
   stop-reason p r reached (accepted t) (passes, b, P, e, at, is) = (p, r, b, P, reached, e, at, is)
 
   -- what is left behind a record that is passed is less
-  left-less : (p : ℕ) (r : Reading) (w : ℕ) (c : Content) (f : ℕ) → NoCondition r (drop p bs) →
+  left-less : (p : ℕ) (r : TableSoFar) (w : ℕ) (c : Content) (f : ℕ) → NoCondition r (drop p bs) →
       RecordAsStated (r .terms) (drop p bs) w c →
       length (drop p bs) ≤ suc f → length (drop (p + w) bs) ≤ f
   left-less p r w c f passes prints l =
@@ -610,7 +610,7 @@ module _ (bs : List ℕ) where
       length-drop (p + w) bs in omega arith
 
   -- every answer has its reason
-  answered : (f : ℕ) (r : Reading) (p : ℕ) → Reached bs p r → length (drop p bs) ≤ f →
+  answered : (f : ℕ) (r : TableSoFar) (p : ℕ) → Reached bs p r → length (drop p bs) ≤ f →
       AnswerReason (readFrom (suc f) r p (drop p bs))
   unfolding readFrom thenRead
   answered zero r p reached l = go (readRecord r p (drop p bs)) (turn-reason r p (drop p bs))
@@ -624,17 +624,17 @@ module _ (bs : List ℕ) where
       (λ s w h. answered f s (p + w) (reached-next p r reached s w h))
     where
       go : (t : RecordAnswer) → TurnReason r p (drop p bs) t →
-          ((s : Reading) (w : ℕ) → TurnReason r p (drop p bs) (more s w) → length (drop (p + w) bs) ≤ f →
+          ((s : TableSoFar) (w : ℕ) → TurnReason r p (drop p bs) (more s w) → length (drop (p + w) bs) ≤ f →
           AnswerReason (readFrom (suc f) s (p + w) (drop (p + w) bs))) →
           AnswerReason (thenRead t (λ s w. readFrom (suc f) s (p + w) (drop w (drop p bs))))
       go (stop a) h next = stop-reason p r reached a h
       go (more s w) h next = rw (drop-drop w p bs) (next s w h (left-less p r w (h .1) f (h .0) (h .2) l))
 
   -- with fuel for what is left, reading goes on from every record reached
-  readingFrom : Reading → ℕ → Type 0
+  readingFrom : TableSoFar → ℕ → Type 0
   readingFrom r p = (f : ℕ) × (readTable bs ≡ readFrom (suc f) r p (drop p bs)) × (length (drop p bs) ≤ f)
 
-  reading-next : (r : Reading) (p : ℕ) (s : Reading) (w : ℕ) (c : Content) → NoCondition r (drop p bs) →
+  reading-next : (r : TableSoFar) (p : ℕ) (s : TableSoFar) (w : ℕ) (c : Content) → NoCondition r (drop p bs) →
       RecordAsStated (r .terms) (drop p bs) w c →
       recordPassed r p c w (p + w) (drop w (drop p bs)) ≡ more s w → readingFrom r p → readingFrom s (p + w)
   unfolding readingFrom
@@ -647,8 +647,8 @@ module _ (bs : List ℕ) where
     left-less p r w c f passes prints l,
   )
 
-  reading-from : (p : ℕ) (r : Reading) → Reached bs p r → readingFrom r p
-  unfolding readingFrom readTable emptyReading recordPassed
+  reading-from : (p : ℕ) (r : TableSoFar) → Reached bs p r → readingFrom r p
+  unfolding readingFrom readTable emptyTable recordPassed
   reading-from p r at-first = (length bs, refl, omega arith)
   reading-from q s (after-term {p} {w} {r} {t} reached passes prints) =
       reading-next r p s w (termRecord t) passes prints refl (reading-from p r reached)
@@ -669,14 +669,14 @@ module _ (bs : List ℕ) where
       let from = reading-from p r reached in
       from .1 ∙ read-stop (from .0) r p (drop p bs) (accepted t) (ap (readRecord r p) e ∙ turn-closes r p b P at ∙ rw is refl)
 
-  further : (p w : ℕ) (r : Reading) (c : Content) → NoCondition r (drop p bs) → RecordAsStated (r .terms) (drop p bs) w c →
+  further : (p w : ℕ) (r : TableSoFar) (c : Content) → NoCondition r (drop p bs) → RecordAsStated (r .terms) (drop p bs) w c →
       p ≤ length bs → p + w ≤ length bs
   further p w r c passes prints h =
       let z = printed-within r (drop p bs) w c passes prints in let l = length-drop p bs in omega arith
 
   -- a record reached begins within the table, so that one with no byte left is at its end: the place of 9 is the
   -- table's length
-  pub reached-within : (p : ℕ) (r : Reading) → Reached bs p r → p ≤ length bs
+  pub reached-within : (p : ℕ) (r : TableSoFar) → Reached bs p r → p ≤ length bs
   reached-within p r at-first = omega arith
   reached-within q s (after-term {p} {w} {r} {t} reached passes prints) =
       further p w r (termRecord t) passes prints (reached-within p r reached)
@@ -689,9 +689,9 @@ missing-at-length bs p r reached e =
     let a = reached-within bs p r reached in let b = length-drop p bs in let c = ap length e in omega arith
 
 pub table-numbers : TableNumbers
-unfolding TableNumbers readTable emptyReading
+unfolding TableNumbers readTable emptyTable
 table-numbers bs =
-    let reason : AnswerReason bs (readTable bs) = answered bs (length bs) emptyReading 0 at-first (omega arith) in (
+    let reason : AnswerReason bs (readTable bs) = answered bs (length bs) emptyTable 0 at-first (omega arith) in (
       λ n q. (λ e. subst (AnswerReason bs) e reason, table-refused bs n q),
       λ t. (λ e. subst (AnswerReason bs) e reason, table-accepted bs t),
     )

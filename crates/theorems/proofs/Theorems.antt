@@ -36,7 +36,7 @@ use Rattle.theorems.proofs.Steps as Steps
 use Rattle.theorems.proofs.StoredBytes as StoredBytes
 use Rattle.theorems.proofs.Suggestions as Suggestions
 use Rattle.theorems.proofs.TableConditions as TableConditions
-use Rattle.theorems.proofs.ToldShort as ToldShort
+use Rattle.theorems.proofs.ShortageClaims as ShortageClaims
 use Rattle.theorems.proofs.Turns as Turns
 use Rattle.theorems.proofs.WellFormedKept as WellFormedKept
 use Rattle.theorems.proofs.ZeroNumbers as ZeroNumbers
@@ -204,13 +204,13 @@ on-steps = record {
   node-of-kind-1 = Steps.node-of-kind-1;
   step-is-call = Steps.step-is-call;
   step-examples = RowsStepExamples.step-examples;
-  shortage-is-lowest = ToldShort.shortage-is-lowest;
-  shortage-is-exact = ToldShort.shortage-is-exact;
-  enough-is-included = ToldShort.enough-is-included;
+  shortage-is-lowest = ShortageClaims.shortage-is-lowest;
+  shortage-is-exact = ShortageClaims.shortage-is-exact;
+  enough-is-included = ShortageClaims.enough-is-included;
   read-lacks-one = Atomicity.read-lacks-one;
-  failures-tell-their-test = ToldShort.failures-tell-their-test;
-  failures-alone-name = ToldShort.failures-alone-name;
-  shortages-are-small = ToldShort.shortages-are-small;
+  failures-tell-their-test = ShortageClaims.failures-tell-their-test;
+  failures-alone-name = ShortageClaims.failures-alone-name;
+  shortages-are-small = ShortageClaims.shortages-are-small;
   shortage-examples = RowsShortageExamples.shortage-examples;
 }
 

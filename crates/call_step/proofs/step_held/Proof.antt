@@ -13,8 +13,8 @@ enum-known-rule c = search needs
 run-held-requires : tie.Need-run-held-requires
 run-held-requires c κs = search needs
 
-counters-after-requires : tie.Need-counters-after-requires
-counters-after-requires c κs = search needs
+counters-left-requires : tie.Need-counters-left-requires
+counters-left-requires c κs = search needs
 
 enum-known-number : tie.Need-enum-known-number
 enum-known-number c = search needs
@@ -38,7 +38,7 @@ step-held-spec =
     look-requires
     enum-known-rule
     run-held-requires
-    counters-after-requires
+    counters-left-requires
     enum-known-number
     same-length
     returns

@@ -22,8 +22,8 @@ shared-slice-read-match c = search needs
 term-kind-requires : tie.Need-term-kind-requires
 term-kind-requires c κs = search needs
 
-waits-on-requires : tie.Need-waits-on-requires
-waits-on-requires c κs = search needs
+waits-requires : tie.Need-waits-requires
+waits-requires c κs = search needs
 
 returns-2 : tie.Need-returns-2
 returns-2 c = search component-waiting
@@ -71,7 +71,7 @@ component-scan-spec =
     shared-slice-read-body
     shared-slice-read-match
     term-kind-requires
-    waits-on-requires
+    waits-requires
     returns-2
     wide-requires
     returns-3

@@ -7,8 +7,8 @@ use Rattle.hall_check.proofs.term_kind.Tie as tie
 wide-requires : tie.Need-wide-requires
 wide-requires c κs = search needs
 
-kind-of-requires : tie.Need-kind-of-requires
-kind-of-requires c κs = search needs
+kind-at-requires : tie.Need-kind-at-requires
+kind-at-requires c κs = search needs
 
 returns : tie.Need-returns
 returns c = search kind-there
@@ -17,4 +17,4 @@ returns-2 : tie.Need-returns-2
 returns-2 c = search kind-none
 
 pub term-kind-spec : {M : Type 1} → statement M
-term-kind-spec = tie.close (tie.spec wide-requires kind-of-requires returns returns-2)
+term-kind-spec = tie.close (tie.spec wide-requires kind-at-requires returns returns-2)

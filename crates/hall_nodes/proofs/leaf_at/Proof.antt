@@ -44,11 +44,11 @@ add-if1 c =
 returns-2 : tie.Need-returns-2
 returns-2 c = search leaf-too-long
 
-add-log-at : tie.Need-add-log-at
-add-log-at c = search needs
+add-is-log : tie.Need-add-is-log
+add-is-log c = search needs
 
-log-at-requires : tie.Need-log-at-requires
-log-at-requires c κs = search needs
+is-log-requires : tie.Need-is-log-requires
+is-log-requires c κs = search needs
 
 returns-3 : tie.Need-returns-3
 returns-3 c = search leaf-in-order
@@ -72,7 +72,7 @@ leaf-at-spec =
     wide-requires-2
     add-if1
     returns-2
-    add-log-at
-    log-at-requires
+    add-is-log
+    is-log-requires
     returns-3
     returns-4)

@@ -7,8 +7,8 @@ use Rattle.hall_nodes.proofs.remaining_at.Tie as tie
 wide-requires : tie.Need-wide-requires
 wide-requires c κs = search needs
 
-kind-of-requires : tie.Need-kind-of-requires
-kind-of-requires c κs = search needs
+kind-at-requires : tie.Need-kind-at-requires
+kind-at-requires c κs = search needs
 
 class-of-requires : tie.Need-class-of-requires
 class-of-requires c κs = search needs
@@ -16,11 +16,11 @@ class-of-requires c κs = search needs
 returns : tie.Need-returns
 returns c = search no-expression
 
-breadth-of-requires : tie.Need-breadth-of-requires
-breadth-of-requires c κs = search needs
+breadth-at-requires : tie.Need-breadth-at-requires
+breadth-at-requires c κs = search needs
 
-length-of-requires : tie.Need-length-of-requires
-length-of-requires c κs = search needs
+length-at-requires : tie.Need-length-at-requires
+length-at-requires c κs = search needs
 
 returns-2 : tie.Need-returns-2
 returns-2 c = search term-remains
@@ -36,11 +36,11 @@ remaining-at-spec =
     tie.close
     (tie.spec
     wide-requires
-    kind-of-requires
+    kind-at-requires
     class-of-requires
     returns
-    breadth-of-requires
-    length-of-requires
+    breadth-at-requires
+    length-at-requires
     returns-2
     returns-3
     returns-4)

@@ -10,11 +10,11 @@ returns c = search retry-read
 wide-requires : tie.Need-wide-requires
 wide-requires c κs = search needs
 
-kind-of-requires : tie.Need-kind-of-requires
-kind-of-requires c κs = search (needs, term-below)
+kind-at-requires : tie.Need-kind-at-requires
+kind-at-requires c κs = search (needs, term-below)
 
 returns-2 : tie.Need-returns-2
 returns-2 c = search entry-read
 
 pub expression-kind-spec : {M : Type 1} → statement M
-expression-kind-spec = tie.close (tie.spec returns wide-requires kind-of-requires returns-2)
+expression-kind-spec = tie.close (tie.spec returns wide-requires kind-at-requires returns-2)

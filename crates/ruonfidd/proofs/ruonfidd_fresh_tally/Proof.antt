@@ -7,11 +7,11 @@ use Rattle.ruonfidd.proofs.ruonfidd_fresh_tally.Tie as tie
 fresh-requires : tie.Need-fresh-requires
 fresh-requires c κs = search needs
 
-tally-of-requires : tie.Need-tally-of-requires
-tally-of-requires c κs = search needs
+tally-words-requires : tie.Need-tally-words-requires
+tally-words-requires c κs = search needs
 
 returns : tie.Need-returns
 returns c = search needs
 
 pub ruonfidd-fresh-tally-spec : {M : Type 1} → statement M
-ruonfidd-fresh-tally-spec = tie.close (tie.spec fresh-requires tally-of-requires returns)
+ruonfidd-fresh-tally-spec = tie.close (tie.spec fresh-requires tally-words-requires returns)

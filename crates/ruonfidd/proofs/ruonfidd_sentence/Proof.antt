@@ -7,8 +7,8 @@ use Rattle.ruonfidd.proofs.Exports.{sentence-told}
 use Rattle.ruonfidd.proofs.ruonfidd_sentence.Statement.{statement}
 use Rattle.ruonfidd.proofs.ruonfidd_sentence.Tie as tie
 
-tells-shortage-requires : tie.Need-tells-shortage-requires
-tells-shortage-requires c κs = search needs
+tells-short-requires : tie.Need-tells-short-requires
+tells-short-requires c κs = search needs
 
 sentence-requires : tie.Need-sentence-requires
 sentence-requires c κs = search needs
@@ -23,4 +23,4 @@ returns : tie.Need-returns
 returns c = (search sentence-told, promised told-sentences)
 
 pub ruonfidd-sentence-spec : {M : Type 1} → statement M
-ruonfidd-sentence-spec = tie.close (tie.spec tells-shortage-requires sentence-requires tell-sentence-requires same-length returns)
+ruonfidd-sentence-spec = tie.close (tie.spec tells-short-requires sentence-requires tell-sentence-requires same-length returns)

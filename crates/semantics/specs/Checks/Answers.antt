@@ -8,7 +8,7 @@ use mathlib.Core.List.{List, [], _∷_}
 use Rattle.calculus.specs.Reduction.{Rule}
 use Rattle.semantics.specs.Definitions.Shortage.{Shortage}
 use Rattle.semantics.specs.Definitions.Configuration.{Configuration}
-use Rattle.semantics.specs.Definitions.Moves.{act, inside, does, refuses, ruleNumber, movedBy, refusedBy, replyOf}
+use Rattle.semantics.specs.Definitions.Moves.{act, inside, does, refuses, ruleNumber, movedBy, refusedBy, asReply}
 use Rattle.semantics.specs.Definitions.Run.{Counters, entryBytes}
 use Rattle.semantics.specs.Definitions.Calls.{ok, rejected, verdictNumber, verdictPlace, checkTable, checkHall, opened, notOpened, openHall, openVerdict}
 use Rattle.semantics.specs.Definitions.Suggestion.{SuggestAnswer, suggested, still, notSuggested}
@@ -51,10 +51,10 @@ AnswersDiffer = (a b : SuggestAnswer) → suggestValues a ≡ suggestValues b �
 
 -- a choice: the number of the rule done and what was short, or the number of the refusal
 unfoldable pub ChoiceReported : Type 0
-unfolding replyOf ruleNumber
+unfolding asReply ruleNumber
 ChoiceReported =
     (r : Rule) (w : Shortage) (h : Configuration) (n : ℕ) →
-    (replyOf (does r w h) ≡ movedBy (ruleNumber r) w) × (replyOf (refuses n) ≡ refusedBy n)
+    (asReply (does r w h) ≡ movedBy (ruleNumber r) w) × (asReply (refuses n) ≡ refusedBy n)
 
 unfoldable pub AnswersReported : Type 0
 unfolding VerdictReported OpeningReported SuggestionReported ChoiceReported

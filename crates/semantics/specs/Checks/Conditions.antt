@@ -14,7 +14,7 @@ use Rattle.calculus.specs.State.{count, Included}
 use Rattle.calculus.specs.Log.{RD, WT}
 use Rattle.semantics.specs.Definitions.Basics.{replaceAt, Bytes}
 use Rattle.semantics.specs.Definitions.Terms.{Expression, endT, retryT, rdT, wtT, orElseT, Program, nilT, putT, takeT, repeatT, parT, atomT, Term, process, expression, width, branches, pathLength}
-use Rattle.semantics.specs.Definitions.Table.{Kind, kindByNumber, Field, channelF, programF, expressionF, amountF, fields, Reading, Content, termRecord, tokensRecord, startRecord, recordContent, Table, accepted, refusedAt, readTable}
+use Rattle.semantics.specs.Definitions.Table.{Kind, kindByNumber, Field, channelF, programF, expressionF, amountF, fields, TableSoFar, Content, termRecord, tokensRecord, startRecord, recordContent, Table, accepted, refusedAt, readTable}
 use Rattle.semantics.specs.Definitions.Configuration.{Idle, taking, repeating, output, Tree, leaf, fork, idle, transaction, Configuration, opens, opening, nodes, preorder}
 use Rattle.semantics.specs.Definitions.Stored.{WellFormed, bytesOf}
 use Rattle.semantics.specs.Definitions.Moves.{Entry, act, inside, refused, transition, isAccepted}
@@ -89,7 +89,7 @@ ReadAsStated =
 
 -- A condition of the record that begins with these bytes, after a reading; the second number is where the place lies,
 -- counted from the record's first byte. No byte left means that the table ends here.
-pub data TableCondition (r : Reading) : (number offset : ℕ) → List ℕ → Type 0 where
+pub data TableCondition (r : TableSoFar) : (number offset : ℕ) → List ℕ → Type 0 where
   -- 1: a byte that begins no record
   kind-unknown : {k : ℕ} {bs : List ℕ} → (k ≡ 0) ⊎ (13 < k) → TableCondition r 1 0 (k ∷ bs)
   -- 2: fewer bytes are left than the kind's body has
@@ -121,34 +121,34 @@ pub data TableCondition (r : Reading) : (number offset : ℕ) → List ℕ → T
   start-missing : TableCondition r 9 0 []
 
 -- no condition holds of the record
-abbrev pub NoCondition : Reading → List ℕ → Type 0
+abbrev pub NoCondition : TableSoFar → List ℕ → Type 0
 NoCondition r bs = (n offset : ℕ) → TableCondition r n offset bs → ⊥
 
 -- the places at which a record of the table begins, with what the records before it gave: they are terms and tokens as
 -- printed, and none of them meets a condition
-pub data Reached (bs : List ℕ) : ℕ → Reading → Type 0 where
+pub data Reached (bs : List ℕ) : ℕ → TableSoFar → Type 0 where
   at-first : Reached bs 0 (record { terms = []; tokens = replicate 16 0 })
-  after-term : {p w : ℕ} {r : Reading} {t : Term} → Reached bs p r → NoCondition r (drop p bs) →
+  after-term : {p w : ℕ} {r : TableSoFar} {t : Term} → Reached bs p r → NoCondition r (drop p bs) →
       RecordAsStated (r .terms) (drop p bs) w (termRecord t) →
       Reached bs (p + w) (record { terms = r .terms ++ (t ∷ []); tokens = r .tokens })
-  after-tokens : {p w : ℕ} {r : Reading} {a n : ℕ} → Reached bs p r → NoCondition r (drop p bs) →
+  after-tokens : {p w : ℕ} {r : TableSoFar} {a n : ℕ} → Reached bs p r → NoCondition r (drop p bs) →
       RecordAsStated (r .terms) (drop p bs) w (tokensRecord a n) →
       Reached bs (p + w) (record { terms = r .terms; tokens = set (r .tokens) a n })
 
 -- refused at the first record where a condition holds, with the first condition that does
 unfoldable pub TableRefused : List ℕ → (number place : ℕ) → Type 0
 TableRefused bs n q =
-    (p : ℕ) × (r : Reading) × (offset : ℕ) × Reached bs p r × TableCondition r n offset (drop p bs) ×
+    (p : ℕ) × (r : TableSoFar) × (offset : ℕ) × Reached bs p r × TableCondition r n offset (drop p bs) ×
     ((m o : ℕ) → m < n → TableCondition r m o (drop p bs) → ⊥) × (q ≡ p + offset)
 
 -- where a table ends without a start record the place is its length
 unfoldable pub MissingAtLength : Type 0
-MissingAtLength = (bs : List ℕ) (p : ℕ) (r : Reading) → Reached bs p r → drop p bs ≡ [] → p ≡ length bs
+MissingAtLength = (bs : List ℕ) (p : ℕ) (r : TableSoFar) → Reached bs p r → drop p bs ≡ [] → p ≡ length bs
 
 -- accepted where the records end with a start record, on a process, and nothing follows it
 unfoldable pub TableAccepted : List ℕ → Table → Type 0
 TableAccepted bs t =
-    (p : ℕ) × (r : Reading) × (b : ℕ) × (P : Program) × Reached bs p r × (drop p bs ≡ 13 ∷ b ∷ []) ×
+    (p : ℕ) × (r : TableSoFar) × (b : ℕ) × (P : Program) × Reached bs p r × (drop p bs ≡ 13 ∷ b ∷ []) ×
     (getElem? (r .terms) b ≡ some (process P)) × (t ≡ record { terms = r .terms; tokens = r .tokens; start = P })
 
 -- refused exactly so, and accepted exactly so: a table is accepted where it is a sequence of records as printed, none

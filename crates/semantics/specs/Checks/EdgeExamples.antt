@@ -16,7 +16,7 @@ use Rattle.semantics.specs.Definitions.Table.{TableAnswer, accepted, ref
 use Rattle.semantics.specs.Definitions.Configuration.{opening}
 use Rattle.semantics.specs.Definitions.Stored.{configurationOf}
 use Rattle.semantics.specs.Definitions.Shortage.{enough, short}
-use Rattle.semantics.specs.Definitions.Moves.{entryAnswer, Effect, effectOf, Reply, movedBy, refusedBy, replyOf}
+use Rattle.semantics.specs.Definitions.Moves.{entryAnswer, Effect, effectOf, Reply, movedBy, refusedBy, asReply}
 use Rattle.semantics.specs.Definitions.Run.{Counters, schedule, entries, scheduleBytes, run}
 use Rattle.semantics.specs.Definitions.Calls.{Verdict, checkTable, checkHall, admissionVerdict, Admission, notAdmitted}
 use Rattle.semantics.specs.Definitions.Calls.{formTested, opened, notOpened, openHall, openVerdict}
@@ -38,11 +38,11 @@ pub record Trial : Type 0 where
   pub expected : List Reply
 
 unfoldable pub repliesOn : TableAnswer → (done tried : List ℕ) → List Reply
-unfolding replyOf entryAnswer run opening entries schedule tally
+unfolding asReply entryAnswer run opening entries schedule tally
 repliesOn (refusedAt n p) done tried = []
 repliesOn (accepted t) done tried =
     let h = (run (opening t) (tally 0 0 0) done) .configuration in
-    map (λ e. replyOf (entryAnswer h e)) (entries (schedule tried))
+    map (λ e. asReply (entryAnswer h e)) (entries (schedule tried))
 
 unfoldable pub trials : List Trial
 unfolding numbers doublings

@@ -13,7 +13,7 @@ use lib.Dec.{leb, ltb, eqb}
 use Rattle.semantics.specs.Definitions.Layout.{channels, maxComponents, maxBranches}
 use Rattle.semantics.specs.Definitions.Basics.{All, Bytes, onlyIf, zeros}
 use Rattle.semantics.specs.Definitions.Terms.{Term}
-use Rattle.semantics.specs.Definitions.Table.{kindByNumber, fields, Reading, Table, TableAnswer, refusedAt, readRecord, thenRead, emptyReading, readFrom, readTable}
+use Rattle.semantics.specs.Definitions.Table.{kindByNumber, fields, TableSoFar, Table, TableAnswer, refusedAt, readRecord, thenRead, emptyTable, readFrom, readTable}
 use Rattle.semantics.specs.Definitions.Configuration.{taking, repeating, block, output, Tree, Component, idle, transaction, Configuration, branchesOf, opening, nodes}
 use Rattle.semantics.specs.Definitions.Stored.{splitBytes, nodeKind, nodeFrom, treeFrom, waitingComponent, transactionOn, transactionC, componentKind, componentFrom, componentsFrom, configurationOf}
 use Rattle.semantics.specs.Definitions.Run.{Counters, freshCounters, RunAnswer, run}
@@ -22,17 +22,17 @@ use Rattle.semantics.specs.Claims.Correspondence.{AcceptsTable}
 
 -- ---- reading a table
 
-unfoldable pub readOr : (Reading → ℕ → List ℕ → TableAnswer) → ℕ → Reading → ℕ → List ℕ → TableAnswer
+unfoldable pub readOr : (TableSoFar → ℕ → List ℕ → TableAnswer) → ℕ → TableSoFar → ℕ → List ℕ → TableAnswer
 unfolding readRecord thenRead
 readOr z zero r at bs = z r at bs
 readOr z (suc f) r at bs = thenRead (readRecord r at bs) (λ s w. readOr z f s (at + w) (drop w bs))
 
 -- one turn more than there are bytes is enough
 unfoldable pub TableReadToItsEnd : Type 0
-unfolding readFrom readOr emptyReading readTable
+unfolding readFrom readOr emptyTable readTable
 TableReadToItsEnd =
-    (bs : List ℕ) (f : ℕ) → suc (length bs) ≤ f → (readFrom f emptyReading 0 bs ≡ readTable bs) ×
-    ((z : Reading → ℕ → List ℕ → TableAnswer) → readOr z f emptyReading 0 bs ≡ readTable bs)
+    (bs : List ℕ) (f : ℕ) → suc (length bs) ≤ f → (readFrom f emptyTable 0 bs ≡ readTable bs) ×
+    ((z : TableSoFar → ℕ → List ℕ → TableAnswer) → readOr z f emptyTable 0 bs ≡ readTable bs)
 
 -- ---- reading a tree of nodes
 

@@ -12,7 +12,7 @@ use Rattle.calculus.specs.Syntax.{rd, wt, Log, State}
 use Rattle.semantics.specs.Definitions.Basics.{All}
 use Rattle.semantics.specs.Definitions.Terms.{Expression, endT, retryT, rdT, wtT, orElseT, Program, nilT, putT, takeT, repeatT, parT, atomT, width, branches, pathLength}
 use Rattle.semantics.specs.Definitions.Logs.{paths, firstReadable}
-use Rattle.semantics.specs.Definitions.Table.{refusedAt, emptyReading, readTable}
+use Rattle.semantics.specs.Definitions.Table.{refusedAt, emptyTable, readTable}
 use Rattle.semantics.specs.Definitions.Configuration.{output, leaf, fork, idle}
 use Rattle.semantics.specs.Definitions.Report.{decimal, printedRun}
 use Rattle.semantics.specs.Definitions.Sentence.{ascii}
@@ -190,7 +190,7 @@ deepTrees =
 
 -- given too few turns, what stands at zero shows
 pub record RunningOut : Type 0 where
-  pub in-a-table : readOr (λ r at bs. refusedAt 77 at) 2 emptyReading 0 (1 ∷ 1 ∷ 1 ∷ []) ≡ refusedAt 77 2
+  pub in-a-table : readOr (λ r at bs. refusedAt 77 at) 2 emptyTable 0 (1 ∷ 1 ∷ 1 ∷ []) ≡ refusedAt 77 2
   pub in-a-tree :
       treeOr (λ bs. some (leaf e [], bs)) 1 [] (22 ∷ 22 ∷ []) ≡ some (fork (leaf e []) (leaf e []), 22 ∷ [])
   pub in-a-hall : componentsOr (λ bs. some []) 1 [] (24 ∷ 3 ∷ 99 ∷ []) ≡ some (idle (output 3) ∷ [])

@@ -7,7 +7,7 @@ use mathlib.Core.List.{[], _∷_, map}
 use lib.ListN.{replicate, set}
 use Rattle.calculus.specs.Syntax.{rd, wt, State}
 use Rattle.semantics.specs.Definitions.Basics.{countUp}
-use Rattle.semantics.specs.Definitions.Shortage.{Shortage, enough, short, shortageOf}
+use Rattle.semantics.specs.Definitions.Shortage.{Shortage, enough, short, shortageAgainst}
 use Rattle.semantics.specs.Definitions.Terms.{Expression, endT, retryT, rdT, wtT}
 use Rattle.semantics.specs.Definitions.Configuration.{Tree, leaf, fork, transaction}
 use Rattle.semantics.specs.Definitions.Moves.{Entry, act, inside, EntryAnswer, does, refuses, entryAnswer}
@@ -16,18 +16,18 @@ use Rattle.semantics.specs.Checks.Examples.{numbers, trays}
 -- ---- reads and counts
 
 pub record ReadsShort : Type 0 where
-  pub nothing-read : shortageOf [] (trays "") ≡ enough
-  pub all-there : shortageOf (numbers "3 0 3") (trays "1 0 0 2") ≡ enough
-  pub one-lacks : shortageOf (numbers "3 0 3") (trays "1 0 0 1") ≡ short 3 1
+  pub nothing-read : shortageAgainst [] (trays "") ≡ enough
+  pub all-there : shortageAgainst (numbers "3 0 3") (trays "1 0 0 2") ≡ enough
+  pub one-lacks : shortageAgainst (numbers "3 0 3") (trays "1 0 0 1") ≡ short 3 1
   -- of trays 3 and 5 the lower, though it is read last, lacks fewer and is not empty
-  pub two-lack : shortageOf (numbers "5 5 5 3 3") (trays "0 0 0 1 0 1") ≡ short 3 1
+  pub two-lack : shortageAgainst (numbers "5 5 5 3 3") (trays "0 0 0 1 0 1") ≡ short 3 1
   -- a tray that has enough is passed over, and so is one that is not read
-  pub lower-has-enough : shortageOf (numbers "2 9 9 9") (trays "0 0 1") ≡ short 9 3
+  pub lower-has-enough : shortageAgainst (numbers "2 9 9 9") (trays "0 0 1") ≡ short 9 3
   pub every-tray :
-      map (λ a. shortageOf (a ∷ []) (trays "")) (countUp 0 16) ≡ map (λ a. short a 1) (countUp 0 16)
+      map (λ a. shortageAgainst (a ∷ []) (trays "")) (countUp 0 16) ≡ map (λ a. short a 1) (countUp 0 16)
   -- sixteen reads of tray 7, with sixteen tokens there and then fewer and fewer
   pub every-shortage :
-      map (λ k. shortageOf (replicate 16 7) (set (trays "") 7 (16 - k))) (countUp 0 17) ≡
+      map (λ k. shortageAgainst (replicate 16 7) (set (trays "") 7 (16 - k))) (countUp 0 17) ≡
       enough ∷ map (short 7) (countUp 1 16)
 
 -- ---- choices

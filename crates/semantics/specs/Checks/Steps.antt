@@ -15,7 +15,7 @@ use Rattle.semantics.specs.Definitions.Table.{Table}
 use Rattle.semantics.specs.Definitions.Shortage.{Shortage, enough, short}
 use Rattle.semantics.specs.Definitions.Configuration.{Configuration}
 use Rattle.semantics.specs.Definitions.Stored.{bytesOf}
-use Rattle.semantics.specs.Definitions.Moves.{Entry, act, inside, does, refuses, entryAnswer, ruleNumber, Reply, movedBy, refusedBy, replyOf}
+use Rattle.semantics.specs.Definitions.Moves.{Entry, act, inside, does, refuses, entryAnswer, ruleNumber, Reply, movedBy, refusedBy, asReply}
 use Rattle.semantics.specs.Definitions.Run.{counted, steps}
 use Rattle.semantics.specs.Definitions.Calls.{admitted, notAdmitted, admission, Buffers, StepCall, stepCall, stepChoice, callAnswer, callEntries}
 
@@ -79,7 +79,7 @@ unfoldable pub StepReplies : Type 0
 StepReplies =
     (table : List ℕ) (l : Buffers) (t : Table) (h : Configuration) → admission table (l .hall) ≡ admitted t h →
     (kind position node size : ℕ) (e : Entry) → Names kind position node e size →
-    stepReply (stepCall table l kind position node) ≡ replyOf (entryAnswer h e)
+    stepReply (stepCall table l kind position node) ≡ asReply (entryAnswer h e)
 
 -- kind 1 with any node is one and the same call
 unfoldable pub NodeOfKind1 : Type 0

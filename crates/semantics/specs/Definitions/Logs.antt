@@ -9,7 +9,7 @@ use Rattle.calculus.specs.Syntax.{Name, rd, wt, Log, State}
 use Rattle.calculus.specs.State.{count, without}
 use Rattle.calculus.specs.Log.{RD}
 use Rattle.semantics.specs.Definitions.Basics.{firstOf}
-use Rattle.semantics.specs.Definitions.Shortage.{Shortage, shortageOf, isEnough}
+use Rattle.semantics.specs.Definitions.Shortage.{Shortage, shortageAgainst, isEnough}
 use Rattle.semantics.specs.Definitions.Terms.{Expression, endT, retryT, rdT, wtT, orElseT}
 
 -- the log of an attempt just begun
@@ -18,8 +18,8 @@ emptyLog = []
 
 -- what a log, or a path, is short of at given counts (document 02, Q-3)
 unfoldable pub shortage : State → Log → Shortage
-unfolding shortageOf RD
-shortage σ δ = shortageOf (RD δ) σ
+unfolding shortageAgainst RD
+shortage σ δ = shortageAgainst (RD δ) σ
 
 -- it is readable there: nothing is short
 unfoldable pub readable : State → Log → Bool

@@ -223,7 +223,7 @@ pub data Reply : Type 0 where
   movedBy : (rule : ℕ) (shortage : Shortage) → Reply
   refusedBy : (number : ℕ) → Reply
 
-unfoldable pub replyOf : EntryAnswer → Reply
+unfoldable pub asReply : EntryAnswer → Reply
 unfolding ruleNumber
-replyOf (does r w h) = movedBy (ruleNumber r) w
-replyOf (refuses n) = refusedBy n
+asReply (does r w h) = movedBy (ruleNumber r) w
+asReply (refuses n) = refusedBy n

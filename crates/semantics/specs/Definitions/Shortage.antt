@@ -36,6 +36,6 @@ lowest f [] = enough
 lowest f (a ∷ as′) = lower (f a) (lowest f as′)
 
 -- the one test of reads against counts: no channel is read more often than it counts, or the lowest that is
-unfoldable pub shortageOf : List Name → State → Shortage
+unfoldable pub shortageAgainst : List Name → State → Shortage
 unfolding lowest shortIn
-shortageOf bs σ = lowest (shortIn bs σ) bs
+shortageAgainst bs σ = lowest (shortIn bs σ) bs

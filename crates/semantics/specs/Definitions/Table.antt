@@ -58,7 +58,7 @@ adds K = (shape K) .1
 -- ---- what has been read so far
 
 -- the terms in order, so that a term's number is its place; the tokens given, 0 where none were
-pub record Reading : Type 0 where
+pub record TableSoFar : Type 0 where
   pub terms : List Term
   pub tokens : State
 
@@ -185,7 +185,7 @@ pub record Test : Type 0 where
   pub holds : Bool
 
 -- tests 2 to 8 on a record of kind K, in number order; `bs` is all that follows its first byte
-unfoldable pub tests : Reading → Kind → List ℕ → List Test
+unfoldable pub tests : TableSoFar → Kind → List ℕ → List Test
 unfolding fields recordContent anyField tooManyTerms channelOutOfRange forwardReference classMismatch overLimit badTokens
 tests r K bs =
     let ts = r .terms in
@@ -203,54 +203,54 @@ tests r K bs =
 -- what a turn gives: the answer, or the reading after a record of so many bytes
 pub data RecordAnswer : Type 0 where
   stop : TableAnswer → RecordAnswer
-  more : Reading → ℕ → RecordAnswer
+  more : TableSoFar → ℕ → RecordAnswer
 
 -- refusal 9, at the byte behind the start record where there is one
-unfoldable pub tableEnd : Reading → Program → ℕ → List ℕ → TableAnswer
+unfoldable pub tableEnd : TableSoFar → Program → ℕ → List ℕ → TableAnswer
 tableEnd r P at [] = accepted (record { terms = r .terms; tokens = r .tokens; start = P })
 tableEnd r P at (b ∷ bs) = refusedAt 9 at
 
 -- a record of w bytes at a place that passed its tests; `next` is the place behind it and `bs` what follows there. By
 -- tests 2 and 6 it says something.
-unfoldable pub recordPassed : Reading → ℕ → Content → (w next : ℕ) → List ℕ → RecordAnswer
+unfoldable pub recordPassed : TableSoFar → ℕ → Content → (w next : ℕ) → List ℕ → RecordAnswer
 unfolding tableEnd
 recordPassed r at (termRecord t) w next bs = more (record { terms = r .terms ++ (t ∷ []); tokens = r .tokens }) w
 recordPassed r at (tokensRecord a n) w next bs = more (record { terms = r .terms; tokens = set (r .tokens) a n }) w
 recordPassed r at (startRecord P) w next bs = stop (tableEnd r P next bs)
 recordPassed r at nothing w next bs = stop (refusedAt 6 at)
 
-unfoldable pub recordTested : Reading → ℕ → Kind → List ℕ → Option Test → RecordAnswer
+unfoldable pub recordTested : TableSoFar → ℕ → Kind → List ℕ → Option Test → RecordAnswer
 unfolding recordPassed recordContent fields
 recordTested r at K bs (some t) = stop (refusedAt (t .code) at)
 recordTested r at K bs none =
     let size = length (fields K) in
     recordPassed r at (recordContent (r .terms) bs K) (suc size) (at + suc size) (drop size bs)
 
-unfoldable pub recordOfKind : Reading → ℕ → List ℕ → Option Kind → RecordAnswer
+unfoldable pub recordOfKind : TableSoFar → ℕ → List ℕ → Option Kind → RecordAnswer
 unfolding recordTested tests firstOf
 recordOfKind r at bs none = stop (refusedAt 1 at)
 recordOfKind r at bs (some K) = recordTested r at K bs (firstOf (λ t. t .holds) (tests r K bs))
 
 -- the record at a place; where the table ends there without a start record, refusal 9 at that place
-unfoldable pub readRecord : Reading → ℕ → List ℕ → RecordAnswer
+unfoldable pub readRecord : TableSoFar → ℕ → List ℕ → RecordAnswer
 unfolding recordOfKind kindByNumber
 readRecord r at [] = stop (refusedAt 9 at)
 readRecord r at (k ∷ bs) = recordOfKind r at bs (kindByNumber k)
 
-unfoldable pub thenRead : RecordAnswer → (Reading → ℕ → TableAnswer) → TableAnswer
+unfoldable pub thenRead : RecordAnswer → (TableSoFar → ℕ → TableAnswer) → TableAnswer
 thenRead (stop answer) next = answer
 thenRead (more r w) next = next r w
 
 -- the rest of a table from a place; each record takes a byte at least, so the first argument never runs out
-unfoldable pub readFrom : ℕ → Reading → ℕ → List ℕ → TableAnswer
+unfoldable pub readFrom : ℕ → TableSoFar → ℕ → List ℕ → TableAnswer
 unfolding readRecord thenRead
 readFrom zero r at bs = refusedAt 9 at
 readFrom (suc f) r at bs = thenRead (readRecord r at bs) (λ s w. readFrom f s (at + w) (drop w bs))
 
-unfoldable pub emptyReading : Reading
-emptyReading = record { terms = []; tokens = replicate channels 0 }
+unfoldable pub emptyTable : TableSoFar
+emptyTable = record { terms = []; tokens = replicate channels 0 }
 
 -- the answer on any list of bytes
 unfoldable pub readTable : List ℕ → TableAnswer
-unfolding readFrom emptyReading
-readTable bs = readFrom (suc (length bs)) emptyReading 0 bs
+unfolding readFrom emptyTable
+readTable bs = readFrom (suc (length bs)) emptyTable 0 bs

@@ -11,11 +11,11 @@ returns c = search count-zero
 wide-requires : tie.Need-wide-requires
 wide-requires c κs = search needs
 
-tokens-of-requires : tie.Need-tokens-of-requires
-tokens-of-requires c κs = search needs
+tokens-at-requires : tie.Need-tokens-at-requires
+tokens-at-requires c κs = search needs
 
 returns-2 : tie.Need-returns-2
 returns-2 c = search given-before
 
 pub bad-tokens-spec : {M : Type 1} → statement M
-bad-tokens-spec = tie.close (tie.spec returns wide-requires tokens-of-requires returns-2)
+bad-tokens-spec = tie.close (tie.spec returns wide-requires tokens-at-requires returns-2)

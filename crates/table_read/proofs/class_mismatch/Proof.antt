@@ -9,8 +9,8 @@ use Rattle.table_read.proofs.class_mismatch.Tie as tie
 wide-requires : tie.Need-wide-requires
 wide-requires c κs = search needs
 
-kind-of-requires : tie.Need-kind-of-requires
-kind-of-requires c κs = search reference-inside
+kind-at-requires : tie.Need-kind-at-requires
+kind-at-requires c κs = search reference-inside
 
 class-of-requires : tie.Need-class-of-requires
 class-of-requires c κs = search needs
@@ -27,4 +27,4 @@ returns-3 c = no-class _ _ _ (λ h g. omega arith)
 pub class-mismatch-spec : {M : Type 1} → statement M
 class-mismatch-spec =
     tie.close
-    (tie.spec wide-requires kind-of-requires class-of-requires returns returns-2 returns-3)
+    (tie.spec wide-requires kind-at-requires class-of-requires returns returns-2 returns-3)

@@ -14,12 +14,12 @@ use Rattle.table_terms.proofs.walk.Reads as walk
 use Rattle.table_terms.proofs.walk.Kinds as walk-kinds
 use Rattle.table_terms.proofs.+walk.Lts-walk as walk-lts
 use Rattle.buffer.proofs.wide.Reads as wide-reads
-use Rattle.table_terms.proofs.first_of.Reads as first-of-reads
+use Rattle.table_terms.proofs.first_at.Reads as first-at-reads
 use Rattle.table_terms.proofs.stored_measures.Reads as stored-measures-reads
-use Rattle.table_terms.proofs.kind_of.Reads as kind-of-reads
+use Rattle.table_terms.proofs.kind_at.Reads as kind-at-reads
 use Rattle.table_terms.proofs.of_both.Reads as of-both-reads
 use Rattle.table_terms.proofs.of_longer.Reads as of-longer-reads
-use Rattle.table_terms.proofs.second_of.Reads as second-of-reads
+use Rattle.table_terms.proofs.second_at.Reads as second-at-reads
 use Rattle.table_terms.proofs.+walk.{statement}
 use Rattle.table_terms.proofs.+walk.Tie.{close}
 
@@ -34,14 +34,14 @@ walk-below t = and 1 walk-kinds.ps (falls 1 walk-kinds.ps _<_ μ-walk t) walk.Pr
 
 abbrev callees : ℕ → walk-lts.Claims
 callees t = (
-  kind-of-reads.Asked,
-  kind-of-reads.Learnt,
-  first-of-reads.Asked,
-  first-of-reads.Learnt,
+  kind-at-reads.Asked,
+  kind-at-reads.Learnt,
+  first-at-reads.Asked,
+  first-at-reads.Learnt,
   wide-reads.Asked,
   wide-reads.Learnt,
-  second-of-reads.Asked,
-  second-of-reads.Learnt,
+  second-at-reads.Asked,
+  second-at-reads.Learnt,
   stored-measures-reads.Asked,
   stored-measures-reads.Learnt,
   walk-below t,
@@ -89,17 +89,17 @@ rest-known t j =
 
 -- ---- the needs
 
-walk-kind-of-requires : (t : ℕ) → walk-lts.Need-kind-of-requires (callees t) (walk-at t) walk.Post
-walk-kind-of-requires t c κs = search inside
+walk-kind-at-requires : (t : ℕ) → walk-lts.Need-kind-at-requires (callees t) (walk-at t) walk.Post
+walk-kind-at-requires t c κs = search inside
 
-walk-first-of-requires : (t : ℕ) → walk-lts.Need-first-of-requires (callees t) (walk-at t) walk.Post
-walk-first-of-requires t c κs = search inside
+walk-first-at-requires : (t : ℕ) → walk-lts.Need-first-at-requires (callees t) (walk-at t) walk.Post
+walk-first-at-requires t c κs = search inside
 
 walk-wide-requires : (t : ℕ) → walk-lts.Need-wide-requires (callees t) (walk-at t) walk.Post
 walk-wide-requires t c κs = search needs
 
-walk-second-of-requires : (t : ℕ) → walk-lts.Need-second-of-requires (callees t) (walk-at t) walk.Post
-walk-second-of-requires t c κs = search inside
+walk-second-at-requires : (t : ℕ) → walk-lts.Need-second-at-requires (callees t) (walk-at t) walk.Post
+walk-second-at-requires t c κs = search inside
 
 walk-wide-requires-2 : (t : ℕ) → walk-lts.Need-wide-requires-2 (callees t) (walk-at t) walk.Post
 walk-wide-requires-2 t c κs = search needs
@@ -121,8 +121,8 @@ walk-of-both-requires t c κs =
     let left = left-known t (c .before) in
     let right = right-known t c in search sum-fits
 
-walk-second-of-requires-2 : (t : ℕ) → walk-lts.Need-second-of-requires-2 (callees t) (walk-at t) walk.Post
-walk-second-of-requires-2 t c κs = search inside
+walk-second-at-requires-2 : (t : ℕ) → walk-lts.Need-second-at-requires-2 (callees t) (walk-at t) walk.Post
+walk-second-at-requires-2 t c κs = search inside
 
 walk-wide-requires-3 : (t : ℕ) → walk-lts.Need-wide-requires-3 (callees t) (walk-at t) walk.Post
 walk-wide-requires-3 t c κs = search needs
@@ -135,7 +135,7 @@ walk-walk-requires-3 t c κs =
     let e = c .before .before .before in
     let kind = e .before .before .before in (
       search rest-falls,
-      rest-side _ _ _ (kind .before .pre .1) _ (kind .kind-of .ensures) (e .before .if3 .left) (e .if4 .taken) _ (c .before .before .second-of2 .ensures) _
+      rest-side _ _ _ (kind .before .pre .1) _ (kind .kind-at .ensures) (e .before .if3 .left) (e .if4 .taken) _ (c .before .before .second-at2 .ensures) _
           (c .before .wide3 .ensures),
     )
 
@@ -160,17 +160,17 @@ pub +walk-spec : {M : Type 1} → statement M
 +walk-spec = close μ-walk λ t. walk-lts.spec (callees t)
     (walk-at t)
     walk.Post
-    (walk-kind-of-requires t)
-    (walk-first-of-requires t)
+    (walk-kind-at-requires t)
+    (walk-first-at-requires t)
     (walk-wide-requires t)
-    (walk-second-of-requires t)
+    (walk-second-at-requires t)
     (walk-wide-requires-2 t)
     (walk-stored-measures-requires t)
     (walk-walk-requires t)
     (walk-stored-measures-requires-2 t)
     (walk-walk-requires-2 t)
     (walk-of-both-requires t)
-    (walk-second-of-requires-2 t)
+    (walk-second-at-requires-2 t)
     (walk-wide-requires-3 t)
     (walk-stored-measures-requires-3 t)
     (walk-walk-requires-3 t)

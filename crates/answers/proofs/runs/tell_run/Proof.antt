@@ -8,11 +8,11 @@ use Rattle.answers.proofs.runs.tell_run.Tie as tie
 numbers-of-requires : tie.Need-numbers-of-requires
 numbers-of-requires c κs = search needs
 
-tally-of-requires : tie.Need-tally-of-requires
-tally-of-requires c κs = search needs
+tally-words-requires : tie.Need-tally-words-requires
+tally-words-requires c κs = search needs
 
 returns : tie.Need-returns
 returns c = search run-told
 
 pub tell-run-spec : {M : Type 1} → statement M
-tell-run-spec = tie.close (tie.spec numbers-of-requires tally-of-requires returns)
+tell-run-spec = tie.close (tie.spec numbers-of-requires tally-words-requires returns)

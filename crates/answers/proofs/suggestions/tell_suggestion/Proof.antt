@@ -8,8 +8,8 @@ use Rattle.answers.proofs.suggestions.tell_suggestion.Tie as tie
 enum-known-answer : tie.Need-enum-known-answer
 enum-known-answer c = search needs
 
-choice-of-requires : tie.Need-choice-of-requires
-choice-of-requires c κs = search needs
+choice-words-requires : tie.Need-choice-words-requires
+choice-words-requires c κs = search needs
 
 enum-told : tie.Need-enum-told
 enum-told c = search needs
@@ -27,4 +27,4 @@ returns-3 : tie.Need-returns-3
 returns-3 c = search suggestion-refused
 
 pub tell-suggestion-spec : {M : Type 1} → statement M
-tell-suggestion-spec = tie.close (tie.spec enum-known-answer choice-of-requires enum-told enum-known-answer-2 returns returns-2 returns-3)
+tell-suggestion-spec = tie.close (tie.spec enum-known-answer choice-words-requires enum-told enum-known-answer-2 returns returns-2 returns-3)

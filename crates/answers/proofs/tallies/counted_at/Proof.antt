@@ -1,7 +1,7 @@
 -- `counted_at` meets its contract. Assumes nothing.
 use native.Mathlib.Omega.{arith}
 use borrow.Author.Needs.{needs}
-use Rattle.answers.proofs.RisingCounters.{raised-not, raised-stays, raised-one}
+use Rattle.answers.proofs.Counters.{raised-not, raised-stays, raised-one}
 use Rattle.answers.proofs.tallies.counted_at.Statement.{statement}
 use Rattle.answers.proofs.tallies.counted_at.Tie as tie
 

@@ -31,8 +31,8 @@ returns-3 c = search output-read
 wide-requires : tie.Need-wide-requires
 wide-requires c κs = search needs
 
-kind-of-requires : tie.Need-kind-of-requires
-kind-of-requires c κs = search waiting-term
+kind-at-requires : tie.Need-kind-at-requires
+kind-at-requires c κs = search waiting-term
 
 returns-4 : tie.Need-returns-4
 returns-4 c = search block-read
@@ -53,6 +53,6 @@ occupant-at-spec =
     shared-slice-read-body
     returns-3
     wide-requires
-    kind-of-requires
+    kind-at-requires
     returns-4
     returns-5)

@@ -5,11 +5,11 @@ use borrow.Author.Needs.{needs}
 use Rattle.hall_open.proofs.components.write_single.Statement.{statement}
 use Rattle.hall_open.proofs.components.write_single.Tie as tie
 
-kind-of-requires : tie.Need-kind-of-requires
-kind-of-requires c κs = search inside
+kind-at-requires : tie.Need-kind-at-requires
+kind-at-requires c κs = search inside
 
-first-of-requires : tie.Need-first-of-requires
-first-of-requires c κs = search inside
+first-at-requires : tie.Need-first-at-requires
+first-at-requires c κs = search inside
 
 write-idle-requires : tie.Need-write-idle-requires
 write-idle-requires c κs = search one-fits
@@ -39,8 +39,8 @@ pub write-single-spec : {M : Type 1} → statement M
 write-single-spec =
     tie.close
     (tie.spec
-    kind-of-requires
-    first-of-requires
+    kind-at-requires
+    first-at-requires
     write-idle-requires
     cast-write-idle
     write-idle-requires-2

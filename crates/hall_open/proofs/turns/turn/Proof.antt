@@ -9,14 +9,14 @@ use Rattle.hall_open.proofs.turns.turn.Tie as tie
 sub-below : tie.Need-sub-below
 sub-below c = search some-waits
 
-kind-of-requires : tie.Need-kind-of-requires
-kind-of-requires c κs = search next-inside
+kind-at-requires : tie.Need-kind-at-requires
+kind-at-requires c κs = search next-inside
 
-first-of-requires : tie.Need-first-of-requires
-first-of-requires c κs = search next-inside
+first-at-requires : tie.Need-first-at-requires
+first-at-requires c κs = search next-inside
 
-second-of-requires : tie.Need-second-of-requires
-second-of-requires c κs = search next-inside
+second-at-requires : tie.Need-second-at-requires
+second-at-requires c κs = search next-inside
 
 add-more : tie.Need-add-more
 add-more c = search one-more-fits
@@ -53,9 +53,9 @@ turn-spec =
     tie.close
     (tie.spec
     sub-below
-    kind-of-requires
-    first-of-requires
-    second-of-requires
+    kind-at-requires
+    first-at-requires
+    second-at-requires
     add-more
     element-write-stack
     element-write-stack-2

@@ -19,8 +19,8 @@ slice-read-block c = search begin-inside
 wide-requires : tie.Need-wide-requires
 wide-requires c κs = search needs
 
-first-of-requires : tie.Need-first-of-requires
-first-of-requires c κs = search begin-term
+first-at-requires : tie.Need-first-at-requires
+first-at-requires c κs = search begin-term
 
 begun-requires : tie.Need-begun-requires
 begun-requires c κs = search begin-counts
@@ -32,7 +32,7 @@ replace-component-requires : tie.Need-replace-component-requires
 replace-component-requires c κs =
     let made = c .before .before .before in
     let read = made .before .before in
-    begin-can _ _ _ _ _ _ _ _ (read .before .wide .ensures) (read .first-of .ensures) (made .begun .ensures)
+    begin-can _ _ _ _ _ _ _ _ (read .before .wide .ensures) (read .first-at .ensures) (made .begun .ensures)
     (read .before .before .before .before .before .pre)
 
 same-length : tie.Need-same-length
@@ -50,7 +50,7 @@ begin-spec =
     add-block
     slice-read-block
     wide-requires
-    first-of-requires
+    first-at-requires
     begun-requires
     slice-aggregate-replace-component
     replace-component-requires

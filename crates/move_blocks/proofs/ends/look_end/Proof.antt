@@ -7,8 +7,8 @@ use Rattle.move_blocks.proofs.ends.look_end.Tie as tie
 add-leaf : tie.Need-add-leaf
 add-leaf c = let l = end-fits _ _ _ _ (c .before .pre) in record { fits = omega arith }
 
-expression-kind-at-requires : tie.Need-expression-kind-at-requires
-expression-kind-at-requires c κs = search end-stands
+leaf-kind-at-requires : tie.Need-leaf-kind-at-requires
+leaf-kind-at-requires c κs = search end-stands
 
 look-commit-requires : tie.Need-look-commit-requires
 look-commit-requires c κs = search end-can
@@ -25,4 +25,4 @@ returns-3 c = search look-more
 pub look-end-spec : {M : Type 1} → statement M
 look-end-spec =
     tie.close
-    (tie.spec add-leaf expression-kind-at-requires look-commit-requires returns returns-2 returns-3)
+    (tie.spec add-leaf leaf-kind-at-requires look-commit-requires returns returns-2 returns-3)

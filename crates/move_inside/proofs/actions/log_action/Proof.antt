@@ -15,8 +15,8 @@ slice-read-wide c = search needs
 wide-requires : tie.Need-wide-requires
 wide-requires c κs = search needs
 
-second-of-requires : tie.Need-second-of-requires
-second-of-requires c κs = search needs
+second-at-requires : tie.Need-second-at-requires
+second-at-requires c κs = search needs
 
 add-length : tie.Need-add-length
 add-length c = search needs
@@ -64,7 +64,7 @@ log-action-spec =
     add-wide
     slice-read-wide
     wide-requires
-    second-of-requires
+    second-at-requires
     add-length
     slice-read-length
     add-hall

@@ -40,8 +40,8 @@ write-at-requires-2 c κs = search needs
 array-write-new : tie.Need-array-write-new
 array-write-new c = search needs
 
-first-of-requires : tie.Need-first-of-requires
-first-of-requires c κs = search needs
+first-at-requires : tie.Need-first-at-requires
+first-at-requires c κs = search needs
 
 add-new : tie.Need-add-new
 add-new c = search needs
@@ -49,8 +49,8 @@ add-new c = search needs
 array-write-new-2 : tie.Need-array-write-new-2
 array-write-new-2 c = search needs
 
-second-of-requires : tie.Need-second-of-requires
-second-of-requires c κs = search needs
+second-at-requires : tie.Need-second-at-requires
+second-at-requires c κs = search needs
 
 add-new-2 : tie.Need-add-new-2
 add-new-2 c = search needs
@@ -77,10 +77,10 @@ fork-bytes-spec =
     slice-aggregate-write-at-2
     write-at-requires-2
     array-write-new
-    first-of-requires
+    first-at-requires
     add-new
     array-write-new-2
-    second-of-requires
+    second-at-requires
     add-new-2
     array-write-new-3
     returns)

@@ -9,11 +9,11 @@ use Rattle.move_inside.proofs.redexes.redex_at.Tie as tie
 shared-slice-read-if1 : tie.Need-shared-slice-read-if1
 shared-slice-read-if1 c = search node-inside
 
-add-expression-kind-at : tie.Need-add-expression-kind-at
-add-expression-kind-at c = omega (arith, node-inside)
+add-leaf-kind-at : tie.Need-add-leaf-kind-at
+add-leaf-kind-at c = omega (arith, node-inside)
 
-expression-kind-at-requires : tie.Need-expression-kind-at-requires
-expression-kind-at-requires c κs = search left-present
+leaf-kind-at-requires : tie.Need-leaf-kind-at-requires
+leaf-kind-at-requires c κs = search left-present
 
 returns : tie.Need-returns
 returns c = search left-ends
@@ -36,11 +36,11 @@ wide-requires c κs = search needs
 expression-kind-requires : tie.Need-expression-kind-requires
 expression-kind-requires c κs = search leaf-names
 
-first-of-requires : tie.Need-first-of-requires
-first-of-requires c κs = search (action-term, needs)
+first-at-requires : tie.Need-first-at-requires
+first-at-requires c κs = search (action-term, needs)
 
-first-of-requires-2 : tie.Need-first-of-requires-2
-first-of-requires-2 c κs = search (action-term, needs)
+first-at-requires-2 : tie.Need-first-at-requires-2
+first-at-requires-2 c κs = search (action-term, needs)
 
 returns-4 : tie.Need-returns-4
 returns-4 c = search read-redex
@@ -59,8 +59,8 @@ redex-at-spec =
     tie.close
     (tie.spec
     shared-slice-read-if1
-    add-expression-kind-at
-    expression-kind-at-requires
+    add-leaf-kind-at
+    leaf-kind-at-requires
     returns
     returns-2
     returns-3
@@ -68,8 +68,8 @@ redex-at-spec =
     shared-slice-read-byte
     wide-requires
     expression-kind-requires
-    first-of-requires
-    first-of-requires-2
+    first-at-requires
+    first-at-requires-2
     returns-4
     returns-5
     returns-6

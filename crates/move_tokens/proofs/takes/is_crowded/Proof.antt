@@ -11,8 +11,8 @@ sub-others c = search needs
 add-others : tie.Need-add-others
 add-others c = search needs
 
-breadth-of-requires : tie.Need-breadth-of-requires
-breadth-of-requires c κs = search room-inside
+breadth-at-requires : tie.Need-breadth-at-requires
+breadth-at-requires c κs = search room-inside
 
 wide-requires : tie.Need-wide-requires
 wide-requires c κs = search needs
@@ -38,7 +38,7 @@ is-crowded-spec =
     (tie.spec
     sub-others
     add-others
-    breadth-of-requires
+    breadth-at-requires
     wide-requires
     add-if1
     returns

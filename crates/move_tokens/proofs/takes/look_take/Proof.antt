@@ -7,20 +7,20 @@ use Rattle.move_tokens.proofs.takes.look_take.Tie as tie
 wide-requires : tie.Need-wide-requires
 wide-requires c κs = search needs
 
-first-of-requires : tie.Need-first-of-requires
-first-of-requires c κs = search looked-inside
+first-at-requires : tie.Need-first-at-requires
+first-at-requires c κs = search looked-inside
 
 wide-requires-2 : tie.Need-wide-requires-2
 wide-requires-2 c κs = search needs
 
-second-of-requires : tie.Need-second-of-requires
-second-of-requires c κs = search looked-inside
+second-at-requires : tie.Need-second-at-requires
+second-at-requires c κs = search looked-inside
 
 wide-requires-3 : tie.Need-wide-requires-3
 wide-requires-3 c κs = search needs
 
-kind-of-requires : tie.Need-kind-of-requires
-kind-of-requires c κs = search looked-inside
+kind-at-requires : tie.Need-kind-at-requires
+kind-at-requires c κs = search looked-inside
 
 staying-of-requires : tie.Need-staying-of-requires
 staying-of-requires c κs = search needs
@@ -37,8 +37,8 @@ is-crowded-requires c κs = search can-ask-room
 returns-2 : tie.Need-returns-2
 returns-2 c = search (empty-looked, crowded-looked, take-looked)
 
-take-rule-requires : tie.Need-take-rule-requires
-take-rule-requires c κs = search needs
+take-number-requires : tie.Need-take-number-requires
+take-number-requires c κs = search needs
 
 returns-3 : tie.Need-returns-3
 returns-3 c = search (empty-looked, crowded-looked, take-looked)
@@ -48,15 +48,15 @@ look-take-spec =
     tie.close
     (tie.spec
     wide-requires
-    first-of-requires
+    first-at-requires
     wide-requires-2
-    second-of-requires
+    second-at-requires
     wide-requires-3
-    kind-of-requires
+    kind-at-requires
     staying-of-requires
     shared-slice-read-count
     returns
     is-crowded-requires
     returns-2
-    take-rule-requires
+    take-number-requires
     returns-3)

@@ -4,8 +4,8 @@ use borrow.Author.Needs.{needs}
 use Rattle.move_tokens.proofs.takes.staying_of.Statement.{statement}
 use Rattle.move_tokens.proofs.takes.staying_of.Tie as tie
 
-is-repeated-requires : tie.Need-is-repeated-requires
-is-repeated-requires c κs = search needs
+repeats-requires : tie.Need-repeats-requires
+repeats-requires c κs = search needs
 
 returns : tie.Need-returns
 returns c = search one-stays
@@ -14,4 +14,4 @@ returns-2 : tie.Need-returns-2
 returns-2 c = search none-stays
 
 pub staying-of-spec : {M : Type 1} → statement M
-staying-of-spec = tie.close (tie.spec is-repeated-requires returns returns-2)
+staying-of-spec = tie.close (tie.spec repeats-requires returns returns-2)

@@ -20,14 +20,14 @@ slice-read-wide c = search take-body-inside
 wide-requires : tie.Need-wide-requires
 wide-requires c κs = search needs
 
-second-of-requires : tie.Need-second-of-requires
-second-of-requires c κs = search take-term-inside
+second-at-requires : tie.Need-second-at-requires
+second-at-requires c κs = search take-term-inside
 
 wide-requires-2 : tie.Need-wide-requires-2
 wide-requires-2 c κs = search needs
 
-kind-of-requires : tie.Need-kind-of-requires
-kind-of-requires c κs = search continuation-inside
+kind-at-requires : tie.Need-kind-at-requires
+kind-at-requires c κs = search continuation-inside
 
 slice-aggregate-take-by : tie.Need-slice-aggregate-take-by
 slice-aggregate-take-by c = search needs
@@ -40,7 +40,7 @@ take-by-requires c κs =
     let wide = second .before in
     let start = wide .before .before .before .before in (
       start .pre,
-      can-write-many _ _ _ _ _ (start .pre) _ _ _ (wide .wide .ensures) (second .second-of .ensures) (wide2 .wide2 .ensures) _ (search needs),
+      can-write-many _ _ _ _ _ (start .pre) _ _ _ (wide .wide .ensures) (second .second-at .ensures) (wide2 .wide2 .ensures) _ (search needs),
     )
 
 same-length : tie.Need-same-length
@@ -60,8 +60,8 @@ take-by-requires-2 c κs =
     let wide = second .before in
     let start = wide .before .before .before .before in (
       start .pre,
-      can-write-few _ _ _ _ _ (start .pre) _ _ _ (wide .wide .ensures) (second .second-of .ensures) (wide2 .wide2 .ensures) _
-          (kind .kind-of .ensures) (c .before .before .before .if1 .left) _ (search needs),
+      can-write-few _ _ _ _ _ (start .pre) _ _ _ (wide .wide .ensures) (second .second-at .ensures) (wide2 .wide2 .ensures) _
+          (kind .kind-at .ensures) (c .before .before .before .if1 .left) _ (search needs),
     )
 
 same-length-2 : tie.Need-same-length-2
@@ -79,9 +79,9 @@ take-spec =
     add-wide
     slice-read-wide
     wide-requires
-    second-of-requires
+    second-at-requires
     wide-requires-2
-    kind-of-requires
+    kind-at-requires
     slice-aggregate-take-by
     take-by-requires
     same-length

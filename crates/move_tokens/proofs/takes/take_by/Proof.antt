@@ -22,8 +22,8 @@ slice-read-term c = search take-body-inside
 wide-requires : tie.Need-wide-requires
 wide-requires c κs = search needs
 
-first-of-requires : tie.Need-first-of-requires
-first-of-requires c κs = search take-term-inside
+first-at-requires : tie.Need-first-at-requires
+first-at-requires c κs = search take-term-inside
 
 wide-requires-2 : tie.Need-wide-requires-2
 wide-requires-2 c κs = search needs
@@ -37,7 +37,7 @@ sub-hall c =
     let first = wide2 .before in
     let wide = first .before in
     let start = wide .before .before .before .before .before in
-    let some = take-some _ _ _ _ _ _ _ _ (wide .wide .ensures) (first .first-of .ensures) (wide2 .wide2 .ensures) (start .pre .0) in omega arith
+    let some = take-some _ _ _ _ _ _ _ _ (wide .wide .ensures) (first .first-at .ensures) (wide2 .wide2 .ensures) (start .pre .0) in omega arith
 
 slice-write-hall : tie.Need-slice-write-hall
 slice-write-hall c = slice-read-hall c
@@ -70,7 +70,7 @@ replace-component-requires c κs =
     let first = wide2 .before in
     let wide = first .before in
     let start = wide .before .before .before .before .before in
-    can-replace-take _ _ _ _ _ _ _ _ (wide .wide .ensures) (first .first-of .ensures) (wide2 .wide2 .ensures) (start .pre .0) _ _ (write-successors .write-successors .ensures)
+    can-replace-take _ _ _ _ _ _ _ _ (wide .wide .ensures) (first .first-at .ensures) (wide2 .wide2 .ensures) (start .pre .0) _ _ (write-successors .write-successors .ensures)
 
 same-length : tie.Need-same-length
 same-length c =
@@ -97,7 +97,7 @@ take-by-spec =
     add-term
     slice-read-term
     wide-requires
-    first-of-requires
+    first-at-requires
     wide-requires-2
     slice-read-hall
     sub-hall

@@ -7,8 +7,8 @@ use Rattle.move_tokens.proofs.takes.write_successors.Tie as tie
 wide-requires : tie.Need-wide-requires
 wide-requires c κs = search needs
 
-second-of-requires : tie.Need-second-of-requires
-second-of-requires c κs = search write-successors-inside
+second-at-requires : tie.Need-second-at-requires
+second-at-requires c κs = search write-successors-inside
 
 wide-requires-2 : tie.Need-wide-requires-2
 wide-requires-2 c κs = search needs
@@ -18,14 +18,14 @@ write-components-requires c κs =
     let wide2 = c .before in
     let second = wide2 .before in
     let wide = second .before in
-    continuation-fits _ _ _ (wide .wide .ensures) _ (wide .before .before .pre) _ _ (second .second-of .ensures)
+    continuation-fits _ _ _ (wide .wide .ensures) _ (wide .before .before .pre) _ _ (second .second-at .ensures)
     (wide2 .wide2 .ensures)
 
-kind-of-requires : tie.Need-kind-of-requires
-kind-of-requires c κs = search write-successors-inside
+kind-at-requires : tie.Need-kind-at-requires
+kind-at-requires c κs = search write-successors-inside
 
-is-repeated-requires : tie.Need-is-repeated-requires
-is-repeated-requires c κs = search needs
+repeats-requires : tie.Need-repeats-requires
+repeats-requires c κs = search needs
 
 write-idle-requires : tie.Need-write-idle-requires
 write-idle-requires c κs =
@@ -33,7 +33,7 @@ write-idle-requires c κs =
     let wide2 = written .before .before in
     let second = wide2 .before in
     let wide = second .before in
-    behind-fits _ _ _ (wide .wide .ensures) _ (wide .before .before .pre) _ _ (second .second-of .ensures)
+    behind-fits _ _ _ (wide .wide .ensures) _ (wide .before .before .pre) _ _ (second .second-at .ensures)
     (wide2 .wide2 .ensures) _ _ (written .write-components .ensures)
 
 same-length : tie.Need-same-length
@@ -53,11 +53,11 @@ write-successors-spec =
     tie.close
     (tie.spec
     wide-requires
-    second-of-requires
+    second-at-requires
     wide-requires-2
     write-components-requires
-    kind-of-requires
-    is-repeated-requires
+    kind-at-requires
+    repeats-requires
     write-idle-requires
     same-length
     returns

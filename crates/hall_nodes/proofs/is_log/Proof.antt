@@ -1,10 +1,10 @@
--- `log_at` meets its contract: the bytes so far are at most their limits where none exceeded its own. Assumes nothing.
+-- `is_log` meets its contract: the bytes so far are at most their limits where none exceeded its own. Assumes nothing.
 use Prim.Native.Nat.{_-_, _≤_}
 use native.Mathlib.Omega.{arith}
 use Rattle.hall_nodes.proofs.Logs.{LogSoFar, log-begun, log-turn, log-done}
 use borrow.Author.Needs.{needs}
-use Rattle.hall_nodes.proofs.log_at.Statement.{statement}
-use Rattle.hall_nodes.proofs.log_at.Tie as tie
+use Rattle.hall_nodes.proofs.is_log.Statement.{statement}
+use Rattle.hall_nodes.proofs.is_log.Tie as tie
 use Rattle.hall_layout.specs.Layout.{logSize}
 
 abbrev Inv-loop : tie.InvT-loop
@@ -34,11 +34,11 @@ add-excess c = search needs
 shared-slice-read-excess : tie.Need-shared-slice-read-excess Inv-loop μ-loop
 shared-slice-read-excess c = search needs
 
-add-limit-at : tie.Need-add-limit-at Inv-loop μ-loop
-add-limit-at c = search needs
+add-place-limit : tie.Need-add-place-limit Inv-loop μ-loop
+add-place-limit c = search needs
 
-limit-at-requires : tie.Need-limit-at-requires Inv-loop μ-loop
-limit-at-requires c κs = search needs
+place-limit-requires : tie.Need-place-limit-requires Inv-loop μ-loop
+place-limit-requires c κs = search needs
 
 excess-requires : tie.Need-excess-requires Inv-loop μ-loop
 excess-requires c κs = search needs
@@ -58,8 +58,8 @@ loop-again c = (omega arith, search log-turn)
 returns : tie.Need-returns Inv-loop μ-loop
 returns c = search log-done
 
-pub log-at-spec : {M : Type 1} → statement M
-log-at-spec =
+pub is-log-spec : {M : Type 1} → statement M
+is-log-spec =
     tie.close
     (tie.spec
     Inv-loop
@@ -71,8 +71,8 @@ log-at-spec =
     wide-requires
     add-excess
     shared-slice-read-excess
-    add-limit-at
-    limit-at-requires
+    add-place-limit
+    place-limit-requires
     excess-requires
     larger-requires
     add-i

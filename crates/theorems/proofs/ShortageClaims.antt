@@ -17,7 +17,7 @@ use Rattle.calculus.specs.Reduction.{Rule, ARDF}
 use Rattle.calculus.proofs.States.{same-self, same-other, occurrences-append}
 use Rattle.calculus.proofs.Logs.{RD-append}
 use Rattle.semantics.specs.Definitions.Basics.{All}
-use Rattle.semantics.specs.Definitions.Shortage.{Shortage, enough, short, shortageOf}
+use Rattle.semantics.specs.Definitions.Shortage.{Shortage, enough, short, shortageAgainst}
 use Rattle.semantics.specs.Definitions.Terms.{Expression, rdT, Term}
 use Rattle.semantics.specs.Definitions.Logs.{emptyLog, shortage, readable}
 use Rattle.semantics.specs.Definitions.Configuration.{Tree, leaf, fork, transaction, Configuration, preorder}
@@ -82,7 +82,7 @@ never a b q = let z = same-other b a q in omega arith
 
 -- where the log was there the read lacks one
 one-lacks : (s : State) (δ : Log) (a : Name) → Included (RD δ) s → ¬ Included (RD (δ ++ (rd a ∷ []))) s →
-    shortageOf (RD (δ ++ (rd a ∷ []))) s ≡ short a 1
+    shortageAgainst (RD (δ ++ (rd a ∷ []))) s ≡ short a 1
 unfolding Included
 one-lacks s δ a there lacks = found-is (RD (δ ++ (rd a ∷ []))) s (short a 1) (record {
   lacks = omega arith;

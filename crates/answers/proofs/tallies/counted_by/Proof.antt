@@ -1,8 +1,8 @@
--- `counted_rule` meets its contract: each of the three counters is raised by its own rule. Assumes nothing.
+-- `counted_by` meets its contract: each of the three counters is raised by its own rule. Assumes nothing.
 use borrow.Author.Needs.{needs}
 use Rattle.answers.specs.Answers.{countedBy}
-use Rattle.answers.proofs.tallies.counted_rule.Statement.{statement}
-use Rattle.answers.proofs.tallies.counted_rule.Tie as tie
+use Rattle.answers.proofs.tallies.counted_by.Statement.{statement}
+use Rattle.answers.proofs.tallies.counted_by.Tie as tie
 
 counted-at-requires : tie.Need-counted-at-requires
 counted-at-requires c κs = search needs
@@ -21,6 +21,6 @@ returns c = λ i. record {
   retries = c .counted-at3 .ensures i;
 }
 
-pub counted-rule-spec : {M : Type 1} → statement M
-counted-rule-spec =
+pub counted-by-spec : {M : Type 1} → statement M
+counted-by-spec =
     tie.close (tie.spec counted-at-requires counted-at-requires-2 counted-at-requires-3 returns)

@@ -2,8 +2,8 @@
 -- Assumes nothing.
 use borrow.Author.Needs.{needs}
 use Rattle.answers.proofs.Cases.{act-words, inside-words}
-use Rattle.answers.proofs.choices.choice_of.Statement.{statement}
-use Rattle.answers.proofs.choices.choice_of.Tie as tie
+use Rattle.answers.proofs.choices.choice_words.Statement.{statement}
+use Rattle.answers.proofs.choices.choice_words.Tie as tie
 
 enum-known-entry : tie.Need-enum-known-entry
 enum-known-entry c = search needs
@@ -17,5 +17,5 @@ returns c = search act-words
 returns-2 : tie.Need-returns-2
 returns-2 c = search inside-words
 
-pub choice-of-spec : {M : Type 1} → statement M
-choice-of-spec = tie.close (tie.spec enum-known-entry enum-known-entry-2 returns returns-2)
+pub choice-words-spec : {M : Type 1} → statement M
+choice-words-spec = tie.close (tie.spec enum-known-entry enum-known-entry-2 returns returns-2)

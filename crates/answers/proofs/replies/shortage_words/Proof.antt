@@ -2,8 +2,8 @@
 -- Assumes nothing.
 use borrow.Author.Needs.{needs}
 use Rattle.answers.proofs.Cases.{enough-words, short-words}
-use Rattle.answers.proofs.replies.shortage_bytes.Statement.{statement}
-use Rattle.answers.proofs.replies.shortage_bytes.Tie as tie
+use Rattle.answers.proofs.replies.shortage_words.Statement.{statement}
+use Rattle.answers.proofs.replies.shortage_words.Tie as tie
 
 enum-told : tie.Need-enum-told
 enum-told c = search needs
@@ -17,5 +17,5 @@ returns c = search enough-words
 returns-2 : tie.Need-returns-2
 returns-2 c = search short-words
 
-pub shortage-bytes-spec : {M : Type 1} → statement M
-shortage-bytes-spec = tie.close (tie.spec enum-told enum-known-shortage returns returns-2)
+pub shortage-words-spec : {M : Type 1} → statement M
+shortage-words-spec = tie.close (tie.spec enum-told enum-known-shortage returns returns-2)

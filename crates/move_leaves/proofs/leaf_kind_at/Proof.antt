@@ -1,8 +1,8 @@
--- `expression_kind_at` meets its contract. Assumes nothing.
+-- `leaf_kind_at` meets its contract. Assumes nothing.
 use native.Mathlib.Omega.{arith}
 use Rattle.move_leaves.proofs.Leaves.{node-inside, fork-read, term-inside, leaf-names, leaf-read}
-use Rattle.move_leaves.proofs.expression_kind_at.Statement.{statement}
-use Rattle.move_leaves.proofs.expression_kind_at.Tie as tie
+use Rattle.move_leaves.proofs.leaf_kind_at.Statement.{statement}
+use Rattle.move_leaves.proofs.leaf_kind_at.Tie as tie
 
 shared-slice-read-if1 : tie.Need-shared-slice-read-if1
 shared-slice-read-if1 c = search node-inside
@@ -22,8 +22,8 @@ expression-kind-requires c κs = search leaf-names
 returns-2 : tie.Need-returns-2
 returns-2 c = search leaf-read
 
-pub expression-kind-at-spec : {M : Type 1} → statement M
-expression-kind-at-spec =
+pub leaf-kind-at-spec : {M : Type 1} → statement M
+leaf-kind-at-spec =
     tie.close
     (tie.spec
     shared-slice-read-if1

@@ -2,8 +2,8 @@
 -- Assumes nothing.
 use borrow.Author.Needs.{needs}
 use Rattle.answers.proofs.Cases.{completed-leaves, refused-leaves}
-use Rattle.answers.proofs.runs.counters_after.Statement.{statement}
-use Rattle.answers.proofs.runs.counters_after.Tie as tie
+use Rattle.answers.proofs.runs.counters_left.Statement.{statement}
+use Rattle.answers.proofs.runs.counters_left.Tie as tie
 
 enum-known-answer : tie.Need-enum-known-answer
 enum-known-answer c = search needs
@@ -17,5 +17,5 @@ returns c = search completed-leaves
 returns-2 : tie.Need-returns-2
 returns-2 c = search refused-leaves
 
-pub counters-after-spec : {M : Type 1} → statement M
-counters-after-spec = tie.close (tie.spec enum-known-answer enum-known-answer-2 returns returns-2)
+pub counters-left-spec : {M : Type 1} → statement M
+counters-left-spec = tie.close (tie.spec enum-known-answer enum-known-answer-2 returns returns-2)
