@@ -1,3 +1,3 @@
 -- The laws of `written` and of `spliced`, for whoever writes or splices.
 pub mod Written
-pub mod Spliced
+pub mod Splices

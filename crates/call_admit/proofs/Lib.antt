@@ -1,3 +1,3 @@
 pub mod AcceptedTables
 pub mod AdmissionTests
-pub mod Admitted
+pub mod Admissions

@@ -9,7 +9,7 @@ use Rattle.answers.specs.Answers.{hallVerdictOf}
 use Rattle.call_admit.specs.declared.Admission.{Admission}
 use Rattle.call_admit.specs.declared.Admission.the-variants as admit
 use Rattle.call_admit.specs.Admissions.{AdmissionIs}
-use Rattle.call_admit.proofs.Admitted.{admitted-hall, refused-hall}
+use Rattle.call_admit.proofs.Admissions.{admitted-hall, refused-hall}
 
 module _ (d table hall starts : List ℕ) (a : Admission) (w : AdmissionIs a d hall starts (admission table hall)) where
   pub passed : (n : ℕ) → a ≡ admit.Admitted n → hallVerdictOf WellFormed ≡ checkHall table hall

@@ -11,7 +11,7 @@ use Rattle.answers.specs.Answers.{countersOf, buffersOf, runCallOf}
 use Rattle.call_admit.specs.declared.Admission.{Admission}
 use Rattle.call_admit.specs.declared.Admission.the-variants as admit
 use Rattle.call_admit.specs.Admissions.{AdmissionIs}
-use Rattle.call_admit.proofs.Admitted.{admitted-hall, refused-hall}
+use Rattle.call_admit.proofs.Admissions.{admitted-hall, refused-hall}
 use Rattle.choice_run.specs.Answers.{Ran}
 
 module _ (d table hall starts : List ℕ) (a : Admission) (w : AdmissionIs a d hall starts (admission table hall)) where

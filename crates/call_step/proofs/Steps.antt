@@ -16,7 +16,7 @@ use Rattle.answers.specs.Answers.{entryOf, countersOf, buffersOf, stepCallOf}
 use Rattle.call_admit.specs.declared.Admission.{Admission}
 use Rattle.call_admit.specs.declared.Admission.the-variants as admit
 use Rattle.call_admit.specs.Admissions.{AdmissionIs}
-use Rattle.call_admit.proofs.Admitted.{admitted-hall, refused-hall}
+use Rattle.call_admit.proofs.Admissions.{admitted-hall, refused-hall}
 use Rattle.call_step.specs.Steps.{OneEntry, HeldStepped}
 
 -- the bytes of each kind

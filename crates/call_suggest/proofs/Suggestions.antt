@@ -12,7 +12,7 @@ use Rattle.answers.specs.Answers.{suggestAnswerOf}
 use Rattle.call_admit.specs.declared.Admission.{Admission}
 use Rattle.call_admit.specs.declared.Admission.the-variants as admit
 use Rattle.call_admit.specs.Admissions.{AdmissionIs}
-use Rattle.call_admit.proofs.Admitted.{admitted-hall, refused-hall}
+use Rattle.call_admit.proofs.Admissions.{admitted-hall, refused-hall}
 use Rattle.choice_suggest.specs.declared.Suggestion.{Suggestion}
 use Rattle.choice_suggest.specs.declared.Suggestion.the-variants as suggestion
 use Rattle.choice_suggest.specs.Suggestions.{foundOf, FirstFound}

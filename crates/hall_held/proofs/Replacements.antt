@@ -17,7 +17,7 @@ use Rattle.semantics.specs.Definitions.Configuration.{Idle, Component, idle, Co
 use Rattle.semantics.specs.Definitions.Stored.{componentBytes, WellFormed}
 use Rattle.theorems.proofs.Lists.{found-below, length-replaceAt}
 use Rattle.buffer.specs.Splice.{written, spliced, CanShift}
-use Rattle.buffer.proofs.Spliced.{shifted-none, spliced-from}
+use Rattle.buffer.proofs.Splices.{shifted-none, spliced-from}
 use Rattle.hall_layout.specs.Layout.{idleSize}
 use Rattle.hall_laws.specs.Positions.{allBytes, startOf, IsIndex, BySplice}
 use Rattle.hall_laws.proofs.Configurations.{well-formed-fits, component-by-splice, part-by-splice, one-bytes, splice-can, splice-does}

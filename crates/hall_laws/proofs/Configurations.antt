@@ -20,7 +20,7 @@ use Rattle.theorems.proofs.Lists.{all-at}
 use Rattle.theorems.proofs.Trees.{length-padded, padded-of}
 use Rattle.theorems.proofs.RoundTrip.{stored-fits}
 use Rattle.buffer.specs.Splice.{written, spliced, CanShift}
-use Rattle.buffer.proofs.Spliced.{getD-padded, spliced-length, spliced-mid}
+use Rattle.buffer.proofs.Splices.{getD-padded, spliced-length, spliced-mid}
 use Rattle.hall_layout.specs.declared.NodeStart.the-variants.{At, Nowhere}
 use Rattle.hall_layout.specs.Layout.{transactionKind, channels, hallBytes, transactionHead, maxBranches}
 use Rattle.hall_layout.specs.Nodes.{nodeStart, treeEnd}

@@ -27,7 +27,7 @@ use Rattle.call_admit.specs.declared.Admission.the-variants as admit
 use Rattle.call_admit.specs.Admissions.{TableAndHallHeld, AdmissionIs}
 use Rattle.answers.specs.declared.openings.OpenAnswer.{OpenAnswer}
 use Rattle.answers.specs.declared.openings.OpenAnswer.the-variants as answer
-use Rattle.call_admit.proofs.Admitted.{admitted-hall, refused-hall}
+use Rattle.call_admit.proofs.Admissions.{admitted-hall, refused-hall}
 use Rattle.print_sections.specs.Limits.{runMost, linesMost}
 use Rattle.print_sections.specs.Printed.{Printed, CanPrintComponents}
 use Rattle.print_sections.specs.Totals.{LinesPrinted}

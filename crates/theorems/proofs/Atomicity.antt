@@ -13,7 +13,7 @@ use Rattle.semantics.specs.Definitions.Stored.{bytesOf, configurationOf}
 use Rattle.semantics.specs.Definitions.Moves.{inside, ruleNumber}
 use Rattle.semantics.specs.Definitions.Run.{steps, finalConfiguration}
 use Rattle.theorems.proofs.CallsAsOne.{firstBuffers, opened-calls}
-use Rattle.theorems.proofs.Abandoned.{kept-runs}
+use Rattle.theorems.proofs.AbandonedAttempts.{kept-runs}
 use Rattle.theorems.proofs.GoodTable.{accepted-is-good}
 use Rattle.theorems.proofs.RoundTrip.{read-back}
 use Rattle.theorems.proofs.Runs.{runs-steps}

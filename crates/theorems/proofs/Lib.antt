@@ -27,7 +27,7 @@ pub mod Notes
 pub mod PathClause
 pub mod Runs
 pub mod CallsAsOne
-pub mod Abandoned
+pub mod AbandonedAttempts
 pub mod Drive
 pub mod Converse
 pub mod ConverseSteps

@@ -1,6 +1,6 @@
 -- `shift` meets its contract, on each of the three ways. Assumes nothing.
 use borrow.Author.Needs.{needs}
-use Rattle.buffer.proofs.Spliced.{shifted-down, shifted-up, shifted-none}
+use Rattle.buffer.proofs.Splices.{shifted-down, shifted-up, shifted-none}
 use Rattle.buffer.proofs.shift.Statement.{statement}
 use Rattle.buffer.proofs.shift.Tie as tie
 

@@ -1,6 +1,6 @@
 -- `splice` meets its contract: the tail is moved, then the new part written before it. Assumes nothing.
 use borrow.Author.Needs.{needs}
-use Rattle.buffer.proofs.Spliced.{spliced-from}
+use Rattle.buffer.proofs.Splices.{spliced-from}
 use Rattle.buffer.proofs.splice.Statement.{statement}
 use Rattle.buffer.proofs.splice.Tie as tie
 

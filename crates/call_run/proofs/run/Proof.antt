@@ -1,5 +1,5 @@
 -- `run` meets its contract: what is held is run, or the call is turned down. Assumes nothing.
-use Rattle.call_admit.proofs.Admitted.{number-told, held-running}
+use Rattle.call_admit.proofs.Admissions.{number-told, held-running}
 use Rattle.call_run.proofs.Runs.{run-turned-down, run-said}
 use Rattle.theorems.proofs.Theorems.{promised, on-runs, demands}
 use borrow.Author.Needs.{needs}

@@ -1,6 +1,6 @@
 -- `step` meets its contract: by its kind where the hall is admitted, and turned down otherwise. Assumes nothing.
 use native.Mathlib.Omega.{arith}
-use Rattle.call_admit.proofs.Admitted.{number-told, held-running}
+use Rattle.call_admit.proofs.Admissions.{number-told, held-running}
 use Rattle.call_step.proofs.Steps.{stepped-turned-down, stepped-unknown, act-written, inside-written, stepped-act, stepped-inside}
 use Rattle.theorems.proofs.Theorems.{promised, on-steps}
 use borrow.Author.Needs.{needs}

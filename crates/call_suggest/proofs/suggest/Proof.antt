@@ -1,5 +1,5 @@
 -- `suggest` meets its contract, return by return. Assumes nothing.
-use Rattle.call_admit.proofs.Admitted.{held-running}
+use Rattle.call_admit.proofs.Admissions.{held-running}
 use Rattle.call_suggest.proofs.Suggestions.{suggestion-turned-down, choice-suggested, still-suggested}
 use Rattle.theorems.proofs.Theorems.{promised, on-suggestions}
 use borrow.Author.Needs.{needs}
