@@ -60,7 +60,8 @@ struct Walk<'a> {
     components: u32,
 }
 
-/// All bottom components, each with its members.
+/// All bottom components, each with its members. An edge to what is no member
+/// leads out of its component.
 #[must_use]
 pub fn bottom_components(edges: &Edges) -> Vec<Vec<usize>> {
     walked(edges).bottoms()
@@ -135,6 +136,9 @@ impl Walk<'_> {
             return true;
         };
         *edges += 1;
+        if to >= self.number.len() {
+            return true;
+        }
         if at(&self.number, to) == 0 {
             self.enter(to);
         } else if at(&self.component, to) == 0 {
@@ -215,6 +219,9 @@ mod tests {
         // A circle that is left, one that is not, and an end.
         let graph: &[&[u32]] = &[&[1, 5], &[2], &[1, 3], &[4], &[3], &[]];
         assert_eq!(bottoms(graph), [vec![3, 4], vec![5]]);
+        // The same with a member that is not known, to which two lead.
+        let graph: &[&[u32]] = &[&[1, 5], &[2], &[1, 3], &[4, 6], &[3, 6], &[]];
+        assert_eq!(bottoms(graph), [vec![5]]);
     }
 
     /// Against a closure by hand, on all graphs of four members with two edges

@@ -55,7 +55,12 @@ pub enum Failed {
 /// How many halls are gone through between two looks at the limits.
 const BETWEEN_LOOKS: u32 = 1 << 8;
 
-/// Goes through every hall, or as many as the limits allow.
+/// Shown now and then what was found so far, and how many halls are done with;
+/// gives why the search has to stop.
+pub type Watch<'a> = dyn FnMut(&EngineFound, Index) -> Option<Cut> + 'a;
+
+/// Goes through every hall, or as many as the limits allow. What is never left is
+/// looked for now and then; that takes no steps of the engine.
 ///
 /// # Errors
 ///
@@ -63,7 +68,7 @@ const BETWEEN_LOOKS: u32 = 1 << 8;
 pub fn engine_search(
     table: &Table,
     limits: Limits,
-    progress: &mut dyn FnMut(usize, usize),
+    watch: &mut Watch<'_>,
 ) -> Result<EngineFound, Failed> {
     let (hall, _) = Hall::open(table.bytes()).map_err(Failed::Refused)?;
     let mut search = Search {
@@ -86,22 +91,28 @@ pub fn engine_search(
     };
     search.keep(&hall, 0)?;
     let mut index = 0;
-    while usize::try_from(index).is_ok_and(|done| done < search.found.halls.len()) {
-        if index % BETWEEN_LOOKS == 0 && search.found.cut.is_none() {
-            search.found.cut = limits.met(search.memory());
-            progress(
-                search.found.halls.len(),
-                usize::try_from(index).unwrap_or(0),
-            );
-        }
-        if search.found.cut.is_some() {
-            return Ok(search.found);
+    let mut next_ends = BETWEEN_LOOKS;
+    while search.found.cut.is_none() && place(index) < search.found.halls.len() {
+        if index % BETWEEN_LOOKS == 0 {
+            if index >= next_ends {
+                search.find_ends();
+                next_ends = index.saturating_add(index / 2);
+            }
+            let met = limits.met(search.memory());
+            search.found.cut = met.or_else(|| watch(&search.found, index));
+            if search.found.cut.is_some() {
+                break;
+            }
         }
         search.go_on(index)?;
         index += 1;
     }
     search.find_ends();
     Ok(search.found)
+}
+
+fn place(index: Index) -> usize {
+    usize::try_from(index).unwrap_or(usize::MAX)
 }
 
 struct Search<'a> {
@@ -171,8 +182,11 @@ impl Search<'_> {
         Ok(Ok(()))
     }
 
-    /// What halls never leave: one situation is an end, several are a round.
+    /// What halls never leave, of those that were gone on from: one situation is an
+    /// end, several are a round. Such a set stays one, whatever is found later.
     fn find_ends(&mut self) {
+        self.found.ends.clear();
+        self.found.rounds.clear();
         let mut sets: Vec<Vec<Index>> = Vec::new();
         for halls in bottom_components(&self.edges) {
             let mut set = Vec::new();

@@ -2,7 +2,6 @@
 
 use std::collections::HashMap;
 
-use crate::stations::Station;
 use crate::table::Table;
 use crate::text::asking::Event;
 use crate::text::tree::Program;
@@ -10,18 +9,17 @@ use crate::ways::action_words;
 
 pub use crate::text::asking::Asked;
 
+use super::broken::{nearest, Broken, Maker};
 use super::endless::{endless, Allowed, Endless};
 use super::investigate::{Exact, Explored, Possible};
 use super::labels::Labels;
-use super::leads_to::{Lasso, Led};
 use super::model::Kind;
 use super::question::Question;
-use super::replay::{replay, Contradiction, Replay, Witness};
-use super::rounds::Codes;
+use super::replay::{Contradiction, Replay, Witness};
 use super::search::{Barred, Cut, Limits, Questions};
 use super::steps::Limit;
 use super::store::Index;
-use super::waiting::{left, InRound, Left};
+use super::waiting::{InRound, Left};
 
 /// All that is reported of an exploration.
 #[derive(Clone, Debug)]
@@ -208,18 +206,13 @@ impl Collector<'_> {
         })
     }
 
-    /// The way to a situation.
-    ///
-    /// # Errors
-    ///
-    /// Where the engine does not go it.
-    pub fn way_to(&self, index: Index) -> Result<Witness, Contradiction> {
-        let Explored { model, found, .. } = self.explored;
-        replay(self.table, self.program, model, &found.store, index)
-    }
-
-    fn left_at(&self, witness: &Witness) -> Vec<Left> {
-        left(self.table, self.program, &witness.last)
+    fn maker(&self) -> Maker<'_> {
+        Maker {
+            table: self.table,
+            program: self.program,
+            model: &self.explored.model,
+            store: &self.explored.found.store,
+        }
     }
 
     /// The ends are found in the order of their distance, so the first of a
@@ -263,13 +256,13 @@ impl Collector<'_> {
 
     fn end(&self, index: Index, situations: usize) -> Result<End, Contradiction> {
         let Explored { model, found, .. } = self.explored;
-        let witness = self.way_to(index)?;
+        let witness = self.maker().way_to(index)?;
         let situation = found.store.get(index);
         let (counts, _) = model.split(&situation);
         Ok(End {
             counts: counts.to_vec(),
             situations,
-            left: self.left_at(&witness),
+            left: self.maker().left_at(&witness),
             witness,
         })
     }
@@ -307,26 +300,18 @@ impl Collector<'_> {
             return Ok((None, None));
         };
         let (told, cut) = self.within_limits(&rounds.sorts, 0, |sort| {
-            let witness = self.way_to(sort.first)?;
+            let witness = self.maker().way_to(sort.first)?;
             let memory = witness.memory();
             let round = LastRound {
                 extremes: sort.extremes.clone(),
                 rounds: sort.rounds,
                 situations: sort.situations,
-                who: self.in_round(&witness, sort.acting),
+                who: self.maker().in_round(&witness, sort.acting),
                 witness,
             };
             Ok((round, memory))
         })?;
         Ok((Some(told), cut))
-    }
-
-    fn in_round(&self, witness: &Witness, acting: Codes) -> InRound {
-        let acts = |station: &Station| {
-            let code = self.explored.model.code(station);
-            code.is_some_and(|code| acting.contains(code))
-        };
-        InRound::of(self.program, &witness.last, acts)
     }
 
     /// Which limit is met with so many bytes more than the exploration uses.
@@ -453,25 +438,48 @@ impl Collector<'_> {
         let found = &self.explored.found;
         let mut answers = Vec::new();
         for (question, broken) in self.questions.never.iter().zip(&found.never) {
-            let verdict = match broken {
-                Some(index) => Verdict::Broken(Box::new(self.way_to(*index)?), Vec::new()),
-                None if self.explored.complete() => self.holds(question),
-                None => Verdict::Open,
-            };
-            answers.push(Answer::of(question, verdict));
+            let broken = broken.map(Broken::At);
+            answers.push(self.answer(question, broken, self.explored.complete())?);
         }
         for (number, question) in self.questions.ends.iter().enumerate() {
-            answers.push(self.at_ends(number, question)?);
+            let end = found.broken_ends.get(number).copied().flatten();
+            let round = self.explored.rounds_found().broken.get(number);
+            let broken = nearest(end, round.copied().flatten());
+            answers.push(self.answer(question, broken, self.explored.ends_known())?);
         }
         for (number, question) in self.questions.possible.iter().enumerate() {
-            answers.push(self.always_possible(number, question)?);
+            let broken = match self.explored.possible.get(number) {
+                Some(Possible::NotFrom(index)) => Some(*index),
+                Some(Possible::Always) => None,
+                None => self.explored.seen_impossible(number),
+            };
+            let broken = broken.map(Broken::At);
+            answers.push(self.answer(question, broken, self.explored.ends_known())?);
         }
         for (number, question) in self.questions.leads.iter().enumerate() {
             let led = self.explored.leads.get(number).and_then(Option::as_ref);
-            answers.push(self.leads_to(question, led)?);
+            answers.push(match led {
+                Some(led) => self.maker().led(question, led)?,
+                None => Answer::of(question, Verdict::Open),
+            });
         }
         answers.sort_by_key(|answer| answer.place);
         Ok(answers)
+    }
+
+    /// What is broken so, or is not seen to be broken where all is known or not.
+    fn answer(
+        &self,
+        question: &Question,
+        broken: Option<Broken<'_>>,
+        all_known: bool,
+    ) -> Result<Answer, Contradiction> {
+        let verdict = match broken {
+            Some(broken) => return self.maker().answer(question, broken),
+            None if all_known => self.holds(question),
+            None => Verdict::Open,
+        };
+        Ok(Answer::of(question, verdict))
     }
 
     /// With notes an attempt can fail in ways that no situation tells.
@@ -483,82 +491,6 @@ impl Collector<'_> {
         } else {
             Verdict::Holds
         }
-    }
-
-    fn always_possible(&self, number: usize, question: &Question) -> Result<Answer, Contradiction> {
-        let verdict = match self.explored.possible.get(number) {
-            Some(Possible::NotFrom(index)) => {
-                Verdict::Broken(Box::new(self.way_to(*index)?), Vec::new())
-            }
-            Some(Possible::Always) => self.holds(question),
-            Some(Possible::Unknown) | None => Verdict::Open,
-        };
-        Ok(Answer::of(question, verdict))
-    }
-
-    fn leads_to(&self, question: &Question, led: Option<&Led>) -> Result<Answer, Contradiction> {
-        let Some(led) = led else {
-            return Ok(Answer::of(question, Verdict::Open));
-        };
-        let cost = Some((led.situations, led.steps, led.memory));
-        let answer = match &led.broken {
-            None => Answer::of(question, Verdict::Holds),
-            Some(lasso) => {
-                let (witness, again) = self.lasso(lasso)?;
-                let left = match again {
-                    None => self.left_at(&witness),
-                    Some(_) => Vec::new(),
-                };
-                let verdict = Verdict::Broken(Box::new(witness), left);
-                Answer {
-                    again,
-                    ..Answer::of(question, verdict)
-                }
-            }
-        };
-        Ok(Answer { cost, ..answer })
-    }
-
-    /// The way to an end, or into a round and once through it.
-    fn lasso(&self, lasso: &Lasso) -> Result<(Witness, Option<Again>), Contradiction> {
-        let Explored { model, found, .. } = self.explored;
-        let mut replay = Replay::open(self.table, self.program, model)?;
-        replay.follow(&found.store, &found.store.way_to(lasso.begins))?;
-        let entered = replay.follow_codes(&found.store, lasso.begins, &lasso.way)?;
-        let before = replay.choices();
-        replay.follow_codes(&found.store, entered, &lasso.round)?;
-        let steps = lasso.round.len();
-        let again = (steps > 0).then_some(Again { before, steps });
-        Ok((replay.witness(), again))
-    }
-
-    /// Ends and rounds are asked alike; the nearest that breaks it is told.
-    fn at_ends(&self, number: usize, question: &Question) -> Result<Answer, Contradiction> {
-        let Explored { found, rounds, .. } = self.explored;
-        let end = found.broken_ends.get(number).copied().flatten();
-        let rounds = rounds.as_ref().map(|rounds| &rounds.broken);
-        let rounds = rounds.unwrap_or(&found.broken_rounds).get(number);
-        let round = rounds.copied().flatten();
-        let round = round.filter(|(at, _)| end.map_or(true, |end| *at < end));
-        if let Some((at, acting)) = round {
-            let witness = self.way_to(at)?;
-            let who = self.in_round(&witness, acting);
-            let verdict = Verdict::Broken(Box::new(witness), Vec::new());
-            return Ok(Answer {
-                round: Some(who),
-                ..Answer::of(question, verdict)
-            });
-        }
-        let verdict = match end {
-            Some(index) => {
-                let witness = self.way_to(index)?;
-                let left = self.left_at(&witness);
-                Verdict::Broken(Box::new(witness), left)
-            }
-            None if self.explored.ends_known() => self.holds(question),
-            None => Verdict::Open,
-        };
-        Ok(Answer::of(question, verdict))
     }
 }
 

@@ -13,7 +13,7 @@ use super::leads_to::{leads_to, Led};
 use super::model::Model;
 use super::possible::first_without;
 use super::round_sorts::{rounds, Rounds};
-use super::search::{search, Cut, Found, Limits, Progress, Questions};
+use super::search::{search, Cut, Found, Limits, Progress, Questions, SoFar};
 use super::store::Index;
 
 /// Whether the situations found are those of the hall, all of them and no
@@ -60,10 +60,11 @@ pub struct Explored {
     pub exact: Exact,
     /// The rounds that are never left; none where they are not known.
     pub rounds: Option<Rounds>,
-    /// For each question of what is always possible, whether it is.
+    /// For each question of what is always possible, whether it is; none where that
+    /// was not looked for.
     pub possible: Vec<Possible>,
     /// For each question of what leads to something what was found; none where that
-    /// is not known.
+    /// is not known. The last ones are missing where they were not looked for.
     pub leads: Vec<Option<Led>>,
 }
 
@@ -72,10 +73,9 @@ pub struct Explored {
 pub enum Possible {
     /// It is.
     Always,
-    /// From this situation it is not any more, and it is the nearest such one.
+    /// From this situation it is not any more. It is the nearest such one, or where
+    /// a limit was met before that was known the nearest end or round.
     NotFrom(Index),
-    /// It was not found out.
-    Unknown,
 }
 
 impl Explored {
@@ -91,6 +91,35 @@ impl Explored {
     pub fn ends_known(&self) -> bool {
         self.complete() && self.rounds.is_some()
     }
+
+    /// The rounds that are never left, as far as they were found.
+    #[must_use]
+    pub fn rounds_found(&self) -> &Rounds {
+        self.rounds.as_ref().unwrap_or(&self.found.rounds)
+    }
+
+    /// For a question of what is always possible the nearest end or round that was
+    /// seen to break it.
+    #[must_use]
+    pub fn seen_impossible(&self, number: usize) -> Option<Index> {
+        let ends = self.found.impossible.get(number).copied().flatten();
+        let rounds = self.rounds_found().impossible.get(number).copied();
+        ends.into_iter().chain(rounds.flatten()).min()
+    }
+
+    fn so_far<'a>(&'a self, leads: &'a [Option<Led>]) -> SoFar<'a> {
+        SoFar {
+            rounds: self.rounds_found(),
+            leads,
+            ..SoFar::of(&self.model, &self.found)
+        }
+    }
+
+    /// Whether a fault was found, and no more than the first is wanted.
+    fn is_enough(&self, questions: &Questions) -> bool {
+        let fault = self.found.has_fault(questions) || self.rounds_found().has_fault(questions);
+        questions.only_first && fault
+    }
 }
 
 /// Explores a hall, with notes where they are needed, and looks for the rounds
@@ -102,51 +131,68 @@ pub fn investigate(
     progress: &mut Progress<'_>,
 ) -> Explored {
     let mut explored = all_situations(table, questions, limits, progress);
-    if explored.complete() {
-        let Explored { model, found, .. } = &mut explored;
-        found.take_in_stuck(model, questions);
-        explored.rounds = rounds(model, found, questions, limits).ok();
+    if !explored.complete() {
+        return explored;
+    }
+    let Explored { model, found, .. } = &mut explored;
+    let done = found.store.len();
+    found.take_in_stuck(model, questions);
+    progress(SoFar::of(model, found), done);
+    if explored.is_enough(questions) {
+        return explored;
+    }
+    let Explored { model, found, .. } = &mut explored;
+    let found_rounds = rounds(model, found, questions, limits, |found, rounds| {
+        let so_far = SoFar::of(model, found);
+        progress(SoFar { rounds, ..so_far }, done);
+    });
+    explored.rounds = found_rounds.ok();
+    if !explored.is_enough(questions) {
         explored.possible = possible(&explored, questions, limits);
-        explored.leads = leads(&explored, questions, limits);
+        explored.leads = leads(&explored, questions, limits, progress);
     }
     explored
 }
 
 /// The ends and the rounds tell whether something is always possible.
 fn possible(explored: &Explored, questions: &Questions, limits: Limits) -> Vec<Possible> {
-    let Explored {
-        model,
-        found,
-        rounds: Some(rounds),
-        ..
-    } = explored
-    else {
+    let Explored { model, found, .. } = explored;
+    if explored.rounds.is_none() {
         return Vec::new();
-    };
-    let broken = found.impossible.iter().zip(&rounds.impossible);
-    let questions = questions.possible.iter().zip(broken);
-    let answered = questions.map(|(question, (at_end, in_round))| {
-        if !at_end && !in_round {
+    }
+    let questions = questions.possible.iter().enumerate();
+    let answered = questions.map(|(number, question)| {
+        let Some(seen) = explored.seen_impossible(number) else {
             return Possible::Always;
-        }
-        match first_without(model, found, question, limits) {
-            Ok(Some(first)) => Possible::NotFrom(first),
-            Ok(None) | Err(_) => Possible::Unknown,
-        }
+        };
+        let first = first_without(model, found, question, limits);
+        Possible::NotFrom(first.ok().flatten().unwrap_or(seen))
     });
     answered.collect()
 }
 
 /// With notes a station may act in two steps, and is not asked whether it goes on.
-fn leads(explored: &Explored, questions: &Questions, limits: Limits) -> Vec<Option<Led>> {
+fn leads(
+    explored: &Explored,
+    questions: &Questions,
+    limits: Limits,
+    progress: &mut Progress<'_>,
+) -> Vec<Option<Led>> {
+    let mut leads = Vec::new();
     if explored.exact == Exact::WithNotes {
-        return Vec::new();
+        return leads;
     }
     let Explored { model, found, .. } = explored;
-    let questions = questions.leads.iter();
-    questions
-        .map(|question| leads_to(model, found, question, limits).ok())
-        .collect()
+    for question in &questions.leads {
+        let led = leads_to(model, found, question, limits).ok();
+        let broken = led.as_ref().is_some_and(|led| led.broken.is_some());
+        leads.push(led);
+        progress(explored.so_far(&leads), found.store.len());
+        if questions.only_first && broken && !question.asking.breaks {
+            break;
+        }
+    }
+    leads
 }
 
 fn all_situations(

@@ -18,6 +18,7 @@
 //! | [`leads_to`], `fair` | runs that never come to what they should lead to |
 //! | `never_left`, [`rounds`], [`round_sorts`] | rounds that are never left; what is kept of them |
 //! | [`replay`] | a way to a situation, made on the library |
+//! | [`broken`] | broken questions with their ways |
 //! | [`ways_told`] | a way in lines, by steps or as choices |
 //! | [`labels`] | what the stations of a code are called |
 //! | [`waiting`] | who is left at an end, and why |
@@ -27,6 +28,7 @@
 //! | [`dot`], [`graph`] | situations and the steps between them, drawn and for programs |
 //! | [`engine`], [`components`] | all halls by the library's own steps, and the sets never left |
 
+pub mod broken;
 pub mod components;
 pub mod dot;
 pub mod endless;

@@ -6,10 +6,10 @@
 //! such a set can be reached, so it is enough to look where nothing known is
 //! reached:
 //!
-//! 1. For each member one that it leads to is known. Followed from one to the
-//!    next these lead to an end, to the opening, or into a circle: the **class**
-//!    of all that lead into one circle has a **root** in it that they all reach.
-//!    No edge is looked up for this.
+//! 1. For each member one that it reaches is known. Followed from one to the next
+//!    these lead to an end, to the opening, or into a circle: the **class** of all
+//!    that lead into one circle has a **root** in it that they all reach. No edge
+//!    is looked up for this.
 //! 2. What reaches the opening is done with, as is what reaches an end: if there
 //!    is an end or a set never left that the opening is not in, the opening
 //!    reaches it too; if there is none, all members reach the opening and are one
@@ -17,6 +17,11 @@
 //! 3. Of what is left, each root is gone on from. Roots that reach each other
 //!    are taken together, one that reaches something done with is done with. One
 //!    that reaches nothing else is never left: the members gone through.
+//!
+//! A graph that is not known to its end is asked in the same way: members that were
+//! not gone on from are done with, since nobody knows what they reach. What is
+//! found is never left whatever else there is. What each root was seen to reach is
+//! kept for the next time, when more is known.
 
 use std::collections::HashMap;
 
@@ -35,78 +40,118 @@ pub(super) trait Graph {
     );
 }
 
-/// Shows every set of members that is never left and that the opening is not in,
-/// with its members in order and who acts there. Ends are none of them.
+/// What a walk may cost.
+#[derive(Clone, Copy, Debug)]
+pub(super) struct Allowance {
+    /// Time and memory.
+    pub(super) limits: Limits,
+    /// So many members may be gone on from.
+    pub(super) members: usize,
+}
+
+/// Shows every set of members that is never left and that nothing done with is
+/// in, with its members in order and who acts there.
 ///
-/// `leads_to` has for each member one that it leads to. Any will do; the fewer
-/// circles these make, the less is left to be gone through.
+/// `reaches` has for each member one that it reaches, [`NOWHERE`] where none is
+/// known. Any will do; the fewer circles these make, the less is left to be gone
+/// through. Afterwards it has what is known then; a set that was shown is not
+/// shown again. `done` has the members that are done with: ends, the opening, and
+/// what was not gone on from.
 ///
 /// # Errors
 ///
-/// The limit that was met before all were found.
+/// The limit that was met before all were found, where too many members would
+/// have been gone on from that of time; or what `show` returns.
 pub(super) fn never_left(
     graph: impl Graph,
-    leads_to: Vec<Index>,
-    ends: impl Iterator<Item = Index>,
-    limits: Limits,
-    show: impl FnMut(&[Index], Codes),
+    reaches: &mut [Index],
+    done: Vec<bool>,
+    allowance: Allowance,
+    show: impl FnMut(&[Index], Codes) -> Result<(), Cut>,
 ) -> Result<(), Cut> {
-    let mut classes = Classes { of: leads_to };
-    for end in ends.chain([0]) {
-        classes.set(end, NOWHERE);
-    }
-    classes.follow();
-    Walk::new(graph, classes, limits).each(show)
+    let mut classes = Classes { of: reaches, done };
+    let known = classes.follow();
+    Walk::new(graph, classes, known, allowance).each(show)
 }
 
-/// For each member the root of its class, which has itself there; or
-/// [`NOWHERE`] where it is done with.
-struct Classes {
-    of: Vec<Index>,
+/// For each member that is not done with the root of its class, which has itself
+/// there; for others something that they reach.
+struct Classes<'a> {
+    of: &'a mut [Index],
+    done: Vec<bool>,
 }
 
-impl Classes {
+impl Classes<'_> {
     fn get(&self, index: Index) -> Index {
         self.of.get(place(index)).copied().unwrap_or(NOWHERE)
     }
 
-    fn set(&mut self, index: Index, root: Index) {
+    fn set(&mut self, index: Index, reached: Index) {
         if let Some(class) = self.of.get_mut(place(index)) {
-            *class = root;
+            *class = reached;
+        }
+    }
+
+    fn is_done(&self, index: Index) -> bool {
+        self.done.get(place(index)).copied().unwrap_or(true)
+    }
+
+    /// A member is done with, since it reaches one that is.
+    fn all_done(&mut self, index: Index, reached: Index) {
+        self.set(index, reached);
+        if let Some(done) = self.done.get_mut(place(index)) {
+            *done = true;
         }
     }
 
     /// The root of a member's class, none where it is done with.
     fn root(&self, index: Index) -> Option<Index> {
         let root = self.get(index);
-        let done = root == NOWHERE || self.get(root) == NOWHERE;
+        let done = self.is_done(index) || self.is_done(root);
         (!done).then_some(root)
     }
 
-    /// From one that each member leads to, to roots.
-    fn follow(&mut self) {
-        let mut known = vec![false; self.of.len()];
+    /// From one that each member reaches, to roots. Gives memory for a mark of each
+    /// member.
+    fn follow(&mut self) -> Vec<bool> {
+        let mut known = self.done.clone();
         let mut way = Vec::new();
         for first in (0..).take(self.of.len()) {
             way.clear();
             let mut at = first;
             // What is on the way is known too, with the next one for a root: if
             // it is met again, that is a circle.
-            while at != NOWHERE && !known.get(place(at)).copied().unwrap_or(true) {
-                if let Some(known) = known.get_mut(place(at)) {
-                    *known = true;
-                }
+            while let Some(known @ false) = known.get_mut(place(at)) {
+                *known = true;
                 way.push(at);
                 at = self.get(at);
             }
-            let root = match way.iter().position(|it| *it == at) {
-                Some(_) => at,
-                None if at == NOWHERE => NOWHERE,
-                None => self.get(at),
-            };
+            if way.is_empty() {
+                continue;
+            }
+            if self.is_done(at) {
+                self.end_at(&way, at);
+                continue;
+            }
+            let root = if way.contains(&at) { at } else { self.get(at) };
             for index in &way {
                 self.set(*index, root);
             }
+        }
+        known.fill(false);
+        known
+    }
+
+    /// A way that ends at something done with, or nowhere: then its last one is an
+    /// end.
+    fn end_at(&mut self, way: &[Index], at: Index) {
+        let Some((last, before)) = way.split_last() else {
+            return;
+        };
+        self.all_done(*last, at);
+        let end = if at == NOWHERE { *last } else { at };
+        for index in before {
+            self.all_done(*index, end);
         }
     }
 }
@@ -141,36 +186,44 @@ impl Component {
 /// So many members are gone on from together.
 const TOGETHER: usize = 64;
 
-struct Walk<G> {
+struct Walk<'a, G> {
     graph: G,
-    classes: Classes,
+    classes: Classes<'a>,
     /// Which members of the graph are in some component.
     entered: Vec<bool>,
     /// Each reaches the next one.
     components: Vec<Component>,
     /// In which of them a root is.
     place_of: HashMap<Index, usize>,
-    limits: Limits,
+    allowance: Allowance,
 }
 
-impl<G: Graph> Walk<G> {
-    fn new(graph: G, classes: Classes, limits: Limits) -> Walk<G> {
+impl<'a, G: Graph> Walk<'a, G> {
+    fn new(
+        graph: G,
+        classes: Classes<'a>,
+        entered: Vec<bool>,
+        allowance: Allowance,
+    ) -> Walk<'a, G> {
         Walk {
             graph,
-            entered: vec![false; classes.of.len()],
             classes,
+            entered,
             components: Vec::new(),
             place_of: HashMap::new(),
-            limits,
+            allowance,
         }
     }
 
-    fn each(&mut self, mut show: impl FnMut(&[Index], Codes)) -> Result<(), Cut> {
+    fn each(
+        &mut self,
+        mut show: impl FnMut(&[Index], Codes) -> Result<(), Cut>,
+    ) -> Result<(), Cut> {
         for index in (0..).take(self.classes.of.len()) {
             if index % (1 << 16) == 0 {
                 self.look_at_limits()?;
             }
-            if self.classes.get(index) != index {
+            if self.classes.root(index) != Some(index) {
                 continue;
             }
             self.begin(index);
@@ -178,11 +231,13 @@ impl<G: Graph> Walk<G> {
                 if let Some(reached) = last.reached.pop() {
                     self.look_at(reached);
                 } else if last.queue.is_empty() {
-                    last.members.sort_unstable();
-                    show(&last.members, last.acting);
-                    self.all_done();
+                    let mut members = std::mem::take(&mut last.members);
+                    members.sort_unstable();
+                    let acting = last.acting;
+                    self.all_end_in_the_last();
+                    show(&members, acting)?;
                 } else {
-                    self.go_on();
+                    self.go_on()?;
                     self.look_at_limits()?;
                 }
             }
@@ -192,8 +247,8 @@ impl<G: Graph> Walk<G> {
 
     fn look_at_limits(&self) -> Result<(), Cut> {
         let components: usize = self.components.iter().map(Component::memory).sum();
-        let own = 5 * self.classes.of.len();
-        match self.limits.met(own + components) {
+        let own = 2 * self.classes.of.len();
+        match self.allowance.limits.met(own + components) {
             Some(cut) => Err(cut),
             None => Ok(()),
         }
@@ -224,7 +279,7 @@ impl<G: Graph> Walk<G> {
     /// A member that the last component has reached.
     fn look_at(&mut self, index: Index) {
         let Some(root) = self.classes.root(index) else {
-            return self.all_done();
+            return self.all_reach(index);
         };
         if let Some(place) = self.place_of.get(&root).copied() {
             self.join_from(place);
@@ -254,21 +309,32 @@ impl<G: Graph> Walk<G> {
         }
     }
 
-    /// The last component reaches what is done with, or is never left: so all of
-    /// them are done with.
-    fn all_done(&mut self) {
+    /// The last component reaches what is done with, so all of them do.
+    fn all_reach(&mut self, reached: Index) {
         for component in std::mem::take(&mut self.components) {
             for root in component.roots {
-                self.classes.set(root, NOWHERE);
+                self.classes.all_done(root, reached);
             }
         }
         self.place_of.clear();
     }
 
-    /// Goes on from some of the last component's queue.
-    fn go_on(&mut self) {
-        let Some(last) = self.components.last_mut() else {
+    /// The last component is never left. It is as good as an end, which all
+    /// others reach.
+    fn all_end_in_the_last(&mut self) {
+        let Some(last) = self.components.pop() else {
             return;
+        };
+        for root in &last.roots {
+            self.classes.all_done(*root, NOWHERE);
+        }
+        self.all_reach(last.roots.first().copied().unwrap_or(NOWHERE));
+    }
+
+    /// Goes on from some of the last component's queue.
+    fn go_on(&mut self) -> Result<(), Cut> {
+        let Some(last) = self.components.last_mut() else {
+            return Ok(());
         };
         let Component {
             queue,
@@ -277,7 +343,10 @@ impl<G: Graph> Walk<G> {
             ..
         } = last;
         let first = queue.len().saturating_sub(TOGETHER);
+        let members = self.allowance.members.checked_sub(queue.len() - first);
+        self.allowance.members = members.ok_or(Cut::Time)?;
         self.graph.go_on(queue.drain(first..), acting, reached);
+        Ok(())
     }
 }
 
@@ -291,8 +360,8 @@ mod tests {
     use super::super::components::{bottom_components, Edges};
     use super::super::rounds::Codes;
     use super::super::search::Limits;
-    use super::super::store::Index;
-    use super::{never_left, place, Graph};
+    use super::super::store::{Index, NOWHERE};
+    use super::{never_left, place, Allowance, Graph};
 
     /// For each member all that it leads to. The walk is handed the first of
     /// these, so that there are as many classes as the graph can have.
@@ -312,20 +381,35 @@ mod tests {
         }
     }
 
-    /// What the walk shows, each set with those that act in it.
-    fn by_walk(graph: &Listed) -> Vec<(Vec<Index>, Vec<Index>)> {
-        let members = || (0..).zip(graph);
-        let ends = members().filter_map(|(member, edges)| edges.is_empty().then_some(member));
-        // What is said for an end does not count.
-        let first =
-            |(member, edges): (Index, &Vec<Index>)| edges.first().copied().unwrap_or(member);
+    /// A set that was shown, and those that act in it.
+    type Shown = (Vec<Index>, Vec<Index>);
+
+    /// What a walk shows that knows of the first members alone what they lead to,
+    /// each set with those that act in it.
+    fn walk(graph: &Listed, known: usize, reaches: &mut [Index], members: usize) -> Vec<Shown> {
+        let done = (0..).zip(graph);
+        let done = done.map(|(at, edges): (usize, _)| at == 0 || at >= known || edges.is_empty());
         let mut sets = Vec::new();
         let show = |members: &[Index], acting: Codes| {
+            assert!(members.iter().all(|member| place(*member) < known));
             let acting = (0..=u8::MAX).filter(|code| acting.contains(*code));
             sets.push((members.to_vec(), acting.map(Index::from).collect()));
+            Ok(())
         };
-        let leads_to = members().map(first).collect();
-        never_left(graph, leads_to, ends, Limits::memory(1 << 20), show).unwrap();
+        let allowance = Allowance {
+            limits: Limits::memory(1 << 20),
+            members,
+        };
+        let walked = never_left(graph, reaches, done.collect(), allowance, show);
+        assert!(walked.is_ok() || members < graph.len());
+        sets
+    }
+
+    /// The same of a walk that knows all of them.
+    fn by_walk(graph: &Listed) -> Vec<Shown> {
+        let first = |edges: &Vec<Index>| edges.first().copied().unwrap_or(NOWHERE);
+        let mut reaches: Vec<Index> = graph.iter().map(first).collect();
+        let mut sets = walk(graph, graph.len(), &mut reaches, graph.len());
         sets.sort();
         sets
     }
@@ -426,6 +510,78 @@ mod tests {
             }
             graph
         }
+    }
+
+    impl Chance {
+        /// Members that lead to others of their cluster, and seldom elsewhere.
+        fn clusters(&mut self, members: u32) -> Listed {
+            let mut graph: Listed = vec![(1..members).collect()];
+            for member in 1..members {
+                let first = member - member % 6;
+                let others = (0..=self.below(3)).map(|_| first + self.below(6));
+                let mut edges: Vec<Index> = others.collect();
+                if self.below(15) == 0 {
+                    edges.push(self.below(members));
+                }
+                edges.retain(|to| (1..members).contains(to));
+                graph.push(edges);
+            }
+            graph
+        }
+    }
+
+    /// Graphs of which more and more is known: each set is shown as soon as all that
+    /// its members lead to is known, and once.
+    #[test]
+    fn graphs_that_become_known() {
+        let mut chance = Chance(2);
+        let (mut shown, mut early) = (0, 0);
+        for round in 0..6_000 {
+            let members = 5 + round % 40;
+            let graph = chance.clusters(members);
+            let mut expected = by_walk(&graph);
+            let mut reaches = vec![NOWHERE; graph.len()];
+            let mut known = 0;
+            while known < graph.len() {
+                let more = 1 + place(chance.below(members));
+                for member in known..graph.len().min(known + more) {
+                    reaches[member] = graph[member].first().copied().unwrap_or(NOWHERE);
+                }
+                known = graph.len().min(known + more);
+                let mut sets = walk(&graph, known, &mut reaches, graph.len());
+                sets.sort();
+                let is_known = |(set, _): &Shown| set.iter().all(|it| place(*it) < known);
+                let (closed, open): (Vec<_>, Vec<_>) = expected.into_iter().partition(is_known);
+                assert_eq!(sets, closed, "{known} of {graph:?}");
+                shown += sets.len();
+                early += if known < graph.len() { sets.len() } else { 0 };
+                expected = open;
+            }
+        }
+        assert!(shown > 2_000 && early > 500, "{shown} {early}");
+    }
+
+    /// Walks that may go on from a few members only lose no set for a later one, and
+    /// show none twice.
+    #[test]
+    fn walks_that_stop() {
+        let mut chance = Chance(3);
+        let mut stopped = 0;
+        for round in 0..3_000 {
+            let graph = chance.clusters(20 + round % 200);
+            let first = |edges: &Vec<Index>| edges.first().copied().unwrap_or(NOWHERE);
+            let mut reaches: Vec<Index> = graph.iter().map(first).collect();
+            let mut sets = Vec::new();
+            for members in [0, 1, 3, 10, 30] {
+                sets.extend(walk(&graph, graph.len(), &mut reaches, members));
+            }
+            let before = sets.len();
+            sets.extend(walk(&graph, graph.len(), &mut reaches, graph.len()));
+            stopped += usize::from(0 < before && before < sets.len());
+            sets.sort();
+            assert_eq!(sets, by_walk(&graph), "{graph:?}");
+        }
+        assert!(stopped > 100, "{stopped}");
     }
 
     #[test]

@@ -5,16 +5,15 @@
 //! else be reached. Which one is the nearest takes one more look at every
 //! situation in which it is not so. They are gone through from the last one on,
 //! since most steps lead to a later situation; only where all that one leads to is
-//! not known yet is it kept what leads to what. That takes no more memory than the
+//! not known yet is it kept what that is. Then these lists are gone through, to and
+//! fro, until nothing more is known to reach it. They take no more memory than the
 //! search did: what has no room is looked at again.
-
-use std::mem::size_of;
 
 use super::model::Model;
 use super::question::Question;
 use super::search::{Cut, Found, Limits};
 use super::steps::Stepper;
-use super::store::{Batch, Index, NOWHERE};
+use super::store::{Batch, Index};
 
 /// So many situations are gone on from together.
 const TOGETHER: usize = 128;
@@ -41,8 +40,8 @@ pub(super) fn first_without(
         stepper: Stepper::new(model),
         batch: Batch::default(),
     };
-    let room = found.memory().saturating_sub(5 * found.store.len());
-    let back = Back::new(so, room / size_of::<Link>());
+    let room = found.memory().saturating_sub(found.store.len());
+    let back = Back::new(so, room / 4);
     back.first_without(
         |from, to| edges.find(from, to),
         |memory| limits.met(found.memory() + memory),
@@ -77,35 +76,31 @@ impl Edges<'_> {
 /// From where, and to where.
 type Edge = (Index, Index);
 
-/// Which situations are known to reach what is asked for, and what leads to those
-/// of which it is not known.
+/// Which situations are known to reach what is asked for, and what those lead to of
+/// which it is not known.
 struct Back {
     reaching: Vec<bool>,
-    /// For each situation the first of the links that lead to it.
-    first: Vec<u32>,
-    links: Vec<Link>,
-    /// So many links have room.
-    most_links: usize,
-    /// Situations whose links had none.
+    /// Situations of which it is not known, marked by [`HEAD`], each before all that
+    /// it leads to.
+    lists: Vec<u32>,
+    /// So many numbers of these have room.
+    most: usize,
+    /// Situations whose lists had none.
     again: Vec<Index>,
-    /// Situations that were just found to reach it.
-    new: Vec<Index>,
 }
 
-struct Link {
-    from: Index,
-    next: u32,
-}
+/// The mark of a list's first number.
+const HEAD: u32 = 1 << 31;
 
 impl Back {
-    fn new(so: Vec<bool>, most_links: usize) -> Back {
+    fn new(so: Vec<bool>, most: usize) -> Back {
+        // Larger numbers have no bit to be marked by.
+        let marked = u32::try_from(so.len()).is_ok_and(|members| members < HEAD);
         Back {
-            first: vec![NOWHERE; so.len()],
             reaching: so,
-            links: Vec::new(),
-            most_links,
+            lists: Vec::new(),
+            most: if marked { most } else { 0 },
             again: Vec::new(),
-            new: Vec::new(),
         }
     }
 
@@ -131,23 +126,23 @@ impl Back {
                     together.extend(Index::try_from(below));
                 }
             }
-            if let Some(cut) = met(self.memory()) {
-                return Err(cut);
-            }
+            stop_if(met(self.memory()))?;
             find(&together, &mut edges);
-            self.take_in(&edges)?;
+            self.take_in(&edges);
         }
-        // Those without links, until nothing more is found to reach it.
+        // Those without lists too, until nothing more is found to reach it.
         loop {
-            let left = std::mem::take(&mut self.again).into_iter();
-            let left = left.filter(|index| !self.reaches(place(*index)));
-            let left: Vec<Index> = left.collect();
+            while self.to_and_fro() {
+                stop_if(met(self.memory()))?;
+            }
+            let mut left = std::mem::take(&mut self.again);
+            left.retain(|index| !self.reaches(place(*index)));
+            // The other way round than before.
+            left.reverse();
             for together in left.chunks(TOGETHER) {
-                if let Some(cut) = met(self.memory() + 4 * left.len()) {
-                    return Err(cut);
-                }
+                stop_if(met(self.memory() + 4 * left.len()))?;
                 find(together, &mut edges);
-                self.take_in(&edges)?;
+                self.take_in(&edges);
             }
             if self.again.len() == left.len() {
                 let first = self.reaching.iter().position(|reaches| !reaches);
@@ -157,60 +152,76 @@ impl Back {
     }
 
     fn memory(&self) -> usize {
-        let listed = self.again.len() + self.new.len();
-        5 * self.reaching.len() + size_of::<Link>() * self.links.len() + 4 * listed
+        self.reaching.len() + 4 * (self.lists.len() + self.again.len())
     }
 
     fn reaches(&self, place: usize) -> bool {
         self.reaching.get(place).copied().unwrap_or(true)
     }
 
+    fn mark(&mut self, index: Index) {
+        if let Some(reaches) = self.reaching.get_mut(place(index)) {
+            *reaches = true;
+        }
+    }
+
     /// Steps, those from one situation together.
-    fn take_in(&mut self, edges: &[Edge]) -> Result<(), Cut> {
+    fn take_in(&mut self, edges: &[Edge]) {
         let mut rest = edges;
-        while let Some((from, _)) = rest.first() {
-            let (own, others) = rest.split_at(rest.partition_point(|(it, _)| it == from));
+        while let Some((from, _)) = rest.first().copied() {
+            let (own, others) = rest.split_at(rest.partition_point(|(it, _)| *it == from));
             rest = others;
             if own.iter().any(|(_, to)| self.reaches(place(*to))) {
-                self.mark(*from);
-            } else if self.reaches(place(*from)) {
-                // It was marked meanwhile.
-            } else if self.links.len() + own.len() > self.most_links {
-                self.again.push(*from);
+                self.mark(from);
+            } else if self.lists.len() + 1 + own.len() > self.most {
+                self.again.push(from);
             } else {
-                self.link(own)?;
+                self.lists.push(from | HEAD);
+                self.lists.extend(own.iter().map(|(_, to)| *to));
             }
         }
-        Ok(())
     }
 
-    fn link(&mut self, edges: &[Edge]) -> Result<(), Cut> {
-        for (from, to) in edges {
-            let link = u32::try_from(self.links.len()).map_err(|_| Cut::Memory)?;
-            if let Some(first) = self.first.get_mut(place(*to)) {
-                let next = std::mem::replace(first, link);
-                self.links.push(Link { from: *from, next });
+    /// Goes through the lists, first from the last one on: then those that lead to
+    /// earlier situations are known when they are needed. Whether something new is
+    /// known to reach it.
+    fn to_and_fro(&mut self) -> bool {
+        let mut lists = std::mem::take(&mut self.lists);
+        let mut any = false;
+        let mut leads = false;
+        for number in lists.iter().rev() {
+            if number & HEAD == 0 {
+                leads |= self.reaches(place(*number));
+            } else if std::mem::take(&mut leads) {
+                any = true;
+                self.mark(number & !HEAD);
             }
         }
-        Ok(())
+        // To the end, and without the lists that are not needed any more.
+        let (mut kept, mut at) = (0, 0);
+        while let Some(head) = lists.get(at).copied() {
+            let others = lists.get(at + 1..).unwrap_or(&[]);
+            let to = others.iter().take_while(|number| **number & HEAD == 0);
+            let end = at + 1 + to.clone().count();
+            let from = head & !HEAD;
+            let known = self.reaches(place(from));
+            if known || to.into_iter().any(|to| self.reaches(place(*to))) {
+                any |= !known;
+                self.mark(from);
+            } else {
+                lists.copy_within(at..end, kept);
+                kept += end - at;
+            }
+            at = end;
+        }
+        lists.truncate(kept);
+        self.lists = lists;
+        any
     }
+}
 
-    /// This one reaches it, and all that lead there.
-    fn mark(&mut self, index: Index) {
-        self.new.push(index);
-        while let Some(index) = self.new.pop() {
-            match self.reaching.get_mut(place(index)) {
-                Some(reaches @ false) => *reaches = true,
-                _ => continue,
-            }
-            let first = self.first.get(place(index)).copied();
-            let mut at = first.unwrap_or(NOWHERE);
-            while let Some(link) = self.links.get(place(at)).filter(|_| at != NOWHERE) {
-                self.new.push(link.from);
-                at = link.next;
-            }
-        }
-    }
+fn stop_if(cut: Option<Cut>) -> Result<(), Cut> {
+    cut.map_or(Ok(()), Err)
 }
 
 fn place(index: Index) -> usize {
@@ -231,7 +242,7 @@ mod tests {
         (*state >> 33) % below
     }
 
-    /// Random graphs against a closure, with room for no links, for few and for all.
+    /// Random graphs against a closure, with room for no lists, for few and for all.
     #[test]
     fn random_graphs() {
         let mut state = 1;
@@ -258,14 +269,14 @@ mod tests {
             let expected = reaching.iter().position(|reaches| !reaches);
             none += usize::from(expected.is_none());
             later += usize::from(expected.is_some_and(|first| first > 0));
-            for most_links in [0, 3, 40, usize::MAX] {
+            for most in [0, 3, 40, usize::MAX] {
                 let find = |from: &[Index], to: &mut Vec<Edge>| {
                     to.clear();
                     for from in from {
                         to.extend(graph[place(*from)].iter().map(|to| (*from, *to)));
                     }
                 };
-                let first = Back::new(so.clone(), most_links).first_without(find, |_| None);
+                let first = Back::new(so.clone(), most).first_without(find, |_| None);
                 assert_eq!(
                     first.map(|first| first.map(place)),
                     Ok(expected),
@@ -279,7 +290,7 @@ mod tests {
     #[test]
     fn a_limit_that_is_met() {
         let find = |_: &[Index], to: &mut Vec<Edge>| to.clear();
-        let met = |memory: usize| (memory >= 10).then_some(Cut::Memory);
+        let met = |memory: usize| (memory >= 2).then_some(Cut::Memory);
         let answer = Back::new(vec![true, false], 9).first_without(find, met);
         assert_eq!(answer, Err(Cut::Memory));
     }

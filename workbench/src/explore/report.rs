@@ -69,14 +69,17 @@ impl Report<'_> {
         self.explored.complete()
     }
 
-    /// A way, below what it leads to.
-    fn way(&self, witness: &Witness) -> Vec<String> {
-        let ways = Ways {
+    fn ways(&self) -> Ways<'_> {
+        Ways {
             program: self.program,
             style: self.style,
             moves: self.moves,
-        };
-        ways.lines(self.table, witness, 5)
+        }
+    }
+
+    /// A way, below what it leads to.
+    fn way(&self, witness: &Witness) -> Vec<String> {
+        self.ways().lines(self.table, witness, BELOW)
     }
 
     fn head(&self) -> Vec<String> {
@@ -365,42 +368,63 @@ impl Report<'_> {
 
     /// The answer to a question, with the way that breaks it.
     fn answer(&self, answer: &Answer) -> Vec<String> {
-        let (verdict, witness, left) = match &answer.verdict {
-            Verdict::Holds => (holds(answer, self.style), None, None),
-            Verdict::Open => (
-                "not known; nothing that was seen breaks it".to_owned(),
-                None,
-                None,
-            ),
-            Verdict::Broken(witness, left) => {
+        let verdict = match &answer.verdict {
+            Verdict::Holds => holds(answer, self.style),
+            Verdict::Open => "not known; nothing that was seen breaks it".to_owned(),
+            Verdict::Broken(witness, _) => {
                 let last = witness.last.counts;
                 let trays = self.explored.model.trays().iter();
                 let counts: Vec<u8> = trays
                     .map(|tray| crate::ways::count_of(&last, *tray))
                     .collect();
-                let words = format!(
-                    "{} {}: {}",
-                    broken(answer, self.style),
-                    first_when(answer, witness),
+                format!(
+                    "{}: {}",
+                    broken(answer, witness, self.style),
                     self.counts(&counts)
-                );
-                (words, Some(witness), Some(left))
+                )
             }
         };
         let mut lines = wrapped("", &format!("{}: {verdict}", answer.told()));
-        lines.extend(broken_so(answer));
-        if let Some(who) = &answer.round {
-            let words = format!("in a round that is never left: {}", who.told());
-            lines.extend(wrapped("     ", &words));
-        }
-        for line in left.map(|left| waiting::told(left)).unwrap_or_default() {
-            lines.extend(wrapped("     ", &line));
-        }
-        if let Some(witness) = witness {
-            lines.extend(self.way(witness));
-        }
+        lines.extend(below(answer, &self.ways(), self.table, BELOW));
         lines
     }
+}
+
+/// Behind so many spaces stands what is told below something.
+const BELOW: usize = 5;
+
+/// A broken question that is told before the end, while a search of so much goes
+/// on.
+#[must_use]
+pub fn told_early(answer: &Answer, among: &str, ways: &Ways<'_>, table: &Table) -> String {
+    let Verdict::Broken(witness, _) = &answer.verdict else {
+        return String::new();
+    };
+    let head = format!(
+        "{}: {}, found among {among}; the search goes on",
+        answer.told(),
+        broken(answer, witness, ways.style),
+    );
+    let mut lines = wrapped("", &head);
+    lines.extend(below(answer, ways, table, 2));
+    lines.join("\n") + "\n\n"
+}
+
+/// What is told below an answer: how it is broken, who is there, and the way.
+fn below(answer: &Answer, ways: &Ways<'_>, table: &Table, indent: usize) -> Vec<String> {
+    let margin = " ".repeat(indent);
+    let mut words = broken_so(answer);
+    if let Some(who) = &answer.round {
+        words.push(format!("in a round that is never left: {}", who.told()));
+    }
+    if let Verdict::Broken(_, left) = &answer.verdict {
+        words.extend(waiting::told(left));
+    }
+    let mut lines: Vec<String> = words.iter().flat_map(|it| wrapped(&margin, it)).collect();
+    if let Verdict::Broken(witness, _) = &answer.verdict {
+        lines.extend(ways.lines(table, witness, indent));
+    }
+    lines
 }
 
 /// A verdict without the way that breaks it.
@@ -409,9 +433,7 @@ pub fn verdict(answer: &Answer, style: Style) -> String {
     match &answer.verdict {
         Verdict::Holds => holds(answer, style),
         Verdict::Open => "not known".to_owned(),
-        Verdict::Broken(witness, _) => {
-            format!("{} {}", broken(answer, style), first_when(answer, witness))
-        }
+        Verdict::Broken(witness, _) => broken(answer, witness, style),
     }
 }
 
@@ -423,44 +445,40 @@ fn holds(answer: &Answer, style: Style) -> String {
     }
 }
 
-fn broken(answer: &Answer, style: Style) -> String {
-    if answer.breaks {
+fn broken(answer: &Answer, witness: &Witness, style: Style) -> String {
+    let broken = if answer.breaks {
         format!("{}, as the text says,", style.good("broken"))
     } else {
         style.bad("broken")
-    }
+    };
+    format!("{broken} {}", first_when(answer, witness))
 }
 
 /// How a question is broken, where its way alone does not say it, and what it
 /// took to know.
 fn broken_so(answer: &Answer) -> Vec<String> {
-    let mut lines = Vec::new();
+    let mut words = Vec::new();
     if let Verdict::Broken(witness, _) = &answer.verdict {
         if answer.asked == Asked::Possible {
-            lines.extend(wrapped("     ", "from there it can't be reached any more"));
+            words.push("from there it can't be reached any more".to_owned());
         } else if answer.of_events {
-            lines.extend(wrapped(
-                "     ",
-                "what is asked about can happen there next",
-            ));
+            words.push("what is asked about can happen there next".to_owned());
         }
         if let Some(Again { before, .. }) = answer.again {
             let again = witness.lines.len().saturating_sub(before);
             let again = counted(u64::try_from(again).unwrap_or(0), "choice");
-            let words = format!("the last {again} can be made again and again");
-            lines.extend(wrapped("     ", &words));
+            words.push(format!("the last {again} can be made again and again"));
         }
     }
     if let Some((situations, steps, _)) = answer.cost {
         let number = |count: usize| u64::try_from(count).unwrap_or(u64::MAX);
-        let words = format!(
+        words.push(format!(
             "cost: {} and {} gone through once more",
             counted(number(situations), "situation"),
             counted(number(steps), "step")
-        );
-        lines.extend(wrapped("     ", &words));
+        ));
     }
-    lines
+    words
 }
 
 /// How many sorts are not told, and why.

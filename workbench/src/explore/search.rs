@@ -6,9 +6,10 @@ use std::time::Instant;
 use crate::text::asking::Asked;
 
 use super::endless::{feeds_nothing_round, Allowed};
+use super::leads_to::Led;
 use super::model::{Kind, Model};
 use super::question::Question;
-use super::rounds::Codes;
+use super::round_sorts::{rounds_so_far, Rounds};
 use super::situations::Situations;
 use super::steps::{Deed, Limit, Step, Stepper};
 use super::store::{Batch, Index};
@@ -206,11 +207,10 @@ pub struct Found {
     pub never: Vec<Option<Index>>,
     /// For each question of `ends`, the first end at which it is not so.
     pub broken_ends: Vec<Option<Index>>,
-    /// For each question of `possible`, whether it is not so at some end.
-    pub impossible: Vec<bool>,
-    /// The same of rounds that are never left, with who acts there, where looking
-    /// for rounds was cut short: those that were found by then.
-    pub broken_rounds: Vec<Option<(Index, Codes)>>,
+    /// For each question of `possible`, the first end at which it is not so.
+    pub impossible: Vec<Option<Index>>,
+    /// Rounds that are never left and were found before all were looked for.
+    pub rounds: Rounds,
     /// Why not all was seen.
     pub cut: Option<Cut>,
 }
@@ -222,6 +222,24 @@ pub struct SoFar<'a> {
     pub model: &'a Model,
     /// What was found.
     pub found: &'a Found,
+    /// The rounds that are never left.
+    pub rounds: &'a Rounds,
+    /// For the first questions of `leads` what was found; none where that is not
+    /// known.
+    pub leads: &'a [Option<Led>],
+}
+
+impl<'a> SoFar<'a> {
+    /// What a search has found.
+    #[must_use]
+    pub fn of(model: &'a Model, found: &'a Found) -> SoFar<'a> {
+        SoFar {
+            model,
+            found,
+            rounds: &found.rounds,
+            leads: &[],
+        }
+    }
 }
 
 /// Shown now and then what was found so far, and how many situations are done
@@ -234,6 +252,11 @@ const BATCH: usize = 256;
 /// So many batches are gone through between two looks at the limits.
 const BETWEEN_LOOKS: u32 = 16;
 
+/// So many situations are gone on from before rounds that are never left are looked
+/// for among them; then twice as many each time, so that it costs a part of the
+/// search.
+const BEFORE_ROUNDS: usize = 1 << 13;
+
 /// Goes through every situation of a model, or as many as the limits allow.
 pub fn search(
     model: &Model,
@@ -245,6 +268,7 @@ pub fn search(
         model,
         questions,
         found: Found::of_opening(model, questions),
+        next_rounds: BEFORE_ROUNDS,
     };
     // Where every run ends there is no round to be looked for afterwards.
     if !feeds_nothing_round(model, Allowed::Any) {
@@ -261,6 +285,8 @@ struct Search<'a> {
     model: &'a Model,
     questions: &'a Questions,
     found: Found,
+    /// Once so many situations are gone on from, rounds are looked for.
+    next_rounds: usize,
 }
 
 impl Search<'_> {
@@ -271,7 +297,9 @@ impl Search<'_> {
         let mut done = 0;
         while done < self.found.store.len() && self.found.cut.is_none() {
             if batches % BETWEEN_LOOKS == 0 {
-                self.found.cut = limits.met(self.found.memory());
+                self.look_for_rounds(done, limits);
+                let met = limits.met(self.found.memory());
+                self.found.cut = self.found.cut.or(met);
                 progress(self.so_far(), done);
                 if self.found.cut.is_some() {
                     return;
@@ -289,9 +317,7 @@ impl Search<'_> {
                 return;
             }
             self.keep(&mut batch);
-            if self.questions.only_first && self.found.breaks_something() {
-                self.found.cut = Some(Cut::Fault);
-            }
+            self.stop_at_first_fault();
         }
         // Ends come last, and to look for rounds may take as long again.
         if self.found.cut.is_none() {
@@ -300,9 +326,29 @@ impl Search<'_> {
     }
 
     fn so_far(&self) -> SoFar<'_> {
-        SoFar {
-            model: self.model,
-            found: &self.found,
+        SoFar::of(self.model, &self.found)
+    }
+
+    fn stop_at_first_fault(&mut self) {
+        let Search {
+            found, questions, ..
+        } = self;
+        if questions.only_first && found.has_fault(questions) {
+            found.cut.get_or_insert(Cut::Fault);
+        }
+    }
+
+    /// Looks for rounds that are never left, if enough is new and one of them may
+    /// show something.
+    fn look_for_rounds(&mut self, done: usize, limits: Limits) {
+        if done < self.next_rounds {
+            return;
+        }
+        self.next_rounds = done.saturating_mul(2);
+        let found = &mut self.found;
+        if found.marks.repeats && found.rounds_can_break() && knows_all_steps(self.model, found) {
+            rounds_so_far(self.model, found, done, self.questions, limits);
+            self.stop_at_first_fault();
         }
     }
 
@@ -315,6 +361,7 @@ impl Search<'_> {
             model,
             found,
             questions,
+            ..
         } = self;
         let Found {
             store,
@@ -347,8 +394,10 @@ impl Search<'_> {
                     *first = Some(index);
                 }
             }
-            for (broken, question) in impossible.iter_mut().zip(&questions.possible) {
-                *broken |= !question.holds(situation);
+            for (first, question) in impossible.iter_mut().zip(&questions.possible) {
+                if first.is_none() && !question.holds(situation) {
+                    *first = Some(index);
+                }
             }
         });
     }
@@ -386,6 +435,14 @@ impl Search<'_> {
     }
 }
 
+/// Whether no station of a situation gone on from has steps that are not known.
+/// Without notes that is so only where the limit of 64 stations was not met, or no
+/// block has two ways.
+fn knows_all_steps(model: &Model, found: &Found) -> bool {
+    let notes = model.first_noted() < model.kinds().len();
+    notes || found.marks.full_hall.is_none() || !model.has_alternatives()
+}
+
 impl Found {
     fn of_opening(model: &Model, questions: &Questions) -> Found {
         let (counts, _) = model.split(model.opening());
@@ -398,8 +455,8 @@ impl Found {
             marks: Marks::of(model.kinds().len()),
             never: vec![None; questions.never.len()],
             broken_ends: vec![None; questions.ends.len()],
-            impossible: vec![false; questions.possible.len()],
-            broken_rounds: Vec::new(),
+            impossible: vec![None; questions.possible.len()],
+            rounds: Rounds::none(questions),
             cut: None,
         }
     }
@@ -423,14 +480,13 @@ impl Found {
         }
         for index in &taken {
             self.store.glance(*index, |glance| {
-                for (first, question) in self.broken_ends.iter_mut().zip(&questions.ends) {
+                let ends = self.broken_ends.iter_mut().zip(&questions.ends);
+                let possible = self.impossible.iter_mut().zip(&questions.possible);
+                for (first, question) in ends.chain(possible) {
                     let before = first.is_some_and(|first| first < *index);
                     if !before && !question.holds(glance) {
                         *first = Some(*index);
                     }
-                }
-                for (broken, question) in self.impossible.iter_mut().zip(&questions.possible) {
-                    *broken |= !question.holds(glance);
                 }
             });
         }
@@ -451,9 +507,66 @@ impl Found {
     /// Whether a question was found broken.
     #[must_use]
     pub fn breaks_something(&self) -> bool {
-        self.never
-            .iter()
-            .chain(&self.broken_ends)
-            .any(Option::is_some)
+        let places = self.never.iter().chain(&self.broken_ends);
+        let mut places = places
+            .chain(&self.impossible)
+            .chain(&self.rounds.impossible);
+        places.any(Option::is_some) || self.rounds.broken.iter().any(Option::is_some)
+    }
+
+    /// Whether one was that the text expects to hold.
+    #[must_use]
+    pub fn has_fault(&self, questions: &Questions) -> bool {
+        let never = questions.never.iter().zip(&self.never);
+        let ends = questions.ends.iter().zip(&self.broken_ends);
+        let possible = questions.possible.iter().zip(&self.impossible);
+        let mut broken = never.chain(ends).chain(possible);
+        broken.any(|(question, broken)| broken.is_some() && !question.asking.breaks)
+            || self.rounds.has_fault(questions)
+    }
+
+    /// Whether some question is not known to be broken that rounds can break.
+    fn rounds_can_break(&self) -> bool {
+        let ends = self.broken_ends.iter().zip(&self.rounds.broken);
+        let possible = self.impossible.iter().zip(&self.rounds.impossible);
+        let mut ends = ends.map(|(end, round)| end.is_none() && round.is_none());
+        let mut possible = possible.map(|(end, round)| end.is_none() && round.is_none());
+        ends.any(|open| open) || possible.any(|open| open)
+    }
+}
+
+#[cfg(test)]
+#[allow(clippy::unwrap_used)]
+mod tests {
+    use super::{knows_all_steps, search, Limits, Questions};
+    use crate::explore::model::Model;
+    use crate::text::source::Source;
+    use crate::text::understand;
+
+    /// Where the limit of 64 stations was met and a block has two ways, there are steps
+    /// that only notes show.
+    #[test]
+    fn steps_that_only_notes_show() {
+        let known = |ways: &str, idle: usize, notes: bool| {
+            let text = format!(
+                "tray a\ntray c\nrule desk is block ({ways})\nrule idle is take a then nothing\n\
+                 start desk beside {idle} of idle\n"
+            );
+            let table = understand(&Source::new("", text)).unwrap().table;
+            let model = if notes {
+                Model::with_notes(&table).unwrap()
+            } else {
+                Model::of(&table)
+            };
+            let limits = Limits::memory(10_000_000);
+            let found = search(&model, &Questions::default(), limits, &mut |_, _| {});
+            assert_eq!(found.marks.full_hall.is_some(), idle == 63);
+            knows_all_steps(&model, &found)
+        };
+        let (one, two) = ("put c, put c, end", "take a, end or else put c, put c, end");
+        assert!(known(one, 62, false) && known(two, 62, false));
+        assert!(known(one, 63, false));
+        assert!(!known(two, 63, false));
+        assert!(known(two, 63, true));
     }
 }

@@ -148,6 +148,11 @@ impl Situations {
         self.store.take_least()
     }
 
+    /// Keeps them again, before anything else is kept.
+    pub fn give_least(&mut self, least: Vec<Index>) {
+        self.store.give_least(least);
+    }
+
     /// Shows for each situation of a batch its number, where it is kept, and from
     /// which one it was reached.
     pub fn find_batch(&self, batch: &mut Batch, show: impl FnMut(Index, Index)) {
@@ -164,6 +169,12 @@ impl Situations {
     #[must_use]
     pub fn parent(&self, index: Index) -> Index {
         self.store.parent(index)
+    }
+
+    /// The same for each situation, in order.
+    #[must_use]
+    pub fn parents(&self) -> &[Index] {
+        self.store.parents()
     }
 
     /// All numbers, in order.

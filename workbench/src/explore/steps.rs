@@ -274,6 +274,7 @@ impl<'m> Stepper<'m> {
     /// Shows what can be done with these counts by stations of these codes, each
     /// given once, so many stations standing there; and the limit that forbids
     /// it.
+    #[inline]
     pub fn each_try(
         &self,
         counts: &[u8],

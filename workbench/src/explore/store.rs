@@ -158,6 +158,11 @@ impl Store {
         self.least.take()
     }
 
+    /// Keeps them again, before anything else is kept.
+    pub fn give_least(&mut self, least: Vec<Index>) {
+        self.least = Some(least);
+    }
+
     /// How many records there are.
     #[must_use]
     pub fn len(&self) -> usize {
@@ -200,6 +205,12 @@ impl Store {
     #[must_use]
     pub fn parent(&self, index: Index) -> Index {
         self.parents.get(place(index)).copied().unwrap_or(0)
+    }
+
+    /// The same for each record, in order.
+    #[must_use]
+    pub fn parents(&self) -> &[Index] {
+        &self.parents
     }
 
     /// The records from the first one to this, each reached from the one before.

@@ -14,6 +14,7 @@ mod command;
 mod common;
 mod contradictions;
 mod doubts;
+mod early;
 mod grouped;
 mod halls;
 mod questions;

@@ -28,7 +28,7 @@ fn by_steps(table: &Table, questions: &Questions) -> Explored {
 }
 
 fn by_engine(table: &Table) -> Option<EngineFound> {
-    let found = engine_search(table, Limits::memory(SMALL), &mut |_, _| {}).unwrap();
+    let found = engine_search(table, Limits::memory(SMALL), &mut |_, _| None).unwrap();
     found.cut.is_none().then_some(found)
 }
 
@@ -72,6 +72,7 @@ fn round_sets(table: &Table, with_notes: bool) -> BTreeSet<BTreeSet<Vec<u8>>> {
         assert!(members.windows(2).all(|pair| pair[0] < pair[1]));
         let read = |index: &u32| model.read_without_notes(&found.store.get(*index));
         rounds.insert(members.iter().map(read).collect());
+        Ok(())
     })
     .unwrap();
     rounds

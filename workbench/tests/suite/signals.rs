@@ -388,6 +388,28 @@ mod sent {
         assert!(out.contains("not compared with the rules"), "{out}");
     }
 
+    /// What they have broken by then was told at once, and is told again.
+    #[test]
+    fn a_signal_tells_what_the_engines_steps_broke() {
+        let asked = ["--engine", "--never", "t1 = 1"];
+        let mut child = begun("signal-engine-fault", "", &asked);
+        let mut out = BufReader::new(child.stdout.take().unwrap());
+        let mut first = String::new();
+        out.read_line(&mut first).unwrap();
+        let head = "never t1 = 1: broken after 2 steps, found among ";
+        assert!(first.starts_with(head), "{first}");
+        send(&child, SIGTERM);
+        let report = rest_of(out);
+        assert_eq!(child.wait().unwrap().code(), Some(143), "{report}");
+        let (early, report) = report.split_once("large.hall: ").unwrap();
+        assert!(in_one_line(&(first + early)).contains(" halls; the search goes on choices act "));
+        assert!(report.contains("cut short, there may be more"), "{report}");
+        assert!(
+            report.contains("\nnever t1 = 1: broken after 2 steps\n  choices\n    act "),
+            "{report}"
+        );
+    }
+
     #[test]
     fn a_signal_ends_the_groups() {
         let child = begun("signal-groups", "", &options(&["--groups"]));

@@ -11,7 +11,7 @@ use crate::consoles::fenced;
 
 /// Said, with exit 70, where the program is at odds with itself. No input leads
 /// there; tests/explore/contradictions.rs makes some of them come about.
-const AT_ODDS: [&str; 29] = [
+const AT_ODDS: [&str; 31] = [
     "'{words}' was not made: {unmade:?}",
     "a hall of the engine has a station of no table",
     "a question cannot be read again",
@@ -21,6 +21,9 @@ const AT_ODDS: [&str; 29] = [
     "an accepted table opens no hall",
     "an accepted table opens no hall that can be read",
     "code {code} makes no such step",
+    "by its own steps the engine comes to the situation {situation:?}, to which the rules do not \
+     lead",
+    "by its own steps the engine never leaves what it leaves by the rules",
     "by its own steps the engine comes to {} and {}, by the rules there are {} and {}; rounds that \
      are never left are {}",
     "names and stations do not fit together",
@@ -59,7 +62,7 @@ const IN_CODE: [(&str, &str); 19] = [
     ("hall: cannot write: {error} ", "tests/suite/commands.rs"),
     ("cannot read: {error}", "tests/suite/commands.rs"),
     (
-        "{}: {} {}, found among {}; the search goes on",
+        "{}: {}, found among {among}; the search goes on",
         "tests/suite/signals.rs",
     ),
     (

@@ -1,24 +1,21 @@
 //! `hall explore --engine`
 
-use std::collections::BTreeSet;
-
+use super::engine_watch::{Foretold, Watch};
 use super::progress::Progress;
 use super::{exit, wrong, Job};
-use crate::commands::load::Loaded;
 use crate::commands::{Args, Failure, Outcome, Streams};
 use crate::explore::engine::{engine_search, EngineFound, Failed};
-use crate::explore::facts::{Answer, Asked, Verdict};
+use crate::explore::facts::{Answer, Verdict};
 use crate::explore::investigate::{investigate, Explored};
-use crate::explore::model::Model;
 use crate::explore::objects;
-use crate::explore::question::Question;
-use crate::explore::replay::rehearse;
-use crate::explore::report::{choice_lines, counted};
-use crate::explore::search::Questions;
-use crate::explore::situations::Glance;
-use crate::explore::store::Index;
+use crate::explore::report::{choice_lines, counted, verdict};
+use crate::explore::search::{Limits, Questions};
 use crate::json::{list, Object};
 use crate::style::{width, wrapped, Style};
+
+/// What the rules lead to is looked up first, if that takes no more memory: some
+/// hundred thousand situations, of which the engine makes far more halls.
+const SMALL: usize = 20_000_000;
 
 impl From<Failed> for Failure {
     fn from(failed: Failed) -> Failure {
@@ -39,29 +36,46 @@ pub(super) fn by_engine(job: &Job<'_>, args: &Args, streams: &mut Streams<'_>) -
     {
         return Err(wrong("--dot, --svg and --save are not for --engine"));
     }
-    if job.questions.only_first {
-        return Err(wrong("--first is not for --engine"));
-    }
-    if let Some(question) = job.questions.leads.first() {
+    // What the text asks can't be left out of the call; it is not asked.
+    let mut leads = job.questions.leads.iter();
+    if let Some(question) = leads.find(|it| it.place >= job.loaded.program.questions.len()) {
         let words = format!("--engine does not answer '{}'", question.text);
         return Err(wrong(&words));
     }
-    let table = &job.loaded.table;
     let mut progress = Progress::new();
-    let mut tell = |seen, done| progress.tell(seen, done);
-    let found = engine_search(table, job.limits, &mut tell)?;
-    let by_steps = investigate(
-        table,
-        &Questions::default(),
-        job.limits,
-        &mut |so_far, done| tell(so_far.found.store.len(), done),
-    );
+    let small = Limits {
+        memory: job.limits.memory.min(SMALL),
+        ..job.limits
+    };
+    let before = Some(by_rules(job, small, &mut progress)).filter(Explored::ends_known);
+    let foretold = before.as_ref().map(Foretold::of);
+    let mut watch = Watch::new(job, foretold.as_ref());
+    let used = before.as_ref().map_or(0, |before| before.found.memory());
+    let left = Limits {
+        memory: job.limits.memory.saturating_sub(used),
+        ..job.limits
+    };
+    let found = engine_search(&job.loaded.table, left, &mut |found, done| {
+        progress.tell(found.halls.len(), usize::try_from(done).unwrap_or(0));
+        watch.look(found, &mut progress, streams)
+    })?;
+    watch.at_odds()?;
+    let answers = watch.answers(&found)?;
+    watch.at_odds()?;
+    let compared = match (&foretold, found.cut) {
+        (_, Some(_)) => false,
+        (Some(foretold), None) => foretold.compare(&found).map(|()| true)?,
+        (None, None) => {
+            watch.look(&found, &mut progress, streams);
+            let behind = by_rules(job, job.limits, &mut progress);
+            let known = behind.ends_known();
+            if known {
+                Foretold::of(&behind).compare(&found)?;
+            }
+            known
+        }
+    };
     drop(progress);
-    let compared = found.cut.is_none() && by_steps.ends_known();
-    if compared {
-        compare(&found, &by_steps)?;
-    }
-    let answers = answers(job, &found)?;
     if job.json {
         writeln!(streams.out, "{}", object(&found, compared, &answers))?;
     } else {
@@ -72,117 +86,12 @@ pub(super) fn by_engine(job: &Job<'_>, args: &Args, streams: &mut Streams<'_>) -
     Ok(exit(compared && all_hold))
 }
 
-/// The engine's steps and the rules have to lead to the same situations and to
-/// the same ends.
-fn compare(found: &EngineFound, by_steps: &Explored) -> Result<(), Failure> {
-    let store = &by_steps.found.store;
-    let situations = u64::try_from(found.situations.len()).unwrap_or(u64::MAX);
-    let foretold = |index: Index| store.find(found.situations.get(index));
-    let known = found
-        .situations
-        .indexes()
-        .all(|index| foretold(index).is_some());
-    let mut ends: Vec<Option<Index>> = found.ends.iter().map(|end| foretold(*end)).collect();
-    ends.sort_unstable();
-    let by_rules = by_steps.found.ends.iter();
-    let mut by_rules: Vec<Option<Index>> = by_rules
-        .map(|end| store.find(&by_steps.model.read_without_notes(&store.get(*end))))
-        .collect();
-    by_rules.sort_unstable();
-    let rounds = by_steps.rounds.as_ref().map(|rounds| &rounds.sorts);
-    let rounds = rounds.into_iter().flatten();
-    let rounds: BTreeSet<Extremes> = rounds.map(|sort| sort.extremes.clone()).collect();
-    let same_rounds = rounds == sorts_of_rounds(&by_steps.model, found);
-    if known && situations == by_steps.found.situations && ends == by_rules && same_rounds {
-        return Ok(());
-    }
-    Err(Failure::Contradiction(format!(
-        "by its own steps the engine comes to {} and {}, by the rules there are {} and {}; rounds \
-         that are never left are {}",
-        counted(situations, "situation"),
-        counted(u64::try_from(ends.len()).unwrap_or(u64::MAX), "end"),
-        counted(by_steps.found.situations, "situation"),
-        counted(u64::try_from(by_rules.len()).unwrap_or(u64::MAX), "end"),
-        if same_rounds { "alike" } else { "others" },
-    )))
-}
-
-/// For each tray the least and the most.
-type Extremes = Vec<(u8, u8)>;
-
-/// What trays have in the rounds that the engine's halls never leave.
-fn sorts_of_rounds(model: &Model, found: &EngineFound) -> BTreeSet<Extremes> {
-    let extremes = |round: &Vec<Index>| {
-        let mut extremes: Extremes = vec![(u8::MAX, 0); model.trays().len()];
-        for situation in round {
-            let (counts, _) = model.split(found.situations.get(*situation));
-            for ((least, most), count) in extremes.iter_mut().zip(counts) {
-                *least = (*least).min(*count);
-                *most = (*most).max(*count);
-            }
-        }
-        extremes
-    };
-    found.rounds.iter().map(extremes).collect()
-}
-
-fn answers(job: &Job<'_>, found: &EngineFound) -> Result<Vec<Answer>, Failure> {
-    let model = Model::of(&job.loaded.table);
-    let is_so = |question: &Question, index: Index| {
-        let (counts, codes) = model.split(found.situations.get(index));
-        question.holds(Glance::of_codes(counts, codes, model.first_noted()))
-    };
-    let mut answers = Vec::new();
-    for question in &job.questions.never {
-        let mut all = found.situations.indexes();
-        let broken = all.find(|index| is_so(question, *index));
-        answers.push(answer(job, found, question, broken)?);
-    }
-    for question in &job.questions.ends {
-        let ends = found.ends.iter().chain(found.rounds.iter().flatten());
-        let broken = ends.copied().filter(|index| !is_so(question, *index)).min();
-        answers.push(answer(job, found, question, broken)?);
-    }
-    for question in &job.questions.possible {
-        // From an end nothing more is reached, from a round its situations.
-        let ends = found.ends.iter().map(std::slice::from_ref);
-        let last = ends.chain(found.rounds.iter().map(Vec::as_slice));
-        let without = last.filter(|set| !set.iter().any(|index| is_so(question, *index)));
-        let broken = without.flatten().copied().min();
-        answers.push(answer(job, found, question, broken)?);
-    }
-    answers.sort_by_key(|answer| answer.place);
-    Ok(answers)
-}
-
-fn answer(
-    job: &Job<'_>,
-    found: &EngineFound,
-    question: &Question,
-    broken: Option<Index>,
-) -> Result<Answer, Failure> {
-    let Loaded { table, program, .. } = job.loaded;
-    let verdict = match broken {
-        Some(situation) => {
-            let hall = match question.asked {
-                Asked::Ends | Asked::Possible => {
-                    found.last_halls.get(&situation).copied().unwrap_or(0)
-                }
-                Asked::Never | Asked::Leads => first_hall(found, situation),
-            };
-            let choices = found.choices_to(table, hall)?;
-            let witness = rehearse(table, program, &Model::of(table), &choices)?;
-            Verdict::Broken(Box::new(witness), Vec::new())
-        }
-        None if found.cut.is_none() => Verdict::Holds,
-        None => Verdict::Open,
-    };
-    Ok(Answer::of(question, verdict))
-}
-
-fn first_hall(found: &EngineFound, situation: Index) -> Index {
-    let place = usize::try_from(situation).unwrap_or(usize::MAX);
-    found.first_hall.get(place).copied().unwrap_or(0)
+/// The situations that the rules lead to.
+fn by_rules(job: &Job<'_>, limits: Limits, progress: &mut Progress) -> Explored {
+    let (table, questions) = (&job.loaded.table, Questions::default());
+    investigate(table, &questions, limits, &mut |so_far, done| {
+        progress.tell(so_far.found.store.len(), done);
+    })
 }
 
 fn object(found: &EngineFound, compared: bool, answers: &[Answer]) -> String {
@@ -251,24 +160,25 @@ fn text(
     for answer in answers {
         lines.extend(answer_lines(answer, style));
     }
+    for question in &job.questions.leads {
+        let words = format!("{}: not asked of the engine's own steps", question.text);
+        lines.extend(wrapped("", &words));
+    }
     let mut text = lines.join("\n");
     text.push('\n');
     text
 }
 
+/// A step of the engine is a choice.
 fn answer_lines(answer: &Answer, style: Style) -> Vec<String> {
-    let question = answer.told();
-    match &answer.verdict {
-        Verdict::Holds => vec![format!("{question}: {}", style.good("holds"))],
-        Verdict::Open => vec![format!("{question}: not known")],
-        Verdict::Broken(witness, _) => {
-            let words: Vec<&str> = witness.words().collect();
-            let mut lines = vec![
-                format!("{question}: {}", style.bad("broken")),
-                "  choices".to_owned(),
-            ];
+    let words = format!("{}: {}", answer.told(), verdict(answer, style));
+    let mut lines = wrapped("", &words);
+    if let Verdict::Broken(witness, _) = &answer.verdict {
+        let words: Vec<&str> = witness.words().collect();
+        if !words.is_empty() {
+            lines.push("  choices".to_owned());
             lines.extend(choice_lines(&words, 4, width()));
-            lines
         }
     }
+    lines
 }

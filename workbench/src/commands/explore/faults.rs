@@ -2,14 +2,12 @@
 //! program then has seen it.
 
 use super::Job;
-use crate::explore::facts::Asked;
+use crate::explore::broken::{nearest, Broken, Maker};
 use crate::explore::question::Question;
-use crate::explore::replay::replay;
-use crate::explore::report::{counted, when};
+use crate::explore::report::{counted, told_early};
 use crate::explore::search::{Questions, SoFar};
-use crate::explore::store::Index;
 use crate::explore::ways_told::Ways;
-use crate::style::{wrapped, Style};
+use crate::style::Style;
 use crate::table::Table;
 use crate::text::tree::Program;
 
@@ -23,7 +21,8 @@ pub(super) struct Faults<'a> {
     program: &'a Program,
     questions: &'a Questions,
     moves: bool,
-    told: Vec<(Asked, usize)>,
+    /// Their places among all.
+    told: Vec<usize>,
 }
 
 impl<'a> Faults<'a> {
@@ -40,57 +39,62 @@ impl<'a> Faults<'a> {
     /// The words for what was found broken since this was last asked. A search
     /// that was cut short does not go on, and tells all of it now.
     pub(super) fn found(&mut self, so_far: SoFar<'_>, style: Style) -> Vec<String> {
-        let found = so_far.found;
+        let SoFar { model, found, .. } = so_far;
         if found.situations < MANY || found.cut.is_some() {
             return Vec::new();
         }
-        let Questions { never, ends, .. } = self.questions;
-        let asked = [
-            (never, &so_far.found.never),
-            (ends, &so_far.found.broken_ends),
-        ];
-        let mut all = Vec::new();
-        for (questions, broken) in asked {
-            for (number, (question, broken)) in questions.iter().zip(broken).enumerate() {
-                let Some(index) = broken else { continue };
-                let asked = (question.asked, number);
-                if !self.told.contains(&asked) {
-                    self.told.push(asked);
-                    all.extend(self.words(so_far, question, *index, style));
-                }
-            }
-        }
-        all
-    }
-
-    /// None where the engine does not go that way, which is told in the end.
-    fn words(
-        &self,
-        so_far: SoFar<'_>,
-        question: &Question,
-        index: Index,
-        style: Style,
-    ) -> Option<String> {
-        let SoFar { model, found } = so_far;
-        let witness = replay(self.table, self.program, model, &found.store, index).ok()?;
-        let mut lines = wrapped(
-            "",
-            &format!(
-                "{}: {} {}, found among {}; the search goes on",
-                question.asked.told(&question.text),
-                style.bad("broken"),
-                when(&witness),
-                counted(found.situations, "situation")
-            ),
-        );
+        let maker = Maker {
+            table: self.table,
+            program: self.program,
+            model,
+            store: &found.store,
+        };
+        let broken = all_broken(self.questions, so_far);
+        let new = broken.filter(|(question, _)| !self.told.contains(&question.place));
+        let new: Vec<(&Question, Broken<'_>)> = new.collect();
         let ways = Ways {
             program: self.program,
             style,
             moves: self.moves,
         };
-        lines.extend(ways.lines(self.table, &witness, 2));
-        Some(lines.join("\n") + "\n\n")
+        // None where the engine does not go that way, which is told in the end.
+        let words = new.iter().filter_map(|(question, broken)| {
+            let answer = maker.answer(question, *broken).ok()?;
+            let among = counted(found.situations, "situation");
+            Some(told_early(&answer, &among, &ways, self.table))
+        });
+        let words = words.collect();
+        self.told
+            .extend(new.iter().map(|(question, _)| question.place));
+        words
     }
+}
+
+/// The questions that are known to be broken, and by what.
+fn all_broken<'a>(
+    questions: &'a Questions,
+    so_far: SoFar<'a>,
+) -> impl Iterator<Item = (&'a Question, Broken<'a>)> {
+    let SoFar {
+        found,
+        rounds,
+        leads,
+        ..
+    } = so_far;
+    let never = questions.never.iter().zip(&found.never);
+    let never = never.map(|(question, at)| (question, at.map(Broken::At)));
+    let ends = found.broken_ends.iter().zip(&rounds.broken);
+    let ends = ends.map(|(end, round)| nearest(*end, *round));
+    let ends = questions.ends.iter().zip(ends);
+    let possible = found.impossible.iter().zip(&rounds.impossible);
+    let possible = possible.map(|(end, round)| end.iter().chain(round).min().copied());
+    let possible = questions.possible.iter().zip(possible);
+    let possible = possible.map(|(question, at)| (question, at.map(Broken::At)));
+    let leads = leads.iter().map(|led| led.as_ref()?.broken.as_ref());
+    let leads = leads.map(|lasso| lasso.map(Broken::By));
+    let all = never.chain(ends).chain(possible);
+    let all = all.chain(questions.leads.iter().zip(leads));
+    all.filter_map(|(question, broken)| Some((question, broken?)))
 }
 
 #[cfg(test)]
@@ -124,7 +128,8 @@ mod tests {
         assert!(found.situations > 10_000 && found.cut == Some(Cut::Memory));
         let told = |found: &Found, faults: &mut Faults<'_>| {
             let model = &model;
-            faults.found(SoFar { model, found }, Style::PLAIN).len()
+            let so_far = SoFar::of(model, found);
+            faults.found(so_far, Style::PLAIN).len()
         };
         let mut faults = Faults {
             table: &table,

@@ -2,6 +2,7 @@
 
 mod by_engine;
 mod by_groups;
+mod engine_watch;
 mod faults;
 mod progress;
 
