@@ -132,7 +132,7 @@ impl Back {
         }
         // Those without lists too, until nothing more is found to reach it.
         loop {
-            while self.to_and_fro() {
+            while self.sweep_lists() {
                 stop_if(met(self.memory()))?;
             }
             let mut left = std::mem::take(&mut self.again);
@@ -185,7 +185,7 @@ impl Back {
     /// Goes through the lists, first from the last one on: then those that lead to
     /// earlier situations are known when they are needed. Whether something new is
     /// known to reach it.
-    fn to_and_fro(&mut self) -> bool {
+    fn sweep_lists(&mut self) -> bool {
         let mut lists = std::mem::take(&mut self.lists);
         let mut any = false;
         let mut leads = false;
