@@ -53,7 +53,7 @@ def files(root):
 
 def is_walk(path):
     """A proof of one function: its words are the generated ones, but for what it imports."""
-    return os.path.basename(path) in ("Proof.antt", "Answers.antt", "Invariants.antt")
+    return re.search(r"/proofs/.+/(Proof|Answers|Invariants)\.antt$", path) is not None
 
 
 def own(module):

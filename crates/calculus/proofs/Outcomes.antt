@@ -16,6 +16,7 @@ use Rattle.calculus.specs.Checks.Table3.{InnerStep, step, Steps}
 use Rattle.calculus.specs.Checks.Table2.{Outcome, leaves, Outcomes}
 use Rattle.calculus.proofs.States.{same_self, same_other, same_name, grown, without_added, none_occurs, one_occurs, two_occur}
 use Rattle.calculus.proofs.Reductions.{adding_is_out}
+use Rattle.calculus.proofs.Steps.{end_stays, retry_stays}
 
 module _ (Order : List Name → List Name → Type 0) where
   -- ---- laws
@@ -35,7 +36,7 @@ module _ (Order : List Name → List Name → Type 0) where
 
   no_outcome : (P : Process) (σ : State) → ((l : Label) (P' : Process) (σ' : State) → Reduces Order l P σ P' σ' → ⊥) →
       Outcomes Order P σ []
-  no_outcome P σ none l P' σ' = (λ d. absurd (none l P' σ' d), λ m. absurd (mathlib.Core.List.Memᴰ.not_nil m))
+  no_outcome P σ none l P' σ' = (λ d. absurd (none l P' σ' d), λ m. absurd (mathlib.Core.List.Memᴰ.not-nil m))
 
   -- nil is what no rule has on its left
   abbrev NotNil : Process → Type 0
@@ -149,7 +150,7 @@ module _ (Order : List Name → List Name → Type 0) where
       where
         only : (l : Label) (P' : Process) (σ' : State) → Reduces Order l (ongoing (running retry τ δ) M) σ P' σ' →
             leaves l P' σ' ≡ leaves (by ATRE) (atom M) σ
-        only l P' σ' (ATPASS d) = absurd (elim d [ ])
+        only l P' σ' (ATPASS {r = r} {A' = A'} d) = absurd (retry_stays τ δ r A' d)
         only l P' σ' ATREr = refl
 
     pub fails : ¬ Included (RD δ) σ → Outcomes Order (ongoing (running end τ δ) M) σ (leaves (by ATFAIL) (atom M) σ ∷ [])
@@ -157,7 +158,7 @@ module _ (Order : List Name → List Name → Type 0) where
       where
         only : (l : Label) (P' : Process) (σ' : State) → Reduces Order l (ongoing (running end τ δ) M) σ P' σ' →
             leaves l P' σ' ≡ leaves (by ATFAIL) (atom M) σ
-        only l P' σ' (ATPASS d) = absurd (elim d [ ])
+        only l P' σ' (ATPASS {r = r} {A' = A'} d) = absurd (end_stays τ δ r A' d)
         only l P' σ' (ATFAILr h) = refl
         only l P' σ' (ATOKr i o) = absurd (n i)
 
@@ -171,7 +172,7 @@ module _ (Order : List Name → List Name → Type 0) where
       where
         only : (l : Label) (P' : Process) (σ' : State) → Reduces Order l (ongoing (running end τ δ) M) σ P' σ' →
             Memᴰ (leaves l P' σ') (map committed bss)
-        only l P' σ' (ATPASS d) = absurd (elim d [ ])
+        only l P' σ' (ATPASS {r = r} {A' = A'} d) = absurd (end_stays τ δ r A' d)
         only l P' σ' (ATFAILr h) = absurd (h i)
         only l P' σ' (ATOKr {bs = bs} h o) = mathlib.Core.List.Memᴰ.map committed ((orders bs).0 o)
 
@@ -244,7 +245,7 @@ module _ (Order : List Name → List Name → Type 0) where
     none_handed ps cs does none = hands joined P Q σ ps cs does (λ a k P' Q' σ' m e. absurd (none a P' σ' m))
 
     pub still_hands : (cs : List Outcome) → Outcomes Order P σ [] → Hands joined P Q σ cs
-    still_hands cs does = none_handed [] cs does (λ a P' σ' m. mathlib.Core.List.Memᴰ.not_nil m)
+    still_hands cs does = none_handed [] cs does (λ a P' σ' m. mathlib.Core.List.Memᴰ.not-nil m)
 
     pub other_hands : (l : Label) (P₁ : Process) (σ₁ : State) (cs : List Outcome) → Outcomes Order P σ (leaves l P₁ σ₁ ∷ []) →
         ((a : Name) → by (OUT a) ≡ l → ⊥) → Hands joined P Q σ cs
@@ -290,7 +291,7 @@ module _ (Order : List Name → List Name → Type 0) where
   -- ---- beside nil
 
   pub none_made : (P : Process) (σ : State) (o : Outcome) → Memᴰ o [] → Does P σ o
-  none_made P σ o m = absurd (mathlib.Core.List.Memᴰ.not_nil m)
+  none_made P σ o m = absurd (mathlib.Core.List.Memᴰ.not-nil m)
 
   pub behind_nil : (Q : Process) (σ : State) (qs : List Outcome) → Outcomes Order Q σ qs →
       Outcomes Order (par nil Q) σ (map (beside_right nil) qs ++ [])
@@ -335,6 +336,7 @@ two_orders a c bs = (λ h. either (two_occur a c bs (λ b. let z = h b in omega 
     back : (bs : List Name) → Memᴰ bs ((a ∷ c ∷ []) ∷ (c ∷ a ∷ []) ∷ []) → AnyOrder (a ∷ c ∷ []) bs
     back bs (mathlib.Core.List.Memᴰ.head e) = rw e (λ b. refl)
     back bs (mathlib.Core.List.Memᴰ.tail (mathlib.Core.List.Memᴰ.head e)) = rw e (λ b. omega arith)
+    back bs (mathlib.Core.List.Memᴰ.tail (mathlib.Core.List.Memᴰ.tail m)) = elim m [ ]
 
 -- of two names of which one stands there twice there are three
 pub three_orders : (a c : Name) (bs : List Name) →
@@ -367,3 +369,4 @@ three_orders a c bs = (λ h. only bs h, λ m. back bs m)
     back bs (mathlib.Core.List.Memᴰ.head e) = rw e (λ b. refl)
     back bs (mathlib.Core.List.Memᴰ.tail (mathlib.Core.List.Memᴰ.head e)) = rw e (λ b. omega arith)
     back bs (mathlib.Core.List.Memᴰ.tail (mathlib.Core.List.Memᴰ.tail (mathlib.Core.List.Memᴰ.head e))) = rw e (λ b. omega arith)
+    back bs (mathlib.Core.List.Memᴰ.tail (mathlib.Core.List.Memᴰ.tail (mathlib.Core.List.Memᴰ.tail m))) = elim m [ ]

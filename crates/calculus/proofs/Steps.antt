@@ -25,7 +25,7 @@ one_step_holds : (A : Ongoing) (s : InnerStep) → Makes A s → ((k : ℕ) (r :
 one_step_holds A s made only k r A' = (λ d. Memᴰ.head (only k r A' d.0 d.1), λ m. told A (step k r A') s made (Memᴰ.eq_of_singleton m))
 
 no_step : (A : Ongoing) → ((r : Rule) (A' : Ongoing) → Evolves r A A' → ⊥) → Steps A []
-no_step A none k r A' = (λ d. absurd (none r A' d.0), λ m. absurd (Memᴰ.not_nil m))
+no_step A none k r A' = (λ d. absurd (none r A' d.0), λ m. absurd (Memᴰ.not-nil m))
 
 module _ (σ : State) (δ : Log) where
   pub read_there : (a : Name) (M : Expr) → Included (RD (δ ++ (rd a ∷ []))) σ →
@@ -66,11 +66,17 @@ module _ (σ : State) (δ : Log) where
           step k r A' ≡ step 0 AOI (or_else' (running M σ δ) (running N σ δ))
       only k r A' aoi e = cc
 
+  pub end_stays : (r : Rule) (A' : Ongoing) → Evolves r (running end σ δ) A' → ⊥
+  end_stays r A' d = elim d [ ]
+
+  pub retry_stays : (r : Rule) (A' : Ongoing) → Evolves r (running retry σ δ) A' → ⊥
+  retry_stays r A' d = elim d [ ]
+
   pub end_steps : Steps (running end σ δ) []
-  end_steps = no_step (running end σ δ) (λ r A' d. absurd (elim d [ ]))
+  end_steps = no_step (running end σ δ) end_stays
 
   pub retry_steps : Steps (running retry σ δ) []
-  retry_steps = no_step (running retry σ δ) (λ r A' d. absurd (elim d [ ]))
+  retry_steps = no_step (running retry σ δ) retry_stays
 
 -- the step of a fork that its left side decides
 abbrev pub decided : Ongoing → Ongoing → List InnerStep
@@ -93,9 +99,9 @@ unfolding node_of
 decides (running end σ δ) B s m =
     told (or_else' (running end σ δ) B) s (step 0 AOE (running end σ δ)) (aoe, refl) (Memᴰ.eq_of_singleton m)
 decides (running retry σ δ) B s m = told (or_else' (running retry σ δ) B) s (step 0 AOF B) (aof, refl) (Memᴰ.eq_of_singleton m)
-decides (running (prefix α M) σ δ) B s m = absurd (Memᴰ.not_nil m)
-decides (running (or_else M N) σ δ) B s m = absurd (Memᴰ.not_nil m)
-decides (or_else' C D) B s m = absurd (Memᴰ.not_nil m)
+decides (running (prefix α M) σ δ) B s m = absurd (Memᴰ.not-nil m)
+decides (running (or_else M N) σ δ) B s m = absurd (Memᴰ.not-nil m)
+decides (or_else' C D) B s m = absurd (Memᴰ.not-nil m)
 
 pub fork_steps : (A B : Ongoing) (ss ts : List InnerStep) → Steps A ss → Steps B ts →
     Steps (or_else' A B) (decided A B ++ (map (in_left B) ss ++ map (in_right A) ts))

@@ -7,47 +7,47 @@ use Rattle.semantics.specs.Definitions.Run.{schedule, entries, entry_bytes}
 use Rattle.semantics.specs.Definitions.Suggestion.{SuggestAnswer, suggested, still, not_suggested}
 use Rattle.semantics.specs.Checks.Answers.{VerdictReported, OpeningReported, SuggestionReported, ChoiceReported, AnswersReported, SuggestValues, choice_value, still_value, refusal_value, suggest_values, AnswersDiffer}
 
-verdict-reported : VerdictReported
+verdict_reported : VerdictReported
 unfolding VerdictReported
-verdict-reported n p = (refl, refl, refl, refl)
+verdict_reported n p = (refl, refl, refl, refl)
 
-opening-reported : OpeningReported
+opening_reported : OpeningReported
 unfolding OpeningReported
-opening-reported c n p = (refl, refl)
+opening_reported c n p = (refl, refl)
 
-suggestion-reported : SuggestionReported
+suggestion_reported : SuggestionReported
 unfolding SuggestionReported
-suggestion-reported n p k = (refl, refl, refl, refl)
+suggestion_reported n p k = (refl, refl, refl, refl)
 
-choice-reported : ChoiceReported
+choice_reported : ChoiceReported
 unfolding ChoiceReported
-choice-reported r w h n = (refl, refl)
+choice_reported r w h n = (refl, refl)
 
-pub answers-reported : AnswersReported
+pub answers_reported : AnswersReported
 unfolding AnswersReported
-answers-reported = (verdict-reported, opening-reported, suggestion-reported, choice-reported)
+answers_reported = (verdict_reported, opening_reported, suggestion_reported, choice_reported)
 
 -- ---- the values of an answer
 
 -- the answer is read back from its values: a choice is the one that its bytes make as a schedule
-firstOfAll : List Entry → SuggestAnswer
-firstOfAll [] = still
-firstOfAll (e ∷ es) = suggested e
+first_of_all : List Entry → SuggestAnswer
+first_of_all [] = still
+first_of_all (e ∷ es) = suggested e
 
-answerWith : SuggestValues → SuggestAnswer
-unfolding firstOfAll entries schedule
-answerWith (choice_value bs) = firstOfAll (entries (schedule bs))
-answerWith still_value = still
-answerWith (refusal_value n p) = not_suggested n p
+answer_with : SuggestValues → SuggestAnswer
+unfolding first_of_all entries schedule
+answer_with (choice_value bs) = first_of_all (entries (schedule bs))
+answer_with still_value = still
+answer_with (refusal_value n p) = not_suggested n p
 
-answer_back : (a : SuggestAnswer) → answerWith (suggest_values a) ≡ a
-unfolding answerWith suggest_values firstOfAll entries schedule entry_bytes
+answer_back : (a : SuggestAnswer) → answer_with (suggest_values a) ≡ a
+unfolding answer_with suggest_values first_of_all entries schedule entry_bytes
 answer_back (suggested (act p)) = refl
 answer_back (suggested (inside p k)) = refl
 answer_back still = refl
 answer_back (not_suggested n p) = refl
 
 -- so different answers have different values
-pub answers-differ : AnswersDiffer
+pub answers_differ : AnswersDiffer
 unfolding AnswersDiffer
-answers-differ a b e = sym (answer_back a) ∙ ap answerWith e ∙ answer_back b
+answers_differ a b e = sym (answer_back a) ∙ ap answer_with e ∙ answer_back b

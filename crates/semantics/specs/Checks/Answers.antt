@@ -23,28 +23,28 @@ OpeningReported = (c : Counters) (n p : ℕ) → (open_verdict (opened c) ≡ ok
 
 -- what each case of a suggestion says: the bytes of a choice, nothing, or a number with its place
 pub data SuggestValues : Type 0 where
-  choiceValue : (bytes : List ℕ) → SuggestValues
-  stillValue : SuggestValues
-  refusalValue : (number place : ℕ) → SuggestValues
+  choice_value : (bytes : List ℕ) → SuggestValues
+  still_value : SuggestValues
+  refusal_value : (number place : ℕ) → SuggestValues
 
-unfoldable pub suggestValues : SuggestAnswer → SuggestValues
+unfoldable pub suggest_values : SuggestAnswer → SuggestValues
 unfolding entry_bytes
-suggestValues (suggested e) = choiceValue (entry_bytes e)
-suggestValues still = stillValue
-suggestValues (not_suggested n p) = refusalValue n p
+suggest_values (suggested e) = choice_value (entry_bytes e)
+suggest_values still = still_value
+suggest_values (not_suggested n p) = refusal_value n p
 
 -- written out: the bytes of a choice are those of kind 1 or 2
 unfoldable pub SuggestionReported : Type 0
-unfolding suggestValues
+unfolding suggest_values
 SuggestionReported =
-    (n p k : ℕ) → (suggestValues (suggested (act p)) ≡ choiceValue (1 ∷ p ∷ [])) ×
-    (suggestValues (suggested (inside p k)) ≡ choiceValue (2 ∷ p ∷ k ∷ [])) ×
-    (suggestValues still ≡ stillValue) × (suggestValues (not_suggested n p) ≡ refusalValue n p)
+    (n p k : ℕ) → (suggest_values (suggested (act p)) ≡ choice_value (1 ∷ p ∷ [])) ×
+    (suggest_values (suggested (inside p k)) ≡ choice_value (2 ∷ p ∷ k ∷ [])) ×
+    (suggest_values still ≡ still_value) × (suggest_values (not_suggested n p) ≡ refusal_value n p)
 
 -- different answers have different values
 unfoldable pub AnswersDiffer : Type 0
-unfolding suggestValues
-AnswersDiffer = (a b : SuggestAnswer) → suggestValues a ≡ suggestValues b → a ≡ b
+unfolding suggest_values
+AnswersDiffer = (a b : SuggestAnswer) → suggest_values a ≡ suggest_values b → a ≡ b
 
 -- a choice: the number of the rule done and what was short, or the number of the refusal
 unfoldable pub ChoiceReported : Type 0

@@ -4,7 +4,7 @@
 -- Assumes nothing.
 use Rattle.std.specs.Prelude.{ℕ, suc, ◌≡◌, Bool, cond, ◌||◌, List, [], ◌∷◌, map, drop, leb, eqb}
 use Rattle.std.proofs.Math.Option
-use Rattle.std.proofs.Math.Option.{Option·elim, bind}
+use Rattle.std.proofs.Math.Option.{Option-elim, bind}
 use Rattle.std.proofs.Math.ListN.{get_elem?}
 use Rattle.calculus.specs.Syntax.{Name, State}
 use Rattle.calculus.specs.State.{occurrences}
@@ -68,9 +68,9 @@ gained_since i done = flatten (map (λ r. (effect_of r).added) (drop (suc i) don
 -- the attempt that an entry belongs to: the number in the note at its position. Without a note there its own number:
 -- it opens an attempt, or it is an OUT, an IN or a REP and no other choice has that number.
 unfoldable pub attempt_of : Numbered → Entry → ℕ
-unfolding bind Option·elim
-attempt_of a (act p) = Option·elim (bind (get_elem? a.run.stations p) (λ x. x.note)) a.next (λ m. m.begun)
-attempt_of a (inside p k) = Option·elim (bind (get_elem? a.run.stations p) (λ x. x.note)) a.next (λ m. m.begun)
+unfolding bind Option-elim
+attempt_of a (act p) = Option-elim (bind (get_elem? a.run.stations p) (λ x. x.note)) a.next (λ m. m.begun)
+attempt_of a (inside p k) = Option-elim (bind (get_elem? a.run.stations p) (λ x. x.note)) a.next (λ m. m.begun)
 
 -- a step with the attempt that it belongs to
 pub record Member : Type 0 where

@@ -6,7 +6,7 @@
 -- Assumes nothing.
 use Rattle.std.specs.Prelude.{ℕ, suc, ltb}
 use Rattle.std.proofs.Math.Bool.{cond}
-use Rattle.std.proofs.Math.Option.{Option, none, some, Option·elim}
+use Rattle.std.proofs.Math.Option.{Option, none, some, Option-elim}
 use mathlib.Core.List.{List, [], ◌∷◌, ◌++◌, map}
 use Rattle.std.proofs.Math.ListN.{get_elem?}
 use Rattle.calculus.specs.Syntax.{Log, State}
@@ -87,8 +87,8 @@ module _ {N : Type 0} (counts_of : N → State) (note_of : State → N) where
 
   -- an entry done; kind 2 changes nothing
   unfoldable pub atomic_step : Atomic N → Entry → Atomic N
-  unfolding step_component Option·elim
-  atomic_step s (act p) = Option·elim (get_elem? s.stations p) s (λ x. step_component s p x.station x.note)
+  unfolding step_component Option-elim
+  atomic_step s (act p) = Option-elim (get_elem? s.stations p) s (λ x. step_component s p x.station x.note)
   atomic_step s (inside p k) = s
 
 -- the one-step run of document 01 over the choices done: a note is the counts and nothing else

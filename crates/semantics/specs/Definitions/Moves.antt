@@ -12,7 +12,7 @@
 -- Of a node `inside_answer` makes no_rule 17 and out_of_range 16. A step's reply may have 1 to 12 too (Checks/Steps.stepReply).
 -- Assumes nothing.
 use Rattle.std.specs.Prelude.{ℕ, zero, suc, ◌-◌, Bool, true, false, cond, List, [], ◌∷◌, ◌++◌, map, length, leb, ltb, eqb}
-use Rattle.std.proofs.Math.Option.{Option, none, some, Option·elim}
+use Rattle.std.proofs.Math.Option.{Option, none, some, Option-elim}
 use Rattle.std.proofs.Math.ListN.{get_elem?}
 use Rattle.calculus.specs.Syntax.{Name, rd, wt, Log, State}
 use Rattle.calculus.specs.State.{count, without}
@@ -126,8 +126,8 @@ put_back_move t k out_of_range = out_of_range
 
 -- node k in preorder, if there is one, makes its move, and what it becomes is put back in its place
 unfoldable pub move_at : State → Tree → ℕ → NodeAnswer
-unfolding at_node put_back_move preorder Option·elim
-move_at s t k = Option·elim (get_elem? (preorder t) k) out_of_range (λ u. put_back_move t k (at_node s u))
+unfolding at_node put_back_move preorder Option-elim
+move_at s t k = Option-elim (get_elem? (preorder t) k) out_of_range (λ u. put_back_move t k (at_node s u))
 
 -- refusal 16 past the last node; refusal 17 where the node has nothing to do
 unfoldable pub inside_answer : State → ℕ → Expression → State → NodeAnswer → ComponentAnswer
