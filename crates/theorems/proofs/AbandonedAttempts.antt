@@ -415,6 +415,21 @@ open_more k L (tries i n M s u ∷ ws) closed opens_all_holds =
     let same_there : occurrences i (k ∷ L) ≡ occurrences i L = omega arith in
     (rw same_there opens_all_holds.0, open_more k L ws (omega arith) opens_all_holds.1)
 
+-- a step that adds nothing to what is left out
+fits_with : (L L' : List ℕ) (m : Member) (ms : List Member) (ws : List Live) → L' ≡ L → Fits L m → All (Fits L) ms →
+    All (Open L) ws → All (Fits L') (m ∷ ms) × All (Open L') ws
+fits_with L L' m ms ws e one fits opens =
+    subst (λ K. All (Fits K) (m ∷ ms) × All (Open K) ws) (sym e) ((one, fits), opens)
+
+none_added : (m : Member) (ms : List Member) → aborts m.step.rule ≡ false → aborted (m ∷ ms) ≡ aborted ms
+unfolding aborted passing
+none_added m ms e = rw e refl
+
+one_added : (m : Member) (ms : List Member) → aborts m.step.rule ≡ true →
+    aborted (m ∷ ms) ≡ m.attempt ∷ aborted ms
+unfolding aborted passing
+one_added m ms e = rw e refl
+
 -- the abandoned attempts fit the steps, and none of them is open at the end
 abandoned_fits : {j : ℕ} {h g : Configuration} {zs ws : List Live} {ms : List Member} → Trace j h zs ms g ws →
     Numbers j zs →
@@ -444,25 +459,20 @@ abandoned_fits {j} {zs = zs} {ws = ws} (next {h = h} {f = f} {ms = ms} e r w z l
     go : Kind r laid → All (Fits (aborted ms)) ms × All (Open (aborted ms)) ws →
         All (Fits (aborted (m ∷ ms))) (m ∷ ms) × All (Open (aborted (m ∷ ms))) ws
     go (effective acts spares empty) (fits, opens_all_holds) =
-        rw spares (
-          (
-            (λ x. absurd (true≢false (sym x)), λ x. eq-eqb (occurrences a (aborted ms)) 0 (absent_abandoned a ms (closed empty).0)),
-            fits,
-          ),
-          opens_all_holds,
-        )
+        fits_with (aborted ms) (aborted (m ∷ ms)) m ms ws (none_added m ms spares) (
+          λ x. absurd (true≢false (sym x ∙ spares)),
+          λ x. eq-eqb (occurrences a (aborted ms)) 0 (absent_abandoned a ms (closed empty).0),
+        ) fits opens_all_holds
     go (abandoning quiet ends empty) (fits, opens_all_holds) =
         let c = closed empty in
         let one = same_self a in
-        rw ends (
-          (
-            (λ x. ne_eqb (occurrences a (a ∷ aborted ms)) 0 (λ n. omega arith), λ x. absurd (true≢false (sym x ∙ quiet))),
-            fits_more a (aborted ms) ms c.0 fits,
-          ),
-          open_more a (aborted ms) ws c.1 opens_all_holds,
-        )
+        fits_with (a ∷ aborted ms) (aborted (m ∷ ms)) m ms ws (one_added m ms ends) (
+          λ x. ne_eqb (occurrences a (a ∷ aborted ms)) 0 (λ n. omega arith),
+          λ x. absurd (true≢false (sym x ∙ quiet)),
+        ) (fits_more a (aborted ms) ms c.0 fits) (open_more a (aborted ms) ws c.1 opens_all_holds)
     go (inward quiet spares) (fits, opens_all_holds) =
-        rw spares (((λ x. absurd (true≢false (sym x)), λ x. absurd (true≢false (sym x ∙ quiet))), fits), opens_all_holds)
+        fits_with (aborted ms) (aborted (m ∷ ms)) m ms ws (none_added m ms spares)
+        (λ x. absurd (true≢false (sym x ∙ spares)), λ x. absurd (true≢false (sym x ∙ quiet))) fits opens_all_holds
 
 -- ---- from the opening
 

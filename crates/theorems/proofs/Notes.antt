@@ -1,13 +1,13 @@
 -- No station of a one-step run has a note but a block, and each note has a count for each tray.
 -- Assumes nothing.
-use Prim.Native.Nat.{ℕ}
+use Prim.Native.Nat.{ℕ, ◌-◌}
 use mathlib.Core.Path.{◌≡◌, refl, ◌∙◌}
 use mathlib.Core.Bool.{Bool, true, false, cond}
 use mathlib.Core.Option.{Option, none, some, Option-elim}
 use mathlib.Core.List.{List, [], ◌∷◌, ◌++◌, map}
 use lib.ListN.{length, get_elem?, set, length-set}
 use Rattle.calculus.specs.Syntax.{Name, Log, State}
-use Rattle.calculus.specs.State.{without}
+use Rattle.calculus.specs.State.{count, without}
 use Rattle.calculus.specs.Log.{RD, WT}
 use Rattle.semantics.specs.Definitions.Basics.{All, replace_at}
 use Rattle.semantics.specs.Definitions.Terms.{Expression}
@@ -31,7 +31,7 @@ Sound s = (length s.counts ≡ 16) × BlocksAlone s
 without_length : (σ : State) (bs : List Name) → length (without σ bs) ≡ length σ
 unfolding without
 without_length σ [] = refl
-without_length σ (b ∷ bs) = without_length _ bs ∙ simp length-set refl
+without_length σ (b ∷ bs) = without_length (set σ b (count σ b - 1)) bs ∙ simp length-set refl
 
 add_length : (σ : State) (a : Name) → length (add_token σ a) ≡ length σ
 unfolding add_token
