@@ -22,7 +22,7 @@ use Rattle.answers.specs.declared.sentences.SentenceAnswer.{SentenceAnswer}
 use Rattle.answers.specs.declared.sentences.SentenceAnswer.TheVariants as sentence
 use Rattle.answers.specs.Answers.{shortage_of, reply_of, verdict_of, hall_verdict_of, open_answer_of, buffers_of, run_call_of, RunCaseDecided, step_call_of, StepCaseDecided, entry_of, suggest_answer_of, sentence_answer_of}
 use Rattle.answers.specs.Claims.{ShortagesDiffer, RepliesDiffer, VerdictInjective, HallVerdictInjective, OpeningInjective, RunAnswerInjective, StepInjective, SuggestionInjective, SentenceCallInjective}
-use Rattle.answers.proofs.Counters.{counters_injective}
+use Rattle.answers.proofs.CounterLaws.{counters_injective}
 
 -- ---- the reply to a choice
 

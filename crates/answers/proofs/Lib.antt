@@ -1,4 +1,4 @@
-pub mod Counters
+pub mod CounterLaws
 pub mod Cases
 pub mod TurnCases
 pub mod SentenceBytes

@@ -9,7 +9,7 @@ pub const KIND_ACT: u8 = 1;
 pub const KIND_INSIDE: u8 = 2;
 
 // An entry (choice): to act at a position, or to move inside the transaction at a position, at a node.
-#[derive(Drop)]
+#[derive(Clone, Copy)]
 pub enum Entry {
     Act { position: u8 },
     Inside { position: u8, node: u8 },

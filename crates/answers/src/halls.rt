@@ -3,7 +3,7 @@ ghost use Rattle.answers.specs.Answers.{hall_verdict_of};
 ghost use Rattle.answers.specs.Answered.{VerdictAnswered};
 
 // Whether a hall is well formed for a table; where not, the refusal's number and place.
-#[derive(Drop)]
+#[derive(Clone, Copy)]
 pub enum HallVerdict {
     WellFormed,
     Refused { number: u8, place: usize },

@@ -6,6 +6,8 @@
 //
 // The numbers of the rules and of the refusals stand here. The rules are those of the calculus, numbered as document 01
 // numbers them: 1 to 3 pass tokens, 4 to 7 begin and end a transaction (attempt), 8 to 13 move inside one.
+#![tactic(auto)]
+
 mod choices;
 mod halls;
 mod openings;

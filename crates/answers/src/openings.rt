@@ -6,7 +6,7 @@ ghost use Rattle.answers.specs.Answered.{VerdictAnswered};
 use crate::tallies::Counters;
 
 // The fresh counters, or the number and the place of the refusal.
-#[derive(Drop)]
+#[derive(Clone, Copy)]
 pub enum OpenAnswer {
     Opened(Counters),
     Refused { number: u8, place: usize },

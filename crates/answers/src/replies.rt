@@ -4,7 +4,7 @@ ghost use Rattle.answers.specs.Answers.{shortage_of};
 ghost use Rattle.answers.specs.Answered.{shortage_words, tells_short};
 
 // What the test of reads against counts found: enough, or the lowest channel (tray) that is short, and by how many.
-#[derive(Drop)]
+#[derive(Clone, Copy)]
 pub enum Shortage {
     Enough,
     Short { channel: u8, by: u8 },
@@ -12,7 +12,7 @@ pub enum Shortage {
 
 // Moved by the rule of this number, with what its test found short (a rule that makes none tells enough); or refused with
 // this number.
-#[derive(Drop)]
+#[derive(Clone, Copy)]
 pub enum Reply {
     Moved(u8, Shortage),
     Refused(u8),

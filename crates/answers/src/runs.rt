@@ -7,7 +7,7 @@ use crate::tallies::{Counters, tally_words};
 
 // The answer of a run: where it stopped, how many entries were done, and the counters after them. A run that is refused
 // has the refusal's number, and the place of the entry that was refused.
-#[derive(Drop)]
+#[derive(Clone, Copy)]
 pub enum RunAnswer {
     Completed {
         place: usize,
@@ -23,7 +23,7 @@ pub enum RunAnswer {
 }
 
 // The same as numbers: number 0 stands for a run that was completed.
-#[derive(Drop)]
+#[derive(Clone, Copy)]
 pub struct RunAsNumbers {
     pub number: u8,
     pub place: usize,

@@ -2,7 +2,7 @@
 ghost use Rattle.answers.specs.Answered.{SentenceTold};
 
 // How many bytes it wrote, or the refusal.
-#[derive(Drop)]
+#[derive(Clone, Copy)]
 pub enum SentenceAnswer {
     Told { length: usize },
     Refused { number: u8, place: usize },

@@ -6,7 +6,7 @@ use crate::tallies::{Counters, tally_words};
 
 // The rule by which a choice moved and what it was short of, the place behind it and the counters after it; or the
 // refusal's number and place, where the counters stay as they were.
-#[derive(Drop)]
+#[derive(Clone, Copy)]
 pub enum StepAnswer {
     Moved {
         rule: u8,

@@ -5,7 +5,7 @@ ghost use Rattle.answers.specs.Answered.{SuggestionAnswered};
 use crate::choices::{Entry, choice_words};
 
 // The choice that is suggested; that none is accepted (document 01's still); or the refusal's number and place.
-#[derive(Drop)]
+#[derive(Clone, Copy)]
 pub enum SuggestAnswer {
     Suggested(Entry),
     Still,

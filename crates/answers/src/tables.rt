@@ -3,7 +3,7 @@ ghost use Rattle.answers.specs.Answers.{verdict_of};
 ghost use Rattle.answers.specs.Answered.{VerdictAnswered};
 
 // Whether a table is accepted; where not, the refusal's number and place.
-#[derive(Drop)]
+#[derive(Clone, Copy)]
 pub enum TableVerdict {
     Accepted,
     Refused { number: u8, place: usize },

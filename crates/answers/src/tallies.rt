@@ -9,7 +9,7 @@ use crate::{ATFAIL, ATOK, ATRE};
 // A counter that has come here stays.
 pub const COUNTER_TOP: u32 = 4294967295;
 
-#[derive(Drop)]
+#[derive(Clone, Copy)]
 pub struct Counters {
     pub commits: u32,
     pub failed: u32,

@@ -3,7 +3,7 @@ ghost use Rattle.answers.specs.Answered.{TurnTold};
 
 // The component (station) that the turn lays down, in its two bytes, or that it lays down none, each with how many terms
 // are then left to open; that there is no such turn; or the refusal's number and place.
-#[derive(Drop)]
+#[derive(Clone, Copy)]
 pub enum TurnAnswer {
     Component { kind: u8, body: u8, left: usize },
     Nothing { left: usize },

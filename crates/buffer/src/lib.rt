@@ -2,6 +2,8 @@
 // longer or shorter. A station or a node that gives way to another does so by one `splice`; counts, and what rules 8 to
 // 10 change in a leaf, are stored in place. No slice is copied whole. Plain loops over bytes, which the compiler makes
 // wide; what moves within a slice goes by way of a chunk, so that it can do so there too.
+#![tactic(auto)]
+
 ghost use Rattle.std.specs.Prelude.{◌≡◌, [], ◌+◌, ◌-◌, ◌≤◌, ◌<◌, length, get_or, drop, replicate};
 ghost use Rattle.buffer.specs.Splice.{written, spliced, chunk, CanShift};
 

@@ -1,1 +1,2 @@
 // No code: the definitions of the calculus stand in specs/.
+#![tactic(auto)]

@@ -1,5 +1,7 @@
 // What every call on a table and a stored hall tests first: the table, then the hall's length, then its form. What an
 // admitted hall is held by is lent: the decoded table, and the index of where each component begins.
+#![tactic(auto)]
+
 ghost use Rattle.std.specs.Prelude.{◌≡◌, ◌≤◌, length, replicate};
 ghost use Rattle.semantics.specs.Definitions.Layout.{max_terms};
 ghost use Rattle.semantics.specs.Definitions.Calls.{admission};
@@ -14,7 +16,7 @@ use table_read::ReadAnswer;
 use table_terms::DECODED;
 
 // How many components an admitted hall has; or the refusal's number and place.
-#[derive(Drop)]
+#[derive(Clone, Copy)]
 pub enum Admission {
     Admitted { components: usize },
     Refused { number: u8, place: usize },

@@ -1,4 +1,6 @@
 // The call that checks a stored hall.
+#![tactic(auto)]
+
 ghost use Rattle.std.specs.Prelude.{◌≡◌};
 ghost use Rattle.semantics.specs.Definitions.Calls.{check_hall};
 ghost use Rattle.semantics.specs.Promises.{Promised, OnHalls};

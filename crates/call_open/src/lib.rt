@@ -1,4 +1,6 @@
 // The call that opens a table in a lent hall.
+#![tactic(auto)]
+
 ghost use Rattle.std.specs.Prelude.{◌≡◌};
 ghost use Rattle.semantics.specs.Definitions.Calls.{open_hall};
 ghost use Rattle.semantics.specs.Promises.{Promised, OnOpenings};

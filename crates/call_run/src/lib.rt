@@ -1,4 +1,6 @@
 // The call that runs a schedule (document 01's list of choices) on a stored hall.
+#![tactic(auto)]
+
 ghost use Rattle.std.specs.Prelude.{◌≡◌};
 ghost use Rattle.semantics.specs.Definitions.Calls.{run_call};
 ghost use Rattle.semantics.specs.Promises.{Promised, OnRuns, Demands};

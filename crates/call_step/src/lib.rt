@@ -1,4 +1,6 @@
 // The call that makes one choice on a stored hall.
+#![tactic(auto)]
+
 ghost use Rattle.std.specs.Prelude.{◌≡◌, length};
 ghost use Rattle.semantics.specs.Definitions.Calls.{step_call};
 ghost use Rattle.semantics.specs.Promises.{Promised, OnSteps};

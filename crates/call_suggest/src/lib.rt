@@ -1,4 +1,6 @@
 // The call that suggests a choice on a stored hall.
+#![tactic(auto)]
+
 ghost use Rattle.std.specs.Prelude.{◌≡◌};
 ghost use Rattle.semantics.specs.Definitions.Suggestion.{suggest_call};
 ghost use Rattle.semantics.specs.Promises.{Promised, OnSuggestions};

@@ -1,4 +1,6 @@
 // The call that shows a turn of a table's opening, for whoever steps through it.
+#![tactic(auto)]
+
 ghost use Rattle.std.specs.Prelude.{◌≡◌};
 ghost use Rattle.semantics.specs.Definitions.Turns.{turn_call};
 ghost use Rattle.semantics.specs.Promises.{Promised, OnTurns};

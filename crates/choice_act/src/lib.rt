@@ -1,6 +1,8 @@
 // Entries of kind 1 (to act): rules 1 to 7, at a position, looked at or made.
 //
 // Both go by what stands at the position (`occupants`), and by the same tests.
+#![tactic(auto)]
+
 mod occupants;
 
 ghost use Rattle.semantics.specs.Definitions.Moves.{act};
@@ -16,7 +18,7 @@ use occupants::{Occupant, occupant_at};
 use table_terms::DECODED;
 
 // What an entry was answered, and how many components (stations) there are now.
-#[derive(Drop)]
+#[derive(Clone, Copy)]
 pub struct EntryResult {
     pub reply: Reply,
     pub components: usize,

@@ -8,7 +8,7 @@ use table_records::ATOM;
 use table_terms::DECODED;
 
 // What stands at a position, by what it does when it acts.
-#[derive(Drop)]
+#[derive(Clone, Copy)]
 pub enum Occupant {
     // No component has this position.
     Nothing,

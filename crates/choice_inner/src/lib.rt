@@ -1,5 +1,7 @@
 // Entries of kind 2 (to move inside a transaction): rules 8 to 13, at a position and a node. Looked at, or made: both go by
 // what stands at the node, and by the same tests.
+#![tactic(auto)]
+
 ghost use Rattle.semantics.specs.Definitions.Moves.{inside};
 ghost use Rattle.hall_held.specs.Holds.{Running};
 ghost use Rattle.hall_held.specs.Choices.{EntryLooked, EntryMade};
@@ -11,7 +13,7 @@ use hall_layout::{IDLE_SIZE, INDEX_SIZE, KIND_TRANSACTION, NodeStart, TRANSACTIO
 use table_terms::DECODED;
 
 // Where the node that an entry names begins; or the entry's refusal, where there is no such node.
-#[derive(Drop)]
+#[derive(Clone, Copy)]
 pub enum NodeLookup {
     Found { at: usize },
     Refused(u8),

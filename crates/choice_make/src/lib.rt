@@ -2,6 +2,8 @@
 //
 // A look only reads and answers by which rule an entry would move, and what is short; steps look. What is made answers the
 // same. Both go by what stands at the position (`choice_act`) or at the node (`choice_inner`), and by the same tests.
+#![tactic(auto)]
+
 ghost use Rattle.hall_held.specs.Holds.{Running};
 ghost use Rattle.hall_held.specs.Choices.{EntryLooked, EntryMade};
 ghost use Rattle.answers.specs.Answers.{entry_of};

@@ -1,4 +1,6 @@
 // The entry (choice) whose bytes begin at an offset of a schedule (document 01's list of choices).
+#![tactic(auto)]
+
 ghost use Rattle.choice_read.specs.Entries.{ParsedEntryIs};
 
 use answers::{CUT_SHORT, Entry, KIND_ACT, KIND_INSIDE, UNKNOWN_KIND};
@@ -9,7 +11,7 @@ pub const ACT_SIZE: usize = 2;
 pub const INSIDE_SIZE: usize = 3;
 
 // What stands at an offset of a schedule: an entry with the offset behind it, what is refused, or nothing any more.
-#[derive(Drop)]
+#[derive(Clone, Copy)]
 pub enum ParsedEntry {
     Entry { entry: Entry, next: usize },
     Malformed(u8),

@@ -21,7 +21,7 @@ use Rattle.answers.specs.declared.replies.Reply.{Reply}
 use Rattle.answers.specs.declared.replies.Reply.TheVariants as reply
 use Rattle.answers.specs.declared.tallies.Counters as code
 use Rattle.answers.specs.Answers.{counters_of, counted_by, entry_of}
-use Rattle.answers.proofs.Counters.{counted_by_holds}
+use Rattle.answers.proofs.CounterLaws.{counted_by_holds}
 use Rattle.hall_held.specs.Holds.{Holds, Running}
 use Rattle.hall_held.specs.Choices.{EntryMade}
 use Rattle.hall_held.proofs.Holds.{hall_length}

@@ -1,5 +1,7 @@
 // The run of a schedule (document 01's list of choices) on a configuration (hall) that is held: entry after entry, up to
 // the end or to the first that is refused.
+#![tactic(auto)]
+
 ghost use Rattle.std.specs.Prelude.{◌≡◌};
 ghost use Rattle.answers.specs.Answers.{counters_of};
 ghost use Rattle.hall_held.specs.Holds.{Running};

@@ -1,5 +1,7 @@
 // A suggestion: the first entry that is accepted, at the lowest position, there at the lowest node (document 02, Q-2).
 // Kind 1 and kind 2 are never both accepted at one position, so it does not matter which is looked at first.
+#![tactic(auto)]
+
 ghost use Rattle.std.specs.Prelude.{◌<◌};
 ghost use Rattle.hall_held.specs.Holds.{Running};
 ghost use Rattle.choice_suggest.specs.Suggestions.{FirstFound, FirstFoundInside, FirstFoundAt};
@@ -12,7 +14,7 @@ use hall_layout::{INDEX_SIZE, KIND_TRANSACTION, MAX_NODES};
 use table_terms::DECODED;
 
 // The first entry that is accepted, or that none is (document 01's still: quiescent).
-#[derive(Drop)]
+#[derive(Clone, Copy)]
 pub enum Suggestion {
     Accepted(Entry),
     Still,

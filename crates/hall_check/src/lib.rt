@@ -3,6 +3,8 @@
 //
 // The bytes are read once, in place, and may be anything: each scan says how far it came, or that the bytes are
 // malformed. A full hall has no byte behind its last component.
+#![tactic(auto)]
+
 ghost use Rattle.std.specs.Prelude.{◌≡◌, ◌≤◌, ◌<◌, length, drop};
 ghost use Rattle.semantics.specs.Definitions.Layout.{max_terms};
 ghost use Rattle.semantics.specs.Definitions.Basics.{zeros};
@@ -20,14 +22,14 @@ use table_records::{ATOM, REPEATED_TAKE, TAKE};
 use table_terms::{DECODED, MAX_BRANCHES, larger};
 
 // The offset behind what was scanned, where it is in order.
-#[derive(Drop)]
+#[derive(Clone, Copy)]
 pub enum Scan {
     Next(usize),
     Malformed,
 }
 
 // How many bytes a well-formed hall uses, and how many components it has.
-#[derive(Drop)]
+#[derive(Clone, Copy)]
 pub enum HallScan {
     WellFormed { used: usize, components: usize },
     Malformed,

@@ -4,6 +4,8 @@
 // Positions are looked up and never searched for. Each replacement is one splice of the bytes and one pass over the
 // entries behind; where one component stands in the place and keeps its size, neither the bytes behind it nor the index
 // are touched.
+#![tactic(auto)]
+
 ghost use Rattle.std.specs.Prelude.{◌+◌, ◌≤◌, get_or};
 ghost use Rattle.hall_layout.specs.Layout.{index_size};
 ghost use Rattle.hall_held.specs.Starts.{StartsSet, moved, spaced, CanMoveStarts, CanSpaceStarts, CanRenumber, Renumbered};

@@ -3,6 +3,8 @@
 // Every number of the stored form stands here, each under one name: the channels are those of `records`, and what
 // follows from a limit of a table is made from the number that `terms` has for it. The walk only reads, and takes any
 // bytes: what lies past their end counts as a leaf.
+#![tactic(auto)]
+
 ghost use Rattle.std.specs.Prelude.{◌≡◌, ◌≤◌, ◌<◌, length};
 ghost use Rattle.hall_layout.specs.Nodes.{node_size, pending_behind, passed, node_start, tree_end};
 
@@ -69,7 +71,7 @@ pub const INDEX_SIZE: usize = MAX_COMPONENTS + 1;
 pub const MAX_NODES: u8 = 2 * MAX_BRANCHES - 1;
 
 // An offset, where there is one.
-#[derive(Drop)]
+#[derive(Clone, Copy)]
 pub enum NodeStart {
     At(usize),
     Nowhere,
@@ -77,7 +79,7 @@ pub enum NodeStart {
 
 // How far a walk came over a tree's nodes: the offset, how many subtrees are still to come there, and how many nodes
 // were still to be passed.
-#[derive(Drop)]
+#[derive(Clone, Copy)]
 pub struct Walk {
     pub at: usize,
     pub pending: usize,

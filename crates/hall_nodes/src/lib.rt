@@ -2,6 +2,8 @@
 // leaf that a decoded table allows.
 //
 // The bytes may be anything. No expression is walked: the measures of each term stand in the decoded table.
+#![tactic(auto)]
+
 ghost use Rattle.std.specs.Prelude.{◌≡◌, ◌+◌, ◌≤◌, length, take, drop};
 ghost use Rattle.semantics.specs.Definitions.Layout.{max_terms};
 ghost use Rattle.hall_layout.specs.Layout.{log_size, leaf_size};
@@ -20,14 +22,14 @@ use table_terms::{DECODED, larger};
 const ZEROS: u8 = 2 * LOG_SIZE as u8;
 
 // The measures of what remains at a leaf.
-#[derive(Drop)]
+#[derive(Clone, Copy)]
 pub enum Remaining {
     Measured { branches: u8, length: u8 },
     Unknown,
 }
 
 // A node, with the branches that remain at it itself: a fork has none, a leaf those of its term.
-#[derive(Drop)]
+#[derive(Clone, Copy)]
 pub enum NodeTest {
     Branches(u8),
     Malformed,

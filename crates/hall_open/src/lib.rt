@@ -1,6 +1,8 @@
 // What a process of a decoded table opens into: its components (stations) written and counted, turn by turn. And opening
 // a table in a lent hall (document 01, "The stored hall"): the counts, the components of the start term, and zeros to
 // the end.
+#![tactic(auto)]
+
 mod components;
 mod turns;
 

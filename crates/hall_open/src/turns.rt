@@ -19,7 +19,7 @@ pub const STACK: usize = MAX_COMPONENTS;
 // How far an opening is: how many terms wait on the stack, the number of the next one and of the one after it, and the
 // offset behind what is laid down. The two numbers stand on the stack as well; but many turns would wait for what the one
 // before has just stored there.
-#[derive(Drop)]
+#[derive(Clone, Copy)]
 pub struct Progress {
     pub waiting: usize,
     pub next: usize,

@@ -2,6 +2,8 @@
 //
 // A block begins whenever it waits. Its transaction (attempt) ends at a single leaf: a retry leaf gives the block back;
 // at an end leaf the log is held against the hall's own counts, by the one test of reads against counts.
+#![tactic(auto)]
+
 mod begins;
 mod ends;
 

@@ -3,6 +3,8 @@
 // `rule_at` only reads and tells the rule with what is short; `move_at` makes the move. Both go by the redex at the node, which redexes
 // decides, and try a read against the transaction's snapshot by one test, in reads. The rules of one kind stand in a
 // file of their own: reads (ARDOK or ARDF), actions (what ARDOK and AWR store), alternatives (AOI, AOF, AOE).
+#![tactic(auto)]
+
 mod actions;
 mod alternatives;
 mod reads;

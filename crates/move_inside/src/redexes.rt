@@ -10,7 +10,7 @@ use table_terms::DECODED;
 
 // What a leaf's expression begins with, or how a fork's left side is done. A fork moves by its left side alone. Nothing
 // moves at an end leaf, at a retry leaf, and at a fork whose left side is not done.
-#[derive(Drop)]
+#[derive(Clone, Copy)]
 pub enum Redex {
     Read { channel: u8 },
     Write { channel: u8 },

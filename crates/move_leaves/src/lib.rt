@@ -1,5 +1,7 @@
 // The expressions at the leaves of an open transaction (attempt): their kinds, read from a hall's bytes and a decoded
 // table.
+#![tactic(auto)]
+
 ghost use Rattle.move_leaves.specs.Leaves.{CanReadKind, ExpressionKindRead, CanReadNode, LeafKindRead};
 
 use buffer::wide;

@@ -5,6 +5,8 @@
 // (`shortage_with`), whatever the counts are: the hall's own or a snapshot. It takes the reads one by one from a copy of
 // the counts (`suffice`), and only where these do not suffice looks for the lowest channel that is short
 // (`lowest_lacking`). A stored log is read where it stands, at an offset of a hall's bytes.
+#![tactic(auto)]
+
 ghost use Rattle.std.specs.Prelude.{◌≡◌, true, [], ◌∷◌, ◌++◌, ◌+◌, ◌≤◌, ◌<◌, length, take, drop};
 ghost use Rattle.semantics.specs.Definitions.Layout.{max_byte, channels, max_actions};
 ghost use Rattle.semantics.specs.Definitions.Logs.{empty_log};
@@ -21,14 +23,14 @@ use hall_layout::{CHANNELS, IDLE_SIZE, KIND_OUTPUT, LOG_SIZE, WRITE_OFFSET};
 const OUTPUTS_SIZE: usize = IDLE_SIZE * LOG_SIZE;
 
 // A log: how many actions it has, and a byte for each of them, with zeros behind.
-#[derive(Drop)]
+#[derive(Clone, Copy)]
 pub struct Log {
     pub length: u8,
     pub actions: [u8; LOG_SIZE],
 }
 
 // The components (stations) that the writes of a log become, as bytes with zeros behind, and how many they are.
-#[derive(Drop)]
+#[derive(Clone, Copy)]
 pub struct Outputs {
     pub bytes: [u8; OUTPUTS_SIZE],
     pub count: usize,

@@ -1,4 +1,6 @@
 // Numbers in decimal, written into bytes.
+#![tactic(auto)]
+
 ghost use Rattle.std.specs.Prelude.{◌≡◌, [], ◌∷◌, nat_abs, ◌+◌, ◌≤◌, ◌<◌, length};
 ghost use Rattle.semantics.specs.Definitions.Run.{net as Run·net};
 ghost use Rattle.semantics.specs.Definitions.Report.{decimal, signed};

@@ -1,5 +1,7 @@
 // The lines of a printed run (document 01, "The printed run"), written into bytes: a letter, numbers behind a space
 // each, and a newline. Each function answers the offset behind what it has written.
+#![tactic(auto)]
+
 ghost use Rattle.std.specs.Prelude.{◌+◌, ◌≤◌, length};
 ghost use Rattle.print_decimals.specs.Wrote.{Wrote};
 ghost use Rattle.print_lines.specs.Lines.{words_of, number_line, net_word, channel_head};

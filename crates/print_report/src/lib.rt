@@ -1,5 +1,7 @@
 // The printed run (document 01, "The printed run"): from the bytes of an input, a table and the choices behind it, to
 // the bytes of its text.
+#![tactic(auto)]
+
 mod printing;
 mod tables;
 

@@ -1,5 +1,7 @@
 // The sections of a printed run (document 01, "The printed run"): the line of the run, of its counters, those of the
 // channels (trays), those of the components (stations).
+#![tactic(auto)]
+
 mod channels;
 mod components;
 mod totals;

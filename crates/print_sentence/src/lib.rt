@@ -1,4 +1,6 @@
 // A choice and its answer as one English sentence (document 02, Q-1 and Q-3), written into lent bytes.
+#![tactic(auto)]
+
 mod texts;
 mod words;
 

@@ -7,6 +7,8 @@
 // name and below it the printed run of the bytes. Where `/` cuts the bytes in three they are a table, a stored hall and
 // choices, and the answers of the calls on a stored hall are printed (calls.rt); a fourth part is the tally that these
 // begin with, four bytes a counter, the highest first. A line without a colon is a heading.
+#![tactic(auto)]
+
 mod calls;
 
 use buffer::{byte_at, wide};
@@ -35,7 +37,7 @@ const CHOICES: u8 = 3;
 const TALLY: u8 = 4;
 
 // A line as far as it is read.
-#[derive(Drop)]
+#[derive(Clone, Copy)]
 struct EdgeLine {
     part: u8,
     // The number being read, and whether there is one.

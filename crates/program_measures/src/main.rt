@@ -9,6 +9,8 @@
 // by another program.
 //
 // The tables are written a record to a line.
+#![tactic(auto)]
+
 ghost use Rattle.table_terms.specs.TermMeasures.{CanMeasure};
 ghost use Rattle.table_read.specs.RecordTests.{DecodedSoFar};
 

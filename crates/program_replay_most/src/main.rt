@@ -1,5 +1,7 @@
 // The program `replay`, on the longest input that is run: the 16,384 bytes of its file `stdin` are a table and 8,175
 // choices, and all of them are done. What `stdout` has was printed by the second implementation.
+#![tactic(auto)]
+
 fn main() {
     program_stdin::replay();
 }

@@ -4,6 +4,8 @@
 // All that matters is in the crate report. The input may arrive in pieces. No more than one byte past the longest input
 // that is run is read: that byte tells that the input is longer. No contract says what a program reads and writes, so
 // what the three print is held to stored files: a short input, the longest that is run, and one byte more.
+#![tactic(auto)]
+
 use libc::{STDIN_FILENO, STDOUT_FILENO};
 use print_report::{MAX_INPUT, OUTPUT};
 

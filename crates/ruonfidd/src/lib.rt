@@ -9,6 +9,8 @@
 // stay as they were.
 //
 // Each export makes its call and has the crate `answers` tell what it answered.
+#![tactic(auto)]
+
 ghost use Rattle.std.specs.Prelude.{◌≡◌, ◌≤◌};
 ghost use Rattle.semantics.specs.Definitions.Run.{fresh_counters};
 ghost use Rattle.semantics.specs.Definitions.Calls.{check_table, check_hall, open_hall, run_call, step_call};

@@ -1,4 +1,6 @@
 // Reading a rule table: record by record, the tests in number order, the terms decoded on the way.
+#![tactic(auto)]
+
 ghost use Rattle.std.specs.Prelude.{◌≡◌, ◌<◌, length, replicate};
 ghost use Rattle.semantics.specs.Definitions.Layout.{channels};
 ghost use Rattle.semantics.specs.Definitions.Table.{tokens_record, bad_tokens, read_table};
@@ -23,7 +25,7 @@ use table_records::{
 use table_terms::{DECODED, TERMS};
 
 // The answer on a table.
-#[derive(Drop)]
+#[derive(Clone, Copy)]
 pub enum ReadAnswer {
     // How many terms it has, and the number of its start.
     Accepted { terms: usize, start: u8 },
@@ -31,7 +33,7 @@ pub enum ReadAnswer {
 }
 
 // What a record leads to.
-#[derive(Drop)]
+#[derive(Clone, Copy)]
 pub enum AfterRecord {
     // The offset behind it, and how many terms there are now.
     More { at: usize, terms: usize },

@@ -1,5 +1,7 @@
 // The records of a rule table: their kinds, the class and the fields of each kind, the record at an offset, the reader
 // that draws it, and the tests on one field that need no earlier term.
+#![tactic(auto)]
+
 mod reader;
 
 ghost use Rattle.std.specs.Prelude.{◌≡◌, List, length};
@@ -59,7 +61,7 @@ pub const COUNT: u8 = 4;
 pub const NO_CLASS: u8 = 0;
 
 // The class of a kind's records, and their first and second field.
-#[derive(Drop)]
+#[derive(Clone, Copy)]
 pub struct Shape(pub u8, pub u8, pub u8);
 
 // What the records of a kind are, in a line for each. A body has a byte for each field: lengths of bodies, classes and
@@ -95,7 +97,7 @@ pub fn class_of(kind: u8) -> u8
 
 // A record: its kind, the two bytes behind the kind (0 past the table's end), which are its body where that has as
 // many, and the offset behind it.
-#[derive(Drop)]
+#[derive(Clone, Copy)]
 pub struct Record {
     pub kind: u8,
     pub first: u8,
@@ -104,7 +106,7 @@ pub struct Record {
 }
 
 // What stands at an offset of a table's bytes.
-#[derive(Drop)]
+#[derive(Clone, Copy)]
 pub enum ParsedRecord {
     // No byte is left.
     End,

@@ -9,7 +9,7 @@ use crate::{ParsedRecord, record_at};
 const FIRST_RECORD: usize = 0;
 
 // The table that was lent, and where in it the next record begins.
-#[derive(Drop)]
+#[derive(Clone, Copy)]
 pub struct Reader<'a> {
     table: &'a [u8],
     at: usize,

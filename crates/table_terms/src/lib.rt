@@ -4,6 +4,8 @@
 // field, and its measures, breadth and length. A process's breadth is its width and its length is 0; an expression's
 // breadth is its branches. The array belongs to the caller, who lends it; whoever reads a table fills it, a term at a
 // time.
+#![tactic(auto)]
+
 ghost use Rattle.std.specs.Prelude.{◌≡◌, ◌+◌, ◌<◌, max, length, get_or, set};
 ghost use Rattle.table_terms.specs.Decoded.{channels, max_terms, decoded_bytes, kind_at, first_at, second_at, breadth_at, length_at, with_record, with_measures};
 ghost use Rattle.table_terms.specs.TermMeasures.{breadth_in, length_in, CanMeasure, MeasuresOf, LimitTested};
@@ -38,7 +40,7 @@ const BREADTH: usize = 3;
 const LENGTH: usize = 4;
 
 // A term's measures.
-#[derive(Drop)]
+#[derive(Clone, Copy)]
 pub struct Measures {
     pub breadth: u8,
     pub length: u8,
