@@ -11,7 +11,7 @@
 //                               suggesting then; kind 0 where nothing is suggested
 //
 // A missing byte of the first choice counts as 0, and so does one of the tally that step and run begin with.
-ghost use Rattle.std.specs.Prelude.{◌≤◌, ◌<◌};
+ghost use Rattle.std.specs.Prelude.{◌≤◌, ◌<◌, length};
 
 use crate::BYTES;
 use answers::{
@@ -19,78 +19,90 @@ use answers::{
     StepAnswer, SuggestAnswer,
 };
 use buffer::{byte_at, wide, write_at};
-use libc::STDOUT_FILENO;
+use std::io;
+use std::io::Write;
 
-fn print_field(n: usize) {
-    io::write_all(STDOUT_FILENO, b" ");
-    io::print_decimal(STDOUT_FILENO, n as u64);
+fn print_field(out: &mut impl Write, n: usize) -> io::Result<()> {
+    write!(out, " {n}")
 }
 
-fn end_line() {
-    io::write_all(STDOUT_FILENO, b"\n");
+fn end_line(out: &mut impl Write) -> io::Result<()> {
+    out.write_all(b"\n")
 }
 
 // A letter and two or three numbers.
-fn print_two(letter: u8, a: usize, b: usize) {
-    let one = [letter];
-    io::write_all(STDOUT_FILENO, &one);
-    print_field(a);
-    print_field(b);
-    end_line();
+fn print_two(out: &mut impl Write, letter: u8, a: usize, b: usize) -> io::Result<()> {
+    out.write_all(&[letter])?;
+    print_field(out, a)?;
+    print_field(out, b)?;
+    end_line(out)
 }
 
-fn print_three(letter: u8, a: usize, b: usize, c: usize) {
-    let one = [letter];
-    io::write_all(STDOUT_FILENO, &one);
-    print_field(a);
-    print_field(b);
-    print_field(c);
-    end_line();
+fn print_three(out: &mut impl Write, letter: u8, a: usize, b: usize, c: usize) -> io::Result<()> {
+    out.write_all(&[letter])?;
+    print_field(out, a)?;
+    print_field(out, b)?;
+    print_field(out, c)?;
+    end_line(out)
 }
 
 // A letter, a number, a place and three bytes, what is not said being 0.
-fn print_five(letter: u8, number: u8, place: usize, a: u8, b: u8, c: u8) {
-    let one = [letter];
-    io::write_all(STDOUT_FILENO, &one);
-    print_field(wide(number));
-    print_field(place);
-    print_field(wide(a));
-    print_field(wide(b));
-    print_field(wide(c));
-    end_line();
+fn print_five(
+    out: &mut impl Write,
+    letter: u8,
+    number: u8,
+    place: usize,
+    a: u8,
+    b: u8,
+    c: u8,
+) -> io::Result<()> {
+    out.write_all(&[letter])?;
+    print_field(out, wide(number))?;
+    print_field(out, place)?;
+    print_field(out, wide(a))?;
+    print_field(out, wide(b))?;
+    print_field(out, wide(c))?;
+    end_line(out)
 }
 
-fn print_counters(counters: Counters) {
+fn print_counters(out: &mut impl Write, counters: Counters) -> io::Result<()> {
     print_three(
+        out,
         b'C',
         counters.commits as usize,
         counters.failed as usize,
         counters.retries as usize,
-    );
+    )
 }
 
-fn print_check(table: &[u8], hall: &[u8]) {
+fn print_check(out: &mut impl Write, table: &[u8], hall: &[u8]) -> io::Result<()> {
     match call_check::check_hall(table, hall) {
-        HallVerdict::WellFormed => print_two(b'H', 0, 0),
-        HallVerdict::Refused { number, place } => print_two(b'H', wide(number), place),
+        HallVerdict::WellFormed => print_two(out, b'H', 0, 0),
+        HallVerdict::Refused { number, place } => print_two(out, b'H', wide(number), place),
     }
 }
 
-fn print_opening(table: &[u8], hall: &mut [u8]) {
+fn print_opening(out: &mut impl Write, table: &[u8], hall: &mut [u8]) -> io::Result<()> {
     match call_open::open_hall(table, hall) {
-        OpenAnswer::Opened(_) => print_two(b'O', 0, 0),
-        OpenAnswer::Refused { number, place } => print_two(b'O', wide(number), place),
+        OpenAnswer::Opened(_) => print_two(out, b'O', 0, 0),
+        OpenAnswer::Refused { number, place } => print_two(out, b'O', wide(number), place),
     }
 }
 
-fn print_moved(rule: u8, shortage: Shortage, place: usize) {
+fn print_moved(out: &mut impl Write, rule: u8, shortage: Shortage, place: usize) -> io::Result<()> {
     match shortage {
-        Shortage::Enough => print_five(b'M', 0, place, rule, 0, 0),
-        Shortage::Short { channel, by } => print_five(b'M', 0, place, rule, channel, by),
+        Shortage::Enough => print_five(out, b'M', 0, place, rule, 0, 0),
+        Shortage::Short { channel, by } => print_five(out, b'M', 0, place, rule, channel, by),
     }
 }
 
-fn print_step(table: &[u8], hall: &mut [u8], choices: &[u8], first: Counters) {
+fn print_step(
+    out: &mut impl Write,
+    table: &[u8],
+    hall: &mut [u8],
+    choices: &[u8],
+    first: Counters,
+) -> io::Result<()> {
     let kind = byte_at(choices, 0);
     let position = byte_at(choices, 1);
     let node = byte_at(choices, 2);
@@ -100,13 +112,15 @@ fn print_step(table: &[u8], hall: &mut [u8], choices: &[u8], first: Counters) {
             shortage,
             place,
             counters: _,
-        } => print_moved(rule, shortage, place),
-        StepAnswer::Refused { number, place } => print_five(b'M', number, place, 0, 0, 0),
+        } => print_moved(out, rule, shortage, place),
+        StepAnswer::Refused { number, place } => print_five(out, b'M', number, place, 0, 0, 0),
     }
 }
 
 // The bytes up to the last that is not 0.
-fn used(hall: &[u8]) -> usize {
+fn used(hall: &[u8]) -> usize
+    ensures { result ≤ length hall.now }
+{
     let mut n = hall.len();
     while 0 < n {
         if byte_at(hall, n - 1) != 0 {
@@ -117,41 +131,46 @@ fn used(hall: &[u8]) -> usize {
     0
 }
 
-fn print_bytes(hall: &[u8]) {
-    io::write_all(STDOUT_FILENO, b"B");
-    let n = used(hall);
-    let mut i: usize = 0;
-    while i < n {
-        print_field(wide(byte_at(hall, i)));
-        i += 1;
+fn print_bytes(out: &mut impl Write, hall: &[u8]) -> io::Result<()> {
+    out.write_all(b"B")?;
+    for byte in &hall[..used(hall)] {
+        print_field(out, wide(*byte))?;
     }
-    end_line();
+    end_line(out)
 }
 
-fn print_entry(entry: Entry) {
+fn print_entry(out: &mut impl Write, entry: Entry) -> io::Result<()> {
     match entry {
-        Entry::Act { position } => print_five(b'S', 0, 0, KIND_ACT, position, 0),
-        Entry::Inside { position, node } => print_five(b'S', 0, 0, KIND_INSIDE, position, node),
+        Entry::Act { position } => print_five(out, b'S', 0, 0, KIND_ACT, position, 0),
+        Entry::Inside { position, node } => {
+            print_five(out, b'S', 0, 0, KIND_INSIDE, position, node)
+        }
     }
 }
 
-fn print_suggestion(table: &[u8], hall: &[u8]) {
+fn print_suggestion(out: &mut impl Write, table: &[u8], hall: &[u8]) -> io::Result<()> {
     match call_suggest::suggest(table, hall) {
-        SuggestAnswer::Suggested(entry) => print_entry(entry),
-        SuggestAnswer::Still => print_five(b'S', 0, 0, 0, 0, 0),
-        SuggestAnswer::Refused { number, place } => print_five(b'S', number, place, 0, 0, 0),
+        SuggestAnswer::Suggested(entry) => print_entry(out, entry),
+        SuggestAnswer::Still => print_five(out, b'S', 0, 0, 0, 0, 0),
+        SuggestAnswer::Refused { number, place } => print_five(out, b'S', number, place, 0, 0, 0),
     }
 }
 
-fn print_run(table: &[u8], hall: &mut [u8], choices: &[u8], first: Counters) {
+fn print_run(
+    out: &mut impl Write,
+    table: &[u8],
+    hall: &mut [u8],
+    choices: &[u8],
+    first: Counters,
+) -> io::Result<()> {
     match call_run::run(table, hall, choices, first) {
         RunAnswer::Completed {
             place,
             done,
             counters,
         } => {
-            print_three(b'R', 0, place, done);
-            print_counters(counters);
+            print_three(out, b'R', 0, place, done)?;
+            print_counters(out, counters)?;
         }
         RunAnswer::Refused {
             number,
@@ -159,12 +178,12 @@ fn print_run(table: &[u8], hall: &mut [u8], choices: &[u8], first: Counters) {
             done,
             counters,
         } => {
-            print_three(b'R', wide(number), place, done);
-            print_counters(counters);
+            print_three(out, b'R', wide(number), place, done)?;
+            print_counters(out, counters)?;
         }
     }
-    print_bytes(hall);
-    print_suggestion(table, hall);
+    print_bytes(out, hall)?;
+    print_suggestion(out, table, hall)
 }
 
 // The calls that write to the hall.
@@ -175,17 +194,24 @@ const STEP: u8 = 1;
 const RUN: u8 = 2;
 
 // One of them, on a copy of the hall.
-fn print_call(call: u8, table: &[u8], hall: &[u8], choices: &[u8], first: Counters) {
+fn print_call(
+    out: &mut impl Write,
+    call: u8,
+    table: &[u8],
+    hall: &[u8],
+    choices: &[u8],
+    first: Counters,
+) -> io::Result<()> {
     let mut copy = [0u8; BYTES];
     let n = hall.len();
     if BYTES < n {
-        return;
+        return Ok(());
     }
     write_at(&mut copy, 0, hall);
     match call {
-        OPENING => print_opening(table, &mut copy[..n]),
-        STEP => print_step(table, &mut copy[..n], choices, first),
-        _ => print_run(table, &mut copy[..n], choices, first),
+        OPENING => print_opening(out, table, &mut copy[..n]),
+        STEP => print_step(out, table, &mut copy[..n], choices, first),
+        _ => print_run(out, table, &mut copy[..n], choices, first),
     }
 }
 
@@ -206,14 +232,20 @@ fn counter_at(tally: &[u8], at: usize) -> u32
 }
 
 // All answers.
-pub fn print_calls(table: &[u8], hall: &[u8], choices: &[u8], tally: &[u8]) {
+pub fn print_calls(
+    out: &mut impl Write,
+    table: &[u8],
+    hall: &[u8],
+    choices: &[u8],
+    tally: &[u8],
+) -> io::Result<()> {
     let first = Counters {
         commits: counter_at(tally, 0),
         failed: counter_at(tally, 4),
         retries: counter_at(tally, 8),
     };
-    print_check(table, hall);
-    print_call(OPENING, table, hall, choices, first);
-    print_call(STEP, table, hall, choices, first);
-    print_call(RUN, table, hall, choices, first);
+    print_check(out, table, hall)?;
+    print_call(out, OPENING, table, hall, choices, first)?;
+    print_call(out, STEP, table, hall, choices, first)?;
+    print_call(out, RUN, table, hall, choices, first)
 }

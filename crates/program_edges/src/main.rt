@@ -12,11 +12,12 @@
 mod calls;
 
 use buffer::{byte_at, wide};
-use libc::{STDIN_FILENO, STDOUT_FILENO};
 use print_report::OUTPUT;
+use std::io;
+use std::io::{BufWriter, Input, Read, Write};
 
 // No list is longer.
-const TEXT: usize = 65536;
+const TEXT: u64 = 65536;
 
 // No line has more bytes.
 pub const BYTES: usize = 16400;
@@ -67,9 +68,8 @@ fn fresh() -> EdgeLine {
     }
 }
 
-fn print_byte(c: u8) {
-    let one = [c];
-    io::write_all(STDOUT_FILENO, &one);
+fn print_byte(out: &mut impl Write, c: u8) -> io::Result<()> {
+    out.write_all(&[c])
 }
 
 // A byte more, where there is room.
@@ -172,92 +172,97 @@ fn whole(line: EdgeLine, bytes: &mut [u8; BYTES]) -> EdgeLine {
     next
 }
 
-fn print_text(text: &[u8; OUTPUT], length: usize) {
-    let mut i: usize = 0;
-    while i < length {
-        print_byte(byte_at(text, i));
-        i += 1;
+fn print_text(out: &mut impl Write, text: &[u8; OUTPUT], length: usize) -> io::Result<()> {
+    for i in 0..length {
+        print_byte(out, byte_at(text, i))?;
     }
+    Ok(())
 }
 
-fn print_report(input: &[u8]) {
+fn print_report(out: &mut impl Write, input: &[u8]) -> io::Result<()> {
     let mut output = [0u8; OUTPUT];
     let length = print_report::report(input, &mut output);
-    print_text(&output, length);
+    print_text(out, &output, length)
 }
 
-fn print_answers(line: EdgeLine, bytes: &[u8]) {
+fn print_answers(out: &mut impl Write, line: EdgeLine, bytes: &[u8]) -> io::Result<()> {
     let hall = line.hall;
     let choices = line.choices;
     let tally = line.tally;
     let length = line.length;
     if bytes.len() < length {
-        return;
+        return Ok(());
     }
     if line.part == INPUT {
-        print_report(&bytes[..length]);
-        return;
+        return print_report(out, &bytes[..length]);
     }
     if choices < hall {
-        return;
+        return Ok(());
     }
     if tally < choices {
-        return;
+        return Ok(());
     }
     if length < tally {
-        return;
+        return Ok(());
     }
     calls::print_calls(
+        out,
         &bytes[..hall],
         &bytes[hall..choices],
         &bytes[choices..tally],
         &bytes[tally..length],
-    );
+    )
 }
 
 // One character of a name.
-fn take_name(line: EdgeLine, c: u8) -> EdgeLine {
+fn take_name(out: &mut impl Write, line: EdgeLine, c: u8) -> io::Result<EdgeLine> {
     let mut next = line;
     if c == b':' {
         next.part = INPUT;
-        print_byte(b'\n');
-        return next;
+        print_byte(out, b'\n')?;
+        return Ok(next);
     }
-    print_byte(c);
-    next
+    print_byte(out, c)?;
+    Ok(next)
 }
 
 // One character of the list.
-fn take(line: EdgeLine, c: u8, bytes: &mut [u8; BYTES]) -> EdgeLine {
+fn take(
+    out: &mut impl Write,
+    line: EdgeLine,
+    c: u8,
+    bytes: &mut [u8; BYTES],
+) -> io::Result<EdgeLine> {
     if line.part == NAME {
-        return take_name(line, c);
+        return take_name(out, line, c);
     }
-    match c {
+    Ok(match c {
         b'0'..=b'9' => digit(line, c),
         b'x' => times(line),
         b',' => end_number(line, bytes),
         b' ' => end_word(line, bytes),
         b'/' => next_part(line, bytes),
         b'\n' => {
-            print_answers(whole(line, bytes), bytes);
+            print_answers(out, whole(line, bytes), bytes)?;
             fresh()
         }
         _ => line,
-    }
+    })
 }
 
-fn run_list(text: &[u8]) {
+fn run_list(out: &mut impl Write, text: &[u8]) -> io::Result<()> {
     let mut bytes = [0u8; BYTES];
     let mut line = fresh();
-    let mut i: usize = 0;
-    while i < text.len() {
-        line = take(line, text[i], &mut bytes);
-        i += 1;
+    for c in text {
+        line = take(out, line, *c, &mut bytes)?;
     }
+    Ok(())
 }
 
-fn main() {
-    let mut text = [0u8; TEXT];
-    let n = io::read_full(STDIN_FILENO, &mut text);
-    run_list(&text[..n]);
+fn main(rt: HostRuntime) -> io::Result<()> {
+    let mut text = Vec::new(rt.alloc());
+    rt.reader().take(TEXT).read_to_end(&mut text)?;
+    let mut out = BufWriter::new(rt.alloc(), io::writer(&rt))?;
+    run_list(&mut out, &text)?;
+    out.flush()
 }

@@ -14,6 +14,7 @@
 ghost use Rattle.table_terms.specs.TermMeasures.{CanMeasure};
 ghost use Rattle.table_read.specs.RecordTests.{DecodedSoFar};
 
+use std::io;
 use table_read::ReadAnswer;
 use table_terms::{DECODED, Measures};
 
@@ -144,76 +145,65 @@ const SHARED: [u8; 64] = *b"\
     ";
 
 // A space and a number.
-fn print_field(n: u64) {
-    io::write_all(1, b" ");
-    io::print_decimal(1, n);
+fn print_field(rt: &impl Print, n: u64) -> io::Result<()> {
+    print!(rt; " {n}")
 }
 
-fn print_count(terms: usize) {
-    io::write_all(1, b"N");
-    print_field(terms as u64);
-    io::write_all(1, b"\n");
+fn print_count(rt: &impl Print, terms: usize) -> io::Result<()> {
+    println!(rt; "N {terms}")
 }
 
-fn print_refusal(number: u8, place: usize) {
-    io::write_all(1, b"R");
-    print_field(number as u64);
-    print_field(place as u64);
-    io::write_all(1, b"\n");
+fn print_refusal(rt: &impl Print, number: u8, place: usize) -> io::Result<()> {
+    println!(rt; "R {number} {place}")
 }
 
 fn same(m: Measures, breadth: u8, length: u8) -> bool {
-    if m.breadth != breadth {
-        return false;
-    }
-    m.length == length
+    m.breadth == breadth && m.length == length
 }
 
 // A term's line, by the walk with none stored.
-fn print_term(decoded: &[u8; DECODED], i: usize)
+fn print_term(rt: &impl Print, decoded: &[u8; DECODED], i: usize) -> io::Result<()>
     requires { CanMeasure decoded.now 0 i }
 {
     let measures = table_terms::measures_of(decoded, 0, i);
-    io::write_all(1, b"T");
-    print_field(i as u64);
-    print_field(table_terms::kind_at(decoded, i) as u64);
-    print_field(measures.breadth as u64);
-    print_field(measures.length as u64);
+    print!(rt; "T {i}")?;
+    print_field(rt, table_terms::kind_at(decoded, i) as u64)?;
+    print_field(rt, measures.breadth as u64)?;
+    print_field(rt, measures.length as u64)?;
     if same(
         measures,
         table_terms::breadth_at(decoded, i),
         table_terms::length_at(decoded, i),
     ) {
-        io::write_all(1, b" =\n");
+        println!(rt; " =")
     } else {
-        io::write_all(1, b" #\n");
+        println!(rt; " #")
     }
 }
 
-fn print_terms(decoded: &[u8; DECODED], terms: usize)
+fn print_terms(rt: &impl Print, decoded: &[u8; DECODED], terms: usize) -> io::Result<()>
     requires { DecodedSoFar decoded.now terms }
 {
-    print_count(terms);
-    let mut i: usize = 0;
-    while i < terms {
-        print_term(decoded, i);
-        i += 1;
+    print_count(rt, terms)?;
+    for i in 0..terms {
+        print_term(rt, decoded, i)?;
     }
+    Ok(())
 }
 
-fn print_measures(table: &[u8]) {
+fn print_measures(rt: &impl Print, table: &[u8]) -> io::Result<()> {
     let mut decoded = [0u8; DECODED];
     match table_read::read_table(table, &mut decoded) {
-        ReadAnswer::Accepted { terms, start: _ } => print_terms(&decoded, terms),
-        ReadAnswer::Refused { number, place } => print_refusal(number, place),
+        ReadAnswer::Accepted { terms, start: _ } => print_terms(rt, &decoded, terms),
+        ReadAnswer::Refused { number, place } => print_refusal(rt, number, place),
     }
 }
 
-fn main() {
-    print_measures(&EVERY_KIND);
-    print_measures(&WIDTH_64);
-    print_measures(&BRANCHES_8);
-    print_measures(&LENGTH_16);
-    print_measures(&UNEQUAL_SIDES);
-    print_measures(&SHARED);
+fn main(rt: HostRuntime) -> io::Result<()> {
+    print_measures(&rt, &EVERY_KIND)?;
+    print_measures(&rt, &WIDTH_64)?;
+    print_measures(&rt, &BRANCHES_8)?;
+    print_measures(&rt, &LENGTH_16)?;
+    print_measures(&rt, &UNEQUAL_SIDES)?;
+    print_measures(&rt, &SHARED)
 }

@@ -1,6 +1,8 @@
 // The program `replay`, on an input of one byte too many: its file `stdin` is that of `replay_most` and one byte more.
 #![tactic(auto)]
 
-fn main() {
-    program_stdin::replay();
+use std::io;
+
+fn main(rt: HostRuntime) -> io::Result<()> {
+    program_stdin::replay(&rt)
 }

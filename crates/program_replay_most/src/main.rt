@@ -2,6 +2,8 @@
 // choices, and all of them are done. What `stdout` has was printed by the second implementation.
 #![tactic(auto)]
 
-fn main() {
-    program_stdin::replay();
+use std::io;
+
+fn main(rt: HostRuntime) -> io::Result<()> {
+    program_stdin::replay(&rt)
 }
