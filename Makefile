@@ -9,12 +9,13 @@ soname := libruonfidd.so.$(basename $(version))
 static := target/staticlib/libruonfidd.a
 shared := target/sharedlib/libruonfidd.so.$(version)
 hall := workbench/target/release/hall
+program := target/bin/program_replay
 installed := $(DESTDIR)$(PREFIX)
 
 # What a make below this one prints is the same as at the top.
 MAKEFLAGS += --no-print-directory
 
-.PHONY: all demo test install prove build
+.PHONY: all demo test install prove program kit build
 # The library is written by one rule and read by others.
 .NOTPARALLEL:
 
@@ -30,9 +31,21 @@ demo: build
 test:
 	bash .ci/run
 
-prove:
+# `rt` builds in the crate's own folder. What it built is copied to where it is looked for, and only where it is not the
+# same as before, since cargo goes by the file's time.
+prove: kit
+	cd crates/ruonfidd && rt lib
+	cmp -s crates/ruonfidd/out/$(notdir $(static)) $(static) || \
+	  install -D -m 644 crates/ruonfidd/out/$(notdir $(static)) $(static)
+
+# The program that prints a run: proved, built, and run on no input.
+program: kit
+	cd crates/program_replay && rt run </dev/null >/dev/null
+	cmp -s crates/program_replay/out/$(notdir $(program)) $(program) || \
+	  install -D -m 755 crates/program_replay/out/$(notdir $(program)) $(program)
+
+kit:
 	@command -v rt >/dev/null || { echo 'rt is missing: see "The Rattle kit" in README.md' >&2; exit 1; }
-	rt staticlib ruonfidd
 
 build: prove
 	cargo build --release --offline --locked --manifest-path workbench/Cargo.toml --target-dir workbench/target

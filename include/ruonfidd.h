@@ -2,7 +2,7 @@
  *
  * `make install` puts this file beside the library, static and shared, for x86-64 Linux:
  * `pkg-config --cflags --libs ruonfidd` has what a compiler needs.  Without it, link with
- * target/staticlib/libruonfidd.a, which `rt staticlib ruonfidd` writes.
+ * target/staticlib/libruonfidd.a, which `make prove` writes.
  * The library is proved to answer as the definitions in crates/semantics/specs/Definitions say; this
  * file says the same in plain words.
  *
