@@ -2,7 +2,7 @@
 -- Assumes nothing.
 use Prim.Native.Nat.{ℕ, ◌+◌, ◌*◌, ◌≤◌, ◌<◌}
 use native.Mathlib.Omega.{arith}
-use mathlib.Core.Path.{◌≡◌, refl, sym, ◌∙◌}
+use mathlib.Core.Path.{◌≡◌, refl, sym, subst, ◌∙◌}
 use mathlib.Core.Option.{some}
 use mathlib.Core.List.{List, [], ◌∷◌, ◌++◌, map, map-append}
 use lib.ListN.{length, get_elem?, length-append}
@@ -98,7 +98,7 @@ module _ (d : List ℕ) (i k : ℕ) (kind : k ≡ kind_at d i) where
         ((k ≡ 1 → ⊥) → (k ≡ 2 → ⊥) → (k ≡ 5 → ⊥) → components_bytes P ≡ waiting_kind ∷ i ∷ [] → C) → C
     unfolding term_number
     at_kind =
-        by_kind ts i (first_at d i) (second_at d i) k P (rw kind (x.records i (process P) e)) (x.good.subterms i (process P) e) (x.good.numbered i (process P) e)
+        by_kind ts i (first_at d i) (second_at d i) k P (subst (λ n. RecordOf i n (first_at d i) (second_at d i) (process P)) (sym kind) (x.records i (process P) e)) (x.good.subterms i (process P) e) (x.good.numbered i (process P) e)
 
     pub sides_at : k ≡ 5 → SidesAt
     sides_at h = at_kind SidesAt (λ f b. absurd (omega arith)) (λ f b. absurd (omega arith)) (λ f s. s) (λ a b c o. absurd (c h))
