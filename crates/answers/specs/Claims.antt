@@ -83,7 +83,7 @@ ZeroTurn = (table : List ℕ) (n place laid : ℕ) (station : List ℕ) (left : 
 
 -- a choice is suggested, or the hall is still: its three bytes tell which
 abbrev pub ZeroSuggested : Type 0
-ZeroSuggested = (table hall : List ℕ) (place : ℕ) (w : List ℕ) → SuggestionAnswered (suggest_call table hall) 0 place w →
+ZeroSuggested = (table hall : List ℕ) (p : ℕ) (w : List ℕ) → SuggestionAnswered (suggest_call table hall) 0 p w →
     ((e : moves.Entry) × (w ≡ choice_words e) × (suggest_call table hall ≡ suggested e)) ⊎
     ((w ≡ 0 ∷ 0 ∷ 0 ∷ []) × (suggest_call table hall ≡ still))
 

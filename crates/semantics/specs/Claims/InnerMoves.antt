@@ -40,7 +40,8 @@ Settled (fork l r) = ⊥
 -- some moves inside, one after another, in any order
 pub data Moves (s : State) : Tree → Tree → Type 0 where
   unmoved : {t : Tree} → Moves s t t
-  moved_on : {t u v : Tree} {w : Shortage} (k : ℕ) (r : Rule) → move_at s t k ≡ evolves r w u → Moves s u v → Moves s t v
+  moved_on : {t u v : Tree} {w : Shortage} (k : ℕ) (r : Rule) → move_at s t k ≡ evolves r w u → Moves s u v →
+      Moves s t v
 
 -- on every well-formed hall: a move inside the attempt at p is one of its nodes', lowers its measure and changes
 -- nothing else
@@ -62,8 +63,8 @@ MovesGoOn = EveryHall (λ t h.
 
 -- and a single end or retry leaf has none
 unfoldable pub SettledHasNoRule : Type 0
-SettledHasNoRule =
-    (s : State) (u : Tree) → Settled u → (k : ℕ) (r : Rule) (w : Shortage) (v : Tree) → move_at s u k ≡ evolves r w v → ⊥
+SettledHasNoRule = (s : State) (u : Tree) → Settled u →
+    (k : ℕ) (r : Rule) (w : Shortage) (v : Tree) → move_at s u k ≡ evolves r w v → ⊥
 
 -- whatever the order of the moves, one and the same tree stands at the end, its log and its term number included; from
 -- every tree, also one that no run reached

@@ -17,7 +17,8 @@ pub data Kind : Type 0 where
   nil_k put_k take_k repeat_k par_k atom_k end_k retry_k rd_k wt_k or_else_k tokens_k start_k : Kind
 
 unfoldable pub kinds : List Kind
-kinds = nil_k ∷ put_k ∷ take_k ∷ repeat_k ∷ par_k ∷ atom_k ∷ end_k ∷ retry_k ∷ rd_k ∷ wt_k ∷ or_else_k ∷ tokens_k ∷ start_k ∷ []
+kinds = nil_k ∷ put_k ∷ take_k ∷ repeat_k ∷ par_k ∷ atom_k ∷ end_k ∷ retry_k ∷ rd_k ∷ wt_k ∷ or_else_k ∷
+    tokens_k ∷ start_k ∷ []
 
 -- the kind that a byte names
 unfoldable pub kind_by_number : ℕ → Option Kind

@@ -1,0 +1,19 @@
+-- `replace_component` meets its contract. Assumes nothing.
+use Rattle.hall_held.proofs.Replacements.{component_ordered, component_room, can_renumber, component_replaced}
+use native.Mathlib.Omega.{arith}
+use Rattle.hall_held.proofs.replace_component.Goals as goal
+
+pub splice-requires : goal.splice-requires
+splice-requires c = (search component_ordered, search component_room)
+
+pub overflow_sub-end : goal.overflow_sub-end
+overflow_sub-end c = search component_ordered
+
+pub renumber-requires : goal.renumber-requires
+renumber-requires c = search can_renumber
+
+pub overflow_add-result : goal.overflow_add-result
+overflow_add-result c =     omega (arith, (can_renumber c.requires).room)
+
+pub returns : goal.returns
+returns c = search component_replaced
