@@ -121,12 +121,10 @@ fn print_step(
 fn used(hall: &[u8]) -> usize
     ensures { result ≤ length hall.now }
 {
-    let mut n = hall.len();
-    while 0 < n {
-        if byte_at(hall, n - 1) != 0 {
-            return n;
+    for i in (0..hall.len()).rev() {
+        if hall[i] != 0 {
+            return i + 1;
         }
-        n -= 1;
     }
     0
 }

@@ -84,11 +84,9 @@ fn push(bytes: &mut [u8; BYTES], at: usize, byte: u8) -> usize {
 // The bytes from..to once more.
 fn repeat_once(bytes: &mut [u8; BYTES], from: usize, to: usize, at: usize) -> usize {
     let mut end = at;
-    let mut i = from;
-    while i < to {
+    for i in from..to {
         let byte = byte_at(bytes, i);
         end = push(bytes, end, byte);
-        i += 1;
     }
     end
 }
@@ -96,10 +94,8 @@ fn repeat_once(bytes: &mut [u8; BYTES], from: usize, to: usize, at: usize) -> us
 // The bytes from..to so many times in all.
 fn repeat(bytes: &mut [u8; BYTES], from: usize, to: usize, times: usize) -> usize {
     let mut end = to;
-    let mut left = times;
-    while 1 < left {
+    for _ in 1..times {
         end = repeat_once(bytes, from, to, end);
-        left -= 1;
     }
     end
 }
