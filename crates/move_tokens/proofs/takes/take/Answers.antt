@@ -1,0 +1,31 @@
+-- `take` meets its contract. Assumes nothing.
+use Rattle.move_tokens.proofs.TokenTakes.{take_position, take_body_inside, take_term_inside, continuation_inside, can_write_many, can_write_few}
+use native.Mathlib.Omega.{arith}
+use borrow.Author.Rules.{rules}
+use Rattle.move_tokens.proofs.takes.take.Goals as goal
+
+pub offset_bounds-starts-position : goal.offset_bounds-starts-position
+offset_bounds-starts-position c = omega (arith, take_position _ _ _ _ _ c.requires)
+
+pub bounds-starts-position : goal.bounds-starts-position
+bounds-starts-position c = omega (arith, take_position _ _ _ _ _ c.requires)
+
+pub overflow_add-begin : goal.overflow_add-begin
+overflow_add-begin c = omega (arith, take_body_inside _ _ _ _ _ c.requires)
+
+pub bounds-hall-begin : goal.bounds-hall-begin
+bounds-hall-begin c = search take_body_inside
+
+pub second_at-requires : goal.second_at-requires
+second_at-requires c = search take_term_inside
+
+pub kind_at-requires : goal.kind_at-requires
+kind_at-requires c = search continuation_inside
+
+pub take_by-requires-clause-can_write_successors : goal.take_by-requires-clause-can_write_successors
+take_by-requires-clause-can_write_successors c =
+    can_write_many _ _ _ _ _ c.requires _ _ _ c.wide-term.ensures c.second_at.ensures c.wide-continuation.ensures _ (search rules)
+
+pub take_by-requires-2-clause-can_write_successors : goal.take_by-requires-2-clause-can_write_successors
+take_by-requires-2-clause-can_write_successors c =
+    can_write_few _ _ _ _ _ c.requires _ _ _ c.wide-term.ensures c.second_at.ensures c.wide-continuation.ensures _ c.kind_at.ensures c.if-kind_at-eq-PAR.false _ (search rules)
