@@ -1,0 +1,56 @@
+-- `commit` meets its contract: the log is read where it stands, and the counts fall before the outputs are laid down.
+-- Assumes nothing.
+use lib.Seq.{length-take-le}
+use Rattle.move_blocks.proofs.EndLeaves.{leaf_inside, length_inside, counts_inside, log_few, log_inside, outputs_few, outputs_inside}
+use Rattle.move_blocks.proofs.TransactionEnd.{commit_looks, commit_position, commit_inside, commit_within, commit_can, commit_applied}
+use borrow.Author.Rules.{rules}
+use Rattle.move_blocks.proofs.ends.commit.Goals as goal
+
+pub offset_bounds-starts-position : goal.offset_bounds-starts-position
+offset_bounds-starts-position c = let l = commit_position _ _ _ _ c.requires in search rules
+
+pub bounds-starts-position : goal.bounds-starts-position
+bounds-starts-position c = search commit_position
+
+pub overflow_add-leaf : goal.overflow_add-leaf
+overflow_add-leaf c = let l = commit_inside _ _ _ _ c.requires in search rules
+
+pub overflow_add-leaf-2 : goal.overflow_add-leaf-2
+overflow_add-leaf-2 c = let l = leaf_inside _ _ _ (commit_looks _ _ _ _ c.requires) in search rules
+
+pub bounds-hall-leaf : goal.bounds-hall-leaf
+bounds-hall-leaf c = length_inside _ _ _ (commit_looks _ _ _ _ c.requires)
+
+pub overflow_add-leaf-3 : goal.overflow_add-leaf-3
+overflow_add-leaf-3 c = let l =
+    leaf_inside _ _ _ (commit_looks _ _ _ _ c.requires) in search rules
+
+pub needs_of-need-requires : goal.needs_of-need-requires
+needs_of-need-requires c =     let log = commit_looks _ _ _ _ c.requires in
+    (log_few _ _ _ log _ c.wide-size.ensures, log_inside _ _ _ log _ c.wide-size.ensures)
+
+pub overflow_add-leaf-4 : goal.overflow_add-leaf-4
+overflow_add-leaf-4 c =     let l = leaf_inside _ _ _ (commit_looks _ _ _ _ c.requires) in search rules
+
+pub outputs_of-outputs-requires : goal.outputs_of-outputs-requires
+outputs_of-outputs-requires c =     let log = commit_looks _ _ _ _ c.requires in
+    (log_few _ _ _ log _ c.wide-size.ensures, log_inside _ _ _ log _ c.wide-size.ensures)
+
+pub take_needs-requires : goal.take_needs-requires
+take_needs-requires c = (search (counts_inside, commit_looks), search commit_within)
+
+pub overflow_mul-end : goal.overflow_mul-end
+overflow_mul-end c =     let log = commit_looks _ _ _ _ c.requires in
+    let l = outputs_few _ _ _ log _ c.wide-size.ensures _ c.outputs_of-outputs.ensures in search rules
+
+pub slice_bounds-bytes-end : goal.slice_bounds-bytes-end
+slice_bounds-bytes-end c = search (rules, outputs_inside)
+
+pub slice_bounds-replace_component-end : goal.slice_bounds-replace_component-end
+slice_bounds-replace_component-end c = search (rules, length-take-le, outputs_inside)
+
+pub replace_component-requires : goal.replace_component-requires
+replace_component-requires c = search commit_can
+
+pub returns : goal.returns
+returns c = search commit_applied
