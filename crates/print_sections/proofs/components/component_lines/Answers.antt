@@ -1,0 +1,14 @@
+-- Printing the lines of all components meets its contract.
+-- Assumes nothing.
+use Prim.Native.Nat.{◌-◌}
+use Rattle.print_sections.proofs.ComponentLines.{no_component, component_more, all_components}
+use Rattle.print_sections.proofs.components.component_lines.Goals as goal
+
+pub loop-position-init : goal.loop-position-init
+loop-position-init c = search no_component
+
+pub loop-position-preserved : goal.loop-position-preserved
+loop-position-preserved c = search component_more
+
+pub returns : goal.returns
+returns c = search all_components
