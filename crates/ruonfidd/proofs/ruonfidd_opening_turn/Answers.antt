@@ -1,0 +1,8 @@
+-- `ruonfidd_opening_turn` meets its contract: what its call answers is told.
+-- Assumes nothing.
+use Rattle.theorems.proofs.Theorems.{promised}
+use Rattle.answers.proofs.Theorems.{told_turns}
+use Rattle.ruonfidd.proofs.ruonfidd_opening_turn.Goals as goal
+
+pub returns-clause-promised : goal.returns-clause-promised
+returns-clause-promised c = promised told_turns
