@@ -5,7 +5,7 @@ use mathlib.Core.List.{List, [], ◌∷◌}
 use Rattle.calculus.specs.Syntax.{rd, wt, end, retry, prefix, running, or_else'}
 use Rattle.calculus.specs.State.{Included, occurrences, same}
 use Rattle.calculus.specs.Log.{RD}
-use Rattle.calculus.specs.Reduction.{ARDOK, AWR, AOF, AOE, ardok, ardf, awr, aoi, aof, aoe, nodes_of}
+use Rattle.calculus.specs.Reduction.{ARDOK, AWR, AOF, AOE, nodes_of}
 use Rattle.calculus.specs.Checks.Notation.{few}
 use Rattle.calculus.specs.Checks.Table3.{InnerStep, step, Steps, reads, has_read, writes, has_written, ended, retried, Table3Rows}
 use Rattle.calculus.proofs.States.{included_nil, included_cons}

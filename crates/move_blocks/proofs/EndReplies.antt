@@ -20,7 +20,7 @@ use Rattle.semantics.specs.Definitions.Terms.{Expression, end_t, retry_t, rd_t, 
 use Rattle.semantics.specs.Definitions.Shortage.{Shortage, enough}
 use Rattle.semantics.specs.Definitions.Logs.{shortage, readable}
 use Rattle.semantics.specs.Definitions.Configuration.{block, output, Tree, leaf, fork, Component, idle, transaction, Configuration}
-use Rattle.semantics.specs.Definitions.Moves.{act, moves, blocked, commits, ends, acts, EntryAnswer, apply_at, entry_answer, rule_number, Reply, moved_by, refused_by, as_reply}
+use Rattle.semantics.specs.Definitions.Moves.{act, moves, blocked, commits, ends, acts, EntryAnswer, apply_at, entry_answer, rule_number, moved_by, refused_by, as_reply}
 use Rattle.theorems.proofs.Lists.{found_below, length_replace_at}
 use Rattle.theorems.proofs.Moves.{position_of, component_answer, chosen_at}
 use Rattle.table_records.specs.Shapes.{kind_byte}

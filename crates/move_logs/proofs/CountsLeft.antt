@@ -11,7 +11,7 @@ use lib.Dec.{ltb, leb}
 use lib.ListN.{length, get_or, take, drop, set, length-drop}
 use lib.Seq.{length-take-le, get_or-take, get_or-drop, get_or-set_same, get_or-set_other, set-get_or}
 use borrow.Author.Tests.{lt-ltb, le-ltb, ltb-true, ltb-false, le-leb, lt-leb}
-use Rattle.calculus.specs.State.{same, occurrences}
+use Rattle.calculus.specs.State.{occurrences}
 use Rattle.calculus.proofs.States.{same_self, same_other}
 use Rattle.semantics.specs.Definitions.Layout.{channels}
 use Rattle.move_logs.specs.Needs.{needs_of, taken_by, within_at}

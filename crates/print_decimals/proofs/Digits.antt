@@ -3,7 +3,7 @@
 use Prim.Native.Nat.{ℕ, zero, suc, ◌+◌, ◌*◌, ◌/◌, ◌%◌, ◌^◌, ◌≤◌, ◌<◌}
 use native.Mathlib.Omega.{arith}
 use native.Mathlib.Numerals.{unary_clauses}
-use mathlib.Core.Path.{◌≡◌, refl, sym, ap, ◌∙◌}
+use mathlib.Core.Path.{◌≡◌, refl, ap, ◌∙◌}
 use mathlib.Core.Bool.{Bool, true, false, cond}
 use mathlib.Core.List.{List, [], ◌∷◌, ◌++◌}
 use lib.ListN.{length, set, length-append}
@@ -13,7 +13,6 @@ use mir.Syntax.{w64}
 use mir.Val.{Fits}
 use Rattle.semantics.specs.Definitions.Report.{digits, decimal}
 use Rattle.theorems.proofs.Decimals.{tenth}
-use Rattle.buffer.specs.Splice.{written}
 use Rattle.buffer.proofs.Written.{written_none, written_next, written_length, written_twice}
 use Rattle.print_decimals.specs.Wrote.{Wrote}
 

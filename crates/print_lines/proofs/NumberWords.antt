@@ -3,14 +3,14 @@
 use Prim.Native.Nat.{ℕ, zero, suc, ◌+◌, ◌-◌, ◌≤◌, ◌<◌}
 use native.Mathlib.Omega.{arith}
 use native.Mathlib.Numerals.{add-one}
-use mathlib.Core.Path.{◌≡◌, refl, sym, ap, ◌∙◌}
-use mathlib.Core.List.{List, [], ◌∷◌, ◌++◌, append_assoc}
+use mathlib.Core.Path.{◌≡◌, refl, ap}
+use mathlib.Core.List.{List, [], ◌∷◌, ◌++◌}
 use lib.ListN.{length, get_or, length-append}
-use Rattle.semantics.specs.Definitions.Report.{decimal, signed, line}
+use Rattle.semantics.specs.Definitions.Report.{decimal}
 use Rattle.buffer.proofs.Written.{written_none}
 use Rattle.print_decimals.specs.Wrote.{Wrote}
 use Rattle.print_decimals.proofs.Digits.{wrote_more, wrote_length}
-use Rattle.print_lines.specs.Lines.{words_of, number_line}
+use Rattle.print_lines.specs.Lines.{words_of}
 
 -- ---- words
 

@@ -11,7 +11,7 @@ use Rattle.calculus.specs.State.{without}
 use Rattle.calculus.specs.Log.{WT}
 use Rattle.semantics.specs.Definitions.Basics.{replace_at}
 use Rattle.semantics.specs.Definitions.Terms.{Expression, end_t, rd_t, wt_t}
-use Rattle.semantics.specs.Definitions.Configuration.{block, output}
+use Rattle.semantics.specs.Definitions.Configuration.{output}
 use Rattle.semantics.specs.Definitions.Logs.{first_readable, add_token}
 use Rattle.semantics.specs.Claims.ConverseRuns.{PlainState, replacing, ConverseStep, step_out, step_in, step_rep, step_commit, ConverseSteps, no_step, step_then}
 use Rattle.semantics.specs.Checks.ConverseExamples.{handover, handed_over, two_puts, crowded, ConverseExamples}

@@ -10,8 +10,8 @@ use Rattle.semantics.specs.Definitions.Configuration.{preorder}
 use Rattle.semantics.specs.Definitions.Report.{decimal, signed, lines}
 use Rattle.semantics.specs.Definitions.Sentence.{ascii}
 use Rattle.semantics.specs.Checks.Decimals.{place_value, DecimalOf, SignedOf, not_negative, negative}
-use Rattle.semantics.specs.Checks.PrintedLines.{Numbers, newline, space, Line, begins, NetOf, gained, lost, TrayLines, no_more, passed_over, told}
-use Rattle.semantics.specs.Checks.PrintedLines.{StationLine, puts, takes, repeats, waits, attempts, StationLines, no_station, station, RunPrinted}
+use Rattle.semantics.specs.Checks.PrintedLines.{newline, space, Line, begins, gained, lost, TrayLines, no_more, passed_over, told}
+use Rattle.semantics.specs.Checks.PrintedLines.{puts, takes, repeats, waits, attempts, StationLines, no_station, station, RunPrinted}
 use Rattle.semantics.specs.Checks.LineExamples.{first_hall, answered, answer_text, LineExamples}
 
 -- ---- decimals

@@ -2,7 +2,7 @@
 -- Assumes nothing.
 use Prim.Native.Nat.{ℕ, zero, suc, ◌+◌, ◌≤◌, ◌<◌}
 use native.Mathlib.Omega.{arith}
-use mathlib.Core.Path.{◌≡◌, refl, sym, ap, ◌∙◌}
+use mathlib.Core.Path.{◌≡◌, refl, ap, ◌∙◌}
 use mathlib.Core.Logic.{◌≢◌}
 use mathlib.Core.Option.{Option, none, some}
 use mathlib.Core.List.{List, [], ◌∷◌, ◌++◌, append_assoc}
@@ -10,7 +10,7 @@ use lib.ListN.{length, replicate, get_elem?}
 use Rattle.calculus.specs.Syntax.{Action, Log, State}
 use Rattle.semantics.specs.Definitions.Basics.{All}
 use Rattle.semantics.specs.Definitions.Terms.{Expression, end_t, retry_t, wt_t, nil_t, put_t, take_t, repeat_t, par_t, atom_t, Term, process, expression, branches, path_length}
-use Rattle.semantics.specs.Definitions.Configuration.{Tree, Component, Configuration}
+use Rattle.semantics.specs.Definitions.Configuration.{Tree, Component}
 use Rattle.semantics.specs.Definitions.Stored.{bytes_of, configuration_of}
 use Rattle.semantics.specs.Checks.Examples.{numbers, trays, hall_of, attempt, leaf_of}
 use Rattle.semantics.specs.Checks.StoredBytes.{base_form, StoredAction, reads, writes, StoredLog, empty, logged, StoredTerm, recorded, no_record_holds, StoredNodes, a_fork, a_leaf}

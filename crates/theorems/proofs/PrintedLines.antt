@@ -3,23 +3,22 @@
 use Prim.Native.Nat.{ℕ, zero, suc, ◌+◌, ◌-◌, ◌^◌, ◌≤◌, ◌<◌}
 use native.Mathlib.Omega.{arith}
 use mathlib.Core.Path.{◌≡◌, refl, sym, ap, ap₂, subst, ◌∙◌}
-use mathlib.Core.Logic.{◌⊎◌, inl, inr, ◌↔◌, ◌≢◌}
+use mathlib.Core.Logic.{◌⊎◌, inl, inr, ◌≢◌}
 use mathlib.Core.Bool.{Bool, true, false, cond, ◌&&◌}
 use mathlib.Core.List.{List, [], ◌∷◌, ◌++◌, map, append_assoc, flatten}
-use lib.ListN.{length, take, drop, length-take, length-drop}
+use lib.ListN.{length, drop, length-take, length-drop}
 use lib.Dec.{eqb, ltb}
 use lib.IntN.{ℤ, pos, negsuc}
-use borrow.Author.Tests.{ltb-true, ltb-false, lt-ltb, le-ltb, eqb-true, eqb-false, eq-eqb, ne_eqb}
+use borrow.Author.Tests.{ltb-true, ltb-false, lt-ltb, le-ltb, eqb-true, eqb-false, ne_eqb}
 use Rattle.calculus.specs.Syntax.{State}
-use Rattle.calculus.specs.Reduction.{Rule}
 use Rattle.semantics.specs.Definitions.Basics.{All, Bytes}
-use Rattle.semantics.specs.Definitions.Table.{Table, accepted, refused_at, read_table}
-use Rattle.semantics.specs.Definitions.Configuration.{taking, repeating, block, output, Component, idle, transaction, Configuration, opening, nodes, preorder}
+use Rattle.semantics.specs.Definitions.Table.{Table}
+use Rattle.semantics.specs.Definitions.Configuration.{taking, repeating, block, output, Component, idle, transaction, Configuration, opening, preorder}
 use Rattle.semantics.specs.Definitions.Run.{fresh_counters, RunAnswer, net, run}
-use Rattle.semantics.specs.Definitions.Report.{signed, line, run_line, counters_line, channel_line, channel_lines, component_line, lines, report, printed_run}
+use Rattle.semantics.specs.Definitions.Report.{signed, line, run_line, counters_line, channel_line, channel_lines, component_line, lines, report}
 use Rattle.semantics.specs.Claims.Correspondence.{AcceptsTable}
 use Rattle.semantics.specs.Checks.Fuels.{line_numbers, PrintedNumbersFit}
-use Rattle.semantics.specs.Checks.Decimals.{TwentyDigits, SignedOf, SignedAsStated}
+use Rattle.semantics.specs.Checks.Decimals.{TwentyDigits, SignedAsStated}
 use Rattle.semantics.specs.Checks.PrintedRun.{TablePart, up_to_start, all_of_it}
 use Rattle.semantics.specs.Checks.PrintedLines.{Numbers, newline, space, Line, begins, NetOf, gained, lost, TrayLines, no_more, passed_over, told}
 use Rattle.semantics.specs.Checks.PrintedLines.{StationLine, puts, takes, repeats, waits, attempts, StationLines, no_station, station, RunPrinted, RefusedAsStated, RunAsStated}

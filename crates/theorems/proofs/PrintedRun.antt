@@ -21,7 +21,6 @@ use Rattle.semantics.specs.Definitions.Stored.{WellFormed, hall_bytes, bytes_of,
 use Rattle.semantics.specs.Definitions.Run.{fresh_counters, run}
 use Rattle.semantics.specs.Definitions.Calls.{opened, open_sized, open_tested, open_hall, run_result}
 use Rattle.semantics.specs.Definitions.Report.{report, table_size, split_report, sized_report, printed_run}
-use Rattle.semantics.specs.Claims.Correspondence.{AcceptsTable}
 use Rattle.semantics.specs.Checks.PrintedRun.{TableEnds, at_start, after_record, TablePart, up_to_start, all_of_it, TableFound, AcceptedIsFound, PrintedLong, PrintedRefused, PrintedAsCalls}
 use Rattle.theorems.proofs.GoodTable.{accepted_is_good}
 use Rattle.semantics.specs.Checks.AcceptedTables.{kind_byte}

@@ -25,7 +25,7 @@ use Rattle.semantics.specs.Definitions.Stored.{ComponentOk, WellFormed}
 use Rattle.semantics.specs.Claims.Denotation.{expr, proc, ongoing_of, component_process, Denotes, nothing, alone, beside}
 use Rattle.semantics.specs.Definitions.Moves.{Entry, act, inside, ComponentAnswer, moves, blocked, ends, acts, NodeAnswer, evolves, no_rule, out_of_range, at_leaf, at_fork, at_node, move_at, inside_answer, acts_inside, Transition, moved, refused, transition, rule_number}
 use Rattle.semantics.specs.Checks.AcceptedTables.{GoodTable}
-use Rattle.semantics.specs.Definitions.Run.{ScheduleItem, Counters, counted, run_from, run, Step, continue_steps, steps, schedule, entries}
+use Rattle.semantics.specs.Definitions.Run.{ScheduleItem, Counters, run_from, run, Step, continue_steps, steps, schedule, entries}
 use Rattle.semantics.specs.Claims.Correspondence.{OpeningDenotes, OneReduction, Soundness, AtChosen, Located, Chain, RunSoundness}
 use Rattle.theorems.proofs.Walk.{in_left, in_right, node_induction}
 use Rattle.theorems.proofs.Lists.{none_found, found_left, found_right, replace_at_left, replace_at_right, all_at}

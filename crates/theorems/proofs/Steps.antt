@@ -16,7 +16,7 @@ use Rattle.semantics.specs.Definitions.Configuration.{Configuration}
 use Rattle.semantics.specs.Definitions.Stored.{bytes_of}
 use Rattle.semantics.specs.Definitions.Moves.{Entry, act, inside, EntryAnswer, does, refuses, entry_answer, transition_of, transition, rule_number, as_reply}
 use Rattle.semantics.specs.Definitions.Run.{entry, schedule, entries, run_from, run, steps}
-use Rattle.semantics.specs.Definitions.Calls.{Admission, admitted, not_admitted, admission, Buffers, RunCall, run_result, run_admitted, run_call, StepCall, step_refused, step_entry, step_kind, step_admitted, step_call, step_bytes, step_choice, call_answer, call_entries}
+use Rattle.semantics.specs.Definitions.Calls.{Admission, admitted, not_admitted, admission, Buffers, RunCall, run_result, run_admitted, run_call, StepCall, step_refused, step_entry, step_kind, step_admitted, step_call, step_bytes, call_answer, call_entries}
 use Rattle.semantics.specs.Claims.Shortages.{FailuresAloneName}
 use Rattle.semantics.specs.Checks.Conditions.{TableNumbers, HallNumbers, ChoiceNumbers, RefusalNumbers}
 use Rattle.semantics.specs.Checks.Steps.{Names, names_act, names_inside, StepCallAsStated, not_admitted_holds, kind_unknown, is_refused, has_moved, StepCallsAsStated, StepCallNumbers, step_reply, StepReplies, NodeOfKind1, StepIsCall}

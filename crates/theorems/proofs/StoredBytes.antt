@@ -1,9 +1,9 @@
 -- The stored hall read and written is the stored hall as it is told on bytes.
 -- Assumes nothing.
-use Prim.Native.Nat.{ℕ, ◌+◌, ◌-◌, ◌≤◌, ◌<◌}
+use Prim.Native.Nat.{ℕ, ◌+◌, ◌-◌, ◌<◌}
 use native.Mathlib.Omega.{arith}
 use mathlib.Core.Path.{◌≡◌, refl, sym, ap, ap₂, subst, ◌∙◌}
-use mathlib.Core.Bool.{Bool, true, false, cond}
+use mathlib.Core.Bool.{Bool, true, false}
 use mathlib.Core.Option.{Option, none, some}
 use mathlib.Core.List.{List, [], ◌∷◌, ◌++◌, map, append_assoc, flatten}
 use lib.ListN.{length, replicate, get_elem?, length-map}
@@ -15,10 +15,9 @@ use Rattle.semantics.specs.Definitions.Basics.{padded, All}
 use Rattle.semantics.specs.Definitions.Terms.{Expression, retry_t, Term, process, expression, number}
 use Rattle.semantics.specs.Definitions.Configuration.{taking, repeating, block, output, Tree, leaf, fork, Component, idle, transaction, Configuration, branches_of}
 use Rattle.semantics.specs.Definitions.Stored.{action_byte, tree_bytes, component_bytes, bytes_of, leaf_expression, channel_of, TreeOk, ComponentOk, WellFormed, configuration_of}
-use Rattle.semantics.specs.Definitions.Table.{Table, read_table, accepted}
 use Rattle.semantics.specs.Definitions.Calls.{admitted, not_admitted, table_tested, size_tested, form_tested, admission}
 use Rattle.semantics.specs.Checks.AcceptedTables.{term_number, GoodTable}
-use Rattle.semantics.specs.Checks.StoredBytes.{base_form, StoredAction, reads, writes, StoredLog, empty, logged, StoredTerm, recorded, no_record_holds, StoredNodes, a_fork, a_leaf}
+use Rattle.semantics.specs.Checks.StoredBytes.{base_form, reads, writes, StoredLog, empty, logged, StoredTerm, recorded, no_record_holds, StoredNodes, a_fork, a_leaf}
 use Rattle.semantics.specs.Checks.StoredBytes.{StoredStation, waits_take, waits_repeat, waits_block, puts, attempts, StoredStations, no_station, station, StoredHall, ReadAsStored, WrittenAsStored, AdmittedAsStored}
 use Rattle.theorems.proofs.GoodTable.{accepted_is_good}
 use Rattle.theorems.proofs.Trees.{padded_of}

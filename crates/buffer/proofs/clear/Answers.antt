@@ -1,5 +1,4 @@
 -- `clear` meets its contract: before each turn the first i zeros are written. Assumes nothing.
-use Prim.Native.Nat.{◌-◌}
 use native.Mathlib.Omega.{arith}
 use lib.ListN.{length-replicate}
 use Rattle.buffer.proofs.Written.{get_d_zeros, written_start, written_turn}

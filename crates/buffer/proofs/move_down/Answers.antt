@@ -1,5 +1,4 @@
 -- `move_down` meets its contract: before each turn the first i bytes are moved. Assumes nothing.
-use Prim.Native.Nat.{◌-◌}
 use Rattle.buffer.proofs.Written.{written_start, moved_down}
 use Rattle.buffer.proofs.move_down.Goals as goal
 

@@ -1,5 +1,4 @@
 -- `write_at` meets its contract: before each turn the first i bytes of `new` are written. Assumes nothing.
-use Prim.Native.Nat.{◌-◌}
 use mathlib.Core.Path.{refl}
 use native.Mathlib.Omega.{arith}
 use Rattle.buffer.proofs.Written.{written_start, written_turn}

@@ -3,11 +3,11 @@ use Rattle.choice_act.proofs.ActMoves.{act_nothing, can_put, act_put, act_put_re
 use Rattle.choice_act.proofs.act.Goals as goal
 
 pub put-now-requires : goal.put-now-requires
-put-now-requires c =     can_put c.occupant_at.ensures c.in-Output.is c.look_output.ensures c.in-Moved.is
+put-now-requires c = can_put c.occupant_at.ensures c.in-Output.is c.look_output.ensures c.in-Moved.is
     c.requires
 
 pub begin-requires : goal.begin-requires
-begin-requires c =     can_begin c.occupant_at.ensures c.in-Block.is c.requires
+begin-requires c = can_begin c.occupant_at.ensures c.in-Block.is c.requires
 
 pub returns-in-Nothing : goal.returns-in-Nothing
 returns-in-Nothing c = search act_nothing

@@ -1,6 +1,5 @@
 -- `run_held` meets its contract: before each turn the rest of the schedule, run from the configuration that is held,
 -- gives what the whole run gives; the measure is what is left of the schedule. Assumes nothing.
-use Prim.Native.Nat.{◌-◌}
 use borrow.Author.Rules.{rules}
 use Rattle.choice_run.proofs.RunSteps.{run_begins, run_ends, run_malformed, run_refused, run_goes_on}
 use Rattle.choice_run.proofs.run_held.Goals as goal

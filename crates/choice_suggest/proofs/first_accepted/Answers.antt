@@ -1,7 +1,6 @@
 -- `first_accepted` meets its contract. Assumes nothing.
 use native.Mathlib.Omega.{arith}
 use Rattle.choice_suggest.proofs.Suggestions.{no_position_yet, position_suggested, next_position, all_quiet}
-use Prim.Native.Nat.{◌-◌}
 use Rattle.choice_suggest.proofs.first_accepted.Goals as goal
 
 pub loop-entry-init : goal.loop-entry-init

@@ -1,7 +1,6 @@
 -- `first_inside` meets its contract. Assumes nothing.
 use native.Mathlib.Omega.{arith}
 use Rattle.choice_suggest.proofs.Suggestions.{no_node_yet, inside_suggested, next_node, nodes_quiet}
-use Prim.Native.Nat.{◌-◌}
 use Rattle.choice_suggest.proofs.first_inside.Goals as goal
 
 pub loop-node-init : goal.loop-node-init

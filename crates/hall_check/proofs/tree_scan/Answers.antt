@@ -1,5 +1,4 @@
 -- `tree_scan` meets its contract: the scan so far leads to what is read at the start. Assumes nothing.
-use Prim.Native.Nat.{◌-◌}
 use native.Mathlib.Omega.{arith}
 use Rattle.hall_layout.proofs.Nodes.{pending_bound}
 use Rattle.hall_check.proofs.TreeScans.{node_there, tree_begun, tree_crowded, tree_broken, tree_turn, tree_falls, tree_ended, tree_overfull, fork_goes_on}

@@ -6,7 +6,7 @@ use Rattle.hall_check.proofs.TreeScans.{TreeSoFar}
 use Rattle.hall_check.proofs.tree_scan.Given as goal
 
 abbrev pub invariant-loop-sum : goal.invariant-loop-sum
-invariant-loop-sum l =     TreeSoFar l.decoded l.n l.s l.tree l.pending l.sum l.at × (l.pending ≡ 0 → ⊥) × (l.sum + l.pending ≤ 264)
+invariant-loop-sum l = TreeSoFar l.decoded l.n l.s l.tree l.pending l.sum l.at × (l.pending ≡ 0 → ⊥) × (l.sum + l.pending ≤ 264)
 
 abbrev pub decreases-loop-sum : goal.decreases-loop-sum
 decreases-loop-sum l = length l.s - l.at

@@ -1,5 +1,4 @@
 -- `well_formed` meets its contract: the components so far lead to what the bytes store. Assumes nothing.
-use Prim.Native.Nat.{◌-◌}
 use Rattle.hall_check.proofs.HallScans.{hall_short, hall_begun, hall_over, hall_zeros, hall_no_zeros, hall_full, hall_broken, hall_next}
 use Rattle.hall_check.proofs.well_formed.Goals as goal
 

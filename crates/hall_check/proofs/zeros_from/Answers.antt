@@ -1,5 +1,4 @@
 -- `zeros_from` meets its contract: the bytes so far are zeros where the largest of them is. Assumes nothing.
-use Prim.Native.Nat.{◌-◌}
 use native.Mathlib.Omega.{arith}
 use Rattle.hall_check.proofs.Zeros.{quarters_begun, quarters_turn, quarters_done, rest_turn, rest_done}
 use Rattle.hall_check.proofs.zeros_from.Goals as goal
@@ -8,7 +7,7 @@ pub loop-i-init : goal.loop-i-init
 loop-i-init c = (omega arith, omega arith, quarters_begun _ _ _)
 
 pub loop-i-preserved : goal.loop-i-preserved
-loop-i-preserved c =     let held = c.loop-i.invariant.2 in
+loop-i-preserved c = let held = c.loop-i.invariant.2 in
     let low = c.larger-low.ensures in
     let high = c.larger-high.ensures in
     let both = c.larger.ensures in

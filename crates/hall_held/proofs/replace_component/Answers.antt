@@ -13,7 +13,7 @@ pub renumber-requires : goal.renumber-requires
 renumber-requires c = search can_renumber
 
 pub overflow_add-result : goal.overflow_add-result
-overflow_add-result c =     omega (arith, (can_renumber c.requires).room)
+overflow_add-result c = omega (arith, (can_renumber c.requires).room)
 
 pub returns : goal.returns
 returns c = search component_replaced

@@ -1,5 +1,4 @@
 -- `is_log` meets its contract: the bytes so far are at most their limits where none exceeded its own. Assumes nothing.
-use Prim.Native.Nat.{◌-◌}
 use native.Mathlib.Omega.{arith}
 use Rattle.hall_nodes.proofs.Logs.{log_begun, log_turn, log_done}
 use Rattle.hall_nodes.proofs.is_log.Goals as goal

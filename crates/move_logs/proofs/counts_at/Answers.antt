@@ -1,5 +1,4 @@
 -- `counts_at` meets its contract: before each turn the first i counts are copied, with zeros behind. Assumes nothing.
-use Prim.Native.Nat.{◌-◌}
 use native.Mathlib.Omega.{arith}
 use Rattle.move_logs.proofs.CopiedCounts.{copy_start, copy_turn, copy_end}
 use Rattle.move_logs.proofs.counts_at.Goals as goal

@@ -1,5 +1,4 @@
 -- `lowest_short` meets its contract: before each turn the channels below this one have what is needed. Assumes nothing.
-use Prim.Native.Nat.{◌-◌}
 use Rattle.move_logs.proofs.LowestShort.{short_here, short_nowhere}
 use Rattle.move_logs.proofs.lowest_short.Goals as goal
 

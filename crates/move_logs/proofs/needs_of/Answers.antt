@@ -1,5 +1,4 @@
 -- `needs_of` meets its contract: before each turn the needs are those of the first i actions. Assumes nothing.
-use Prim.Native.Nat.{◌-◌}
 use native.Mathlib.Omega.{arith}
 use Rattle.move_logs.proofs.Needs.{needs_start, needs_fit, needs_read, needs_write}
 use Rattle.move_logs.proofs.needs_of.Goals as goal

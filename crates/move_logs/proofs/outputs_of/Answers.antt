@@ -1,5 +1,4 @@
 -- `outputs_of` meets its contract: before each turn the outputs are those of the first i actions. Assumes nothing.
-use Prim.Native.Nat.{◌-◌}
 use native.Mathlib.Omega.{arith}
 use Rattle.move_logs.proofs.Writes.{outputs_start, outputs_read, outputs_written}
 use Rattle.move_logs.proofs.outputs_of.Goals as goal

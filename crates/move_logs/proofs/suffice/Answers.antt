@@ -1,5 +1,4 @@
 -- `suffice` meets its contract: before each turn the reads among the first i actions were taken. Assumes nothing.
-use Prim.Native.Nat.{◌-◌}
 use native.Mathlib.Omega.{arith}
 use mathlib.Core.Path.{refl}
 use lib.ListN.{length-set}
@@ -10,7 +9,7 @@ pub loop-i-init : goal.loop-i-init
 loop-i-init c = (omega arith, search left_length, search leaves_start)
 
 pub returns-then-count-taken : goal.returns-then-count-taken
-returns-then-count-taken c =     let held = c.loop-i.invariant.2 in
+returns-then-count-taken c = let held = c.loop-i.invariant.2 in
     let taken = c.taken_by-taken.ensures in
     let size = c.args.size in
     left_none _ _ size _ _ _ _ held refl (omega arith) (omega arith) _ _ _ taken c.wide-channel.ensures refl _ (omega arith)

@@ -1,5 +1,4 @@
 -- `take_needs` meets its contract: before each turn the counts before this channel are lowered. Assumes nothing.
-use Prim.Native.Nat.{◌-◌}
 use native.Mathlib.Omega.{arith}
 use lib.ListN.{length-set}
 use Rattle.move_logs.proofs.NeedsAndCounts.{lowered_start, lowered_room, lowered_turn}

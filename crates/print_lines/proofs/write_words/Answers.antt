@@ -1,6 +1,5 @@
 -- Writing words meets its contract.
 -- Assumes nothing.
-use Prim.Native.Nat.{◌-◌}
 use Rattle.print_lines.proofs.NumberWords.{none_yet, space_fits, digits_fit, one_more}
 use Rattle.print_lines.proofs.write_words.Goals as goal
 

@@ -8,5 +8,5 @@ pub returns-then-input-gt-MAX_INPUT : goal.returns-then-input-gt-MAX_INPUT
 returns-then-input-gt-MAX_INPUT c = search long_written
 
 pub returns : goal.returns
-returns c =     run_written _ (search rules) c.shared_slice_known-1.given _ c.table_end-end.ensures _ _ _
+returns c = run_written _ (search rules) c.shared_slice_known-1.given _ c.table_end-end.ensures _ _ _
     c.print_run.ensures

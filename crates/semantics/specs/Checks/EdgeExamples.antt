@@ -15,7 +15,7 @@ use Rattle.semantics.specs.Definitions.Stored.{configuration_of}
 use Rattle.semantics.specs.Definitions.Shortage.{enough, short}
 use Rattle.semantics.specs.Definitions.Moves.{entry_answer, Effect, effect_of, Reply, moved_by, refused_by, as_reply}
 use Rattle.semantics.specs.Definitions.Run.{Counters, schedule, entries, schedule_bytes, run}
-use Rattle.semantics.specs.Definitions.Calls.{Verdict, check_table, check_hall, admission_verdict, Admission, not_admitted}
+use Rattle.semantics.specs.Definitions.Calls.{Verdict, check_table, admission_verdict, Admission, not_admitted}
 use Rattle.semantics.specs.Definitions.Calls.{form_tested, opened, not_opened, open_hall, open_verdict}
 use Rattle.semantics.specs.Definitions.Calls.{Buffers, run_call, Call, run_choices, after_calls, entries_done}
 use Rattle.semantics.specs.Definitions.Report.{printed_run}

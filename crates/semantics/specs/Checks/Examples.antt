@@ -14,11 +14,11 @@ use Prim.Native.String as Text
 use Prim.Native.String.{String}
 use Rattle.std.proofs.Math.Option.{Option, none, some}
 use Rattle.calculus.specs.Syntax.{rd, wt, State}
-use Rattle.calculus.specs.Reduction.{Rule, OUT, IN, REP, ATST, ATRE, ATFAIL, ATOK, ARDOK, ARDF, AWR, AOI, AOF, AOE}
+use Rattle.calculus.specs.Reduction.{Rule, OUT, ATST, ATFAIL, ATOK, ARDOK, ARDF, AWR, AOI, AOF, AOE}
 use Rattle.semantics.specs.Definitions.Basics.{All, count_up}
 use mathlib.Core.List.{flatten}
 use Rattle.semantics.specs.Definitions.Table.{TableAnswer, accepted, refused_at, read_table}
-use Rattle.semantics.specs.Definitions.Configuration.{Idle, taking, repeating, block, output, Configuration}
+use Rattle.semantics.specs.Definitions.Configuration.{Idle, taking, repeating, block, output}
 use Rattle.semantics.specs.Definitions.Moves.{Entry, act, inside, Transition, moved, refused, transition}
 use Rattle.semantics.specs.Definitions.Run.{Counters, schedule, entries, entry_bytes, steps}
 use Rattle.semantics.specs.Definitions.AtomicRun.{atomic_start, atomic_run}

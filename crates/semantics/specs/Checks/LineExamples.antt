@@ -2,7 +2,7 @@
 -- tray passed over and every kind of station. Proved in proofs/LineExamples.
 -- Assumes nothing.
 use Prim.Native.String.{String}
-use Rattle.std.specs.Prelude.{◌≡◌, List, [], ◌∷◌, map, ℤ, pos, negsuc}
+use Rattle.std.specs.Prelude.{◌≡◌, [], ◌∷◌, map, pos, negsuc}
 use Rattle.calculus.specs.Syntax.{rd}
 use Rattle.semantics.specs.Definitions.Terms.{Expression, end_t, rd_t, nil_t}
 use Rattle.semantics.specs.Definitions.Configuration.{taking, repeating, block, output, leaf, fork, idle, transaction, Configuration}

@@ -7,7 +7,7 @@ use Rattle.std.specs.Prelude.{ℕ, ◌≡◌, replicate}
 use Rattle.std.proofs.Math.Option.{none, some}
 use mathlib.Core.List.{List, [], ◌∷◌, ◌++◌, map, flatten}
 use Rattle.calculus.specs.Syntax.{rd, wt}
-use Rattle.calculus.specs.Reduction.{OUT, IN, REP, ATST, ATRE, ATFAIL, ATOK, ARDOK, ARDF, AWR, AOI, AOF, AOE}
+use Rattle.calculus.specs.Reduction.{IN, REP, ATST, ATRE, ATFAIL, ATOK, ARDOK, ARDF, AWR, AOI, AOE}
 use Rattle.semantics.specs.Definitions.Basics.{All, count_up}
 use Rattle.semantics.specs.Definitions.Shortage.{enough}
 use Rattle.semantics.specs.Definitions.Configuration.{output}

@@ -4,7 +4,7 @@
 use Rattle.std.specs.Prelude.{ℕ, ◌≡◌, List, [], ◌∷◌, ◌++◌}
 use Rattle.std.proofs.Math.Option.{some}
 use Rattle.calculus.specs.Syntax.{rd, wt}
-use Rattle.semantics.specs.Definitions.Terms.{Expression, end_t, retry_t, rd_t, wt_t, or_else_t, nil_t, take_t, repeat_t, atom_t, Term, process, expression}
+use Rattle.semantics.specs.Definitions.Terms.{end_t, retry_t, rd_t, wt_t, or_else_t, nil_t, take_t, repeat_t, atom_t, Term, process, expression}
 use Rattle.semantics.specs.Definitions.Configuration.{taking, repeating, block, output, Tree, leaf, fork, Component, idle, transaction, Configuration}
 use Rattle.semantics.specs.Definitions.Stored.{bytes_of, configuration_of}
 use Rattle.semantics.specs.Checks.Examples.{numbers, trays, hall_of, attempt, leaf_of}

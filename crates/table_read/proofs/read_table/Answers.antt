@@ -1,7 +1,6 @@
 -- `table_read::read_table` meets its contract: the loop's invariant is that reading on from the terms so far gives the
 -- table's answer; the measure is what is left of the table.
 -- Assumes nothing.
-use Prim.Native.Nat.{◌-◌}
 use Rattle.table_read.proofs.TableRead.{nothing_read, read_on, answered}
 use Rattle.table_read.proofs.read_table.Goals as goal
 

@@ -9,7 +9,7 @@ pub returns : goal.returns
 returns c =
     rw (c.breadth_in.ensures, c.length_in.ensures)
     (elim c.match-kind_at.branch [
-      in_default w ↦ rw w.p-is (low_measured _ _ _ c.requires _ c.kind_at.ensures (λ h. ⊎_elim (λ e. omega arith) (λ e. omega arith) h) (omega arith))
+      | in_default w ↦ rw w.p-is (low_measured _ _ _ c.requires _ c.kind_at.ensures (λ h. ⊎_elim (λ e. omega arith) (λ e. omega arith) h) (omega arith))
       | in_default-2 w ↦ rw w.p-is (high_measured _ _ _ c.requires _ c.kind_at.ensures (λ h. ⊎_elim (λ e. omega arith) (λ e. omega arith) h) (omega arith))
       | in-5 w ↦ rw w.p-is w.walk-p.ensures
     ])

@@ -1,6 +1,5 @@
 -- `make_turns` meets its contract: after each turn of the loop the stack and the hall are those of so many turns.
 -- Assumes nothing.
-use Prim.Native.Nat.{◌-◌}
 use native.Mathlib.Omega.{arith}
 use Rattle.hall_open.proofs.Processes.{inside}
 use Rattle.hall_open.proofs.Stack.{begun_made, can_turn, one_made, none_waits, all_made}

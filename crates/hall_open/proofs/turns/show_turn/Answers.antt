@@ -13,20 +13,20 @@ pub returns-then-before-eq0 : goal.returns-then-before-eq0
 returns-then-before-eq0 c = search past_shown
 
 pub turn-made-requires : goal.turn-made-requires
-turn-made-requires c =     can_show _ _ _ _ _ _ _ _ _ _ _ c.make_turns-before.ensures c.requires (omega arith) (search rules)
+turn-made-requires c = can_show _ _ _ _ _ _ _ _ _ _ _ c.make_turns-before.ensures c.requires (omega arith) (search rules)
 
 pub returns-then-made-at : goal.returns-then-made-at
 returns-then-made-at c = search nothing_shown
 
 pub bounds-laid-at : goal.bounds-laid-at
-bounds-laid-at c =     let room = room_shown _ _ _ _ _ _ _ _ _ _ _ c.make_turns-before.ensures c.requires (omega arith) (search rules) in omega arith
+bounds-laid-at c = let room = room_shown _ _ _ _ _ _ _ _ _ _ _ c.make_turns-before.ensures c.requires (omega arith) (search rules) in omega arith
 
 pub overflow_add-body : goal.overflow_add-body
-overflow_add-body c =     let room = room_shown _ _ _ _ _ _ _ _ _ _ _ c.make_turns-before.ensures c.requires (omega arith) (search rules) in record { fits = omega arith }
+overflow_add-body c = let room = room_shown _ _ _ _ _ _ _ _ _ _ _ c.make_turns-before.ensures c.requires (omega arith) (search rules) in record { fits = omega arith }
 
 pub bounds-laid-at-2 : goal.bounds-laid-at-2
-bounds-laid-at-2 c =     let room = room_shown _ _ _ _ _ _ _ _ _ _ _ c.make_turns-before.ensures c.requires (omega arith) (search rules) in omega arith
+bounds-laid-at-2 c = let room = room_shown _ _ _ _ _ _ _ _ _ _ _ c.make_turns-before.ensures c.requires (omega arith) (search rules) in omega arith
 
 pub returns : goal.returns
-returns c =     let room = room_shown _ _ _ _ _ _ _ _ _ _ _ c.make_turns-before.ensures c.requires (omega arith) (search rules) in
+returns c = let room = room_shown _ _ _ _ _ _ _ _ _ _ _ c.make_turns-before.ensures c.requires (omega arith) (search rules) in
     component_shown _ _ _ _ _ _ _ _ _ _ _ c.make_turns-before.ensures (search rules) _ _ _ _ _ _ c.turn-made.ensures (search rules) (omega arith) _ refl _ refl

@@ -26,21 +26,21 @@ overflow_add-leaf-3 c = let l =
     leaf_inside _ _ _ (commit_looks _ _ _ _ c.requires) in search rules
 
 pub needs_of-need-requires : goal.needs_of-need-requires
-needs_of-need-requires c =     let log = commit_looks _ _ _ _ c.requires in
+needs_of-need-requires c = let log = commit_looks _ _ _ _ c.requires in
     (log_few _ _ _ log _ c.wide-size.ensures, log_inside _ _ _ log _ c.wide-size.ensures)
 
 pub overflow_add-leaf-4 : goal.overflow_add-leaf-4
-overflow_add-leaf-4 c =     let l = leaf_inside _ _ _ (commit_looks _ _ _ _ c.requires) in search rules
+overflow_add-leaf-4 c = let l = leaf_inside _ _ _ (commit_looks _ _ _ _ c.requires) in search rules
 
 pub outputs_of-outputs-requires : goal.outputs_of-outputs-requires
-outputs_of-outputs-requires c =     let log = commit_looks _ _ _ _ c.requires in
+outputs_of-outputs-requires c = let log = commit_looks _ _ _ _ c.requires in
     (log_few _ _ _ log _ c.wide-size.ensures, log_inside _ _ _ log _ c.wide-size.ensures)
 
 pub take_needs-requires : goal.take_needs-requires
 take_needs-requires c = (search (counts_inside, commit_looks), search commit_within)
 
 pub overflow_mul-end : goal.overflow_mul-end
-overflow_mul-end c =     let log = commit_looks _ _ _ _ c.requires in
+overflow_mul-end c = let log = commit_looks _ _ _ _ c.requires in
     let l = outputs_few _ _ _ log _ c.wide-size.ensures _ c.outputs_of-outputs.ensures in search rules
 
 pub slice_bounds-bytes-end : goal.slice_bounds-bytes-end

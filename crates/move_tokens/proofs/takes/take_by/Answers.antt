@@ -1,6 +1,5 @@
 -- `take_by` meets its contract. Assumes nothing.
 use Rattle.move_tokens.proofs.TokenTakes.{take_position, take_body_inside, take_term_inside, laid_counted, laid_inside, take_channel_inside, take_some, can_replace_take, token_taken}
-use Prim.Native.Nat.{◌-◌}
 use native.Mathlib.Omega.{arith}
 use Rattle.move_tokens.proofs.takes.take_by.Goals as goal
 
@@ -23,19 +22,19 @@ pub bounds-hall-channel : goal.bounds-hall-channel
 bounds-hall-channel c = search take_channel_inside
 
 pub overflow_sub-hall : goal.overflow_sub-hall
-overflow_sub-hall c =     let some = take_some _ _ _ _ _ _ _ _ c.wide.ensures c.first_at.ensures c.wide-channel.ensures c.requires.can_take in omega arith
+overflow_sub-hall c = let some = take_some _ _ _ _ _ _ _ _ c.wide.ensures c.first_at.ensures c.wide-channel.ensures c.requires.can_take in omega arith
 
 pub bounds-hall-channel-2 : goal.bounds-hall-channel-2
 bounds-hall-channel-2 c = search take_channel_inside
 
 pub slice_bounds-replace_component-end : goal.slice_bounds-replace_component-end
-slice_bounds-replace_component-end c =     laid_inside _ _ _ _ _ c.requires.can_take _ _ c.write_successors-end.ensures
+slice_bounds-replace_component-end c = laid_inside _ _ _ _ _ c.requires.can_take _ _ c.write_successors-end.ensures
 
 pub slice_bounds-replace_component-end-2 : goal.slice_bounds-replace_component-end-2
-slice_bounds-replace_component-end-2 c =     laid_counted _ _ _ _ _ c.requires.can_take _ _ c.write_successors-end.ensures
+slice_bounds-replace_component-end-2 c = laid_counted _ _ _ _ _ c.requires.can_take _ _ c.write_successors-end.ensures
 
 pub replace_component-requires : goal.replace_component-requires
-replace_component-requires c =     can_replace_take _ _ _ _ _ _ _ _ c.wide.ensures c.first_at.ensures c.wide-channel.ensures c.requires.can_take _ _ c.write_successors-end.ensures
+replace_component-requires c = can_replace_take _ _ _ _ _ _ _ _ c.wide.ensures c.first_at.ensures c.wide-channel.ensures c.requires.can_take _ _ c.write_successors-end.ensures
 
 pub returns : goal.returns
 returns c = search token_taken

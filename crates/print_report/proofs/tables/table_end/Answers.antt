@@ -1,6 +1,5 @@
 -- Finding the end of an input's table meets its contract.
 -- Assumes nothing.
-use Prim.Native.Nat.{◌-◌}
 use Rattle.print_report.proofs.TableParts.{start_reached, stepped_over, ended, unknown, cut_short}
 use Rattle.print_report.proofs.tables.table_end.Goals as goal
 

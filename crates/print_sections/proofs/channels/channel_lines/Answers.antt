@@ -1,6 +1,5 @@
 -- Printing the lines of all channels meets its contract.
 -- Assumes nothing.
-use Prim.Native.Nat.{◌-◌}
 use Rattle.print_sections.proofs.ChannelLines.{no_channel, channel_more}
 use Rattle.print_sections.proofs.channels.channel_lines.Goals as goal
 

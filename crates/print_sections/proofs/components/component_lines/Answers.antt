@@ -1,6 +1,5 @@
 -- Printing the lines of all components meets its contract.
 -- Assumes nothing.
-use Prim.Native.Nat.{◌-◌}
 use Rattle.print_sections.proofs.ComponentLines.{no_component, component_more, all_components}
 use Rattle.print_sections.proofs.components.component_lines.Goals as goal
 

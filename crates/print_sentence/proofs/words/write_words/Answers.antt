@@ -12,12 +12,12 @@ slice_bounds-write_text-count c = search (part_ordered, rules)
 
 pub write_text-requires : goal.write_text-requires
 unfolding phrases flatten
-write_text-requires c =     part_fits c.args.entry _ _ c.requires.0 c.start_of-from.ensures c.start_of-end.ensures _ refl _ _
+write_text-requires c = part_fits c.args.entry _ _ c.requires.0 c.start_of-from.ensures c.start_of-end.ensures _ refl _ _
     c.requires.1
 
 pub returns : goal.returns
 unfolding phrases flatten
-returns c =     part_written c.args.entry _ _ c.requires.0 c.start_of-from.ensures c.start_of-end.ensures _ refl _ _
+returns c = part_written c.args.entry _ _ c.requires.0 c.start_of-from.ensures c.start_of-end.ensures _ refl _ _
     _ _ c.write_text.ensures
 
 pub slice_bounds-write_text-start : goal.slice_bounds-write_text-start
