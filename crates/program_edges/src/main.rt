@@ -14,10 +14,10 @@ mod calls;
 use buffer::{byte_at, wide};
 use print_report::OUTPUT;
 use std::io;
-use std::io::{BufWriter, Input, Read, Write};
+use std::io::{Input, Write};
 
 // No list is longer.
-const TEXT: u64 = 65536;
+const TEXT: usize = 65536;
 
 // No line has more bytes.
 pub const BYTES: usize = 16400;
@@ -256,9 +256,7 @@ fn run_list(out: &mut impl Write, text: &[u8]) -> io::Result<()> {
 }
 
 fn main(rt: HostRuntime) -> io::Result<()> {
-    let mut text = Vec::new(rt.alloc());
-    rt.reader().take(TEXT).read_to_end(&mut text)?;
-    let mut out = BufWriter::new(rt.alloc(), io::writer(&rt))?;
-    run_list(&mut out, &text)?;
-    out.flush()
+    let mut text = [0u8; TEXT];
+    let n = program_stdin::read_full(&mut rt.reader(), &mut text)?;
+    run_list(&mut io::writer(&rt), &text[..n])
 }

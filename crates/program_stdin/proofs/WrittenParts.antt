@@ -1,9 +1,7 @@
 -- What was written from the first byte on is printed whole, and what is read of an input prints as all of it.
 -- Assumes nothing.
-use Rattle.std.proofs.Common.{◌≡◌, ◌∙◌, ℕ, ◌+◌, true, false, ltb, List, ◌++◌, length, take, drop, Option, None, Some, IfSome, option_map, [], OnOk, Result, ap, refl, subst, arith, length-take-le}
+use Rattle.std.proofs.Common.{◌≡◌, ◌∙◌, ℕ, ◌+◌, true, false, ltb, List, length, take, drop, Option, None, Some, IfSome, OnOk, Result, ap, refl, subst, arith, length-take-le}
 use Rattle.std.specs.Io.KnownBytes.{Appends}
-use Rattle.std.specs.Io.Take.{take_limit, take_inner, take_remaining}
-use Rattle.std.specs.declared.io.traits.Take.{Take}
 use Rattle.std.proofs.Math.Seq.{take-length, take-append_seam}
 use Rattle.std.proofs.lemmas.Result.{on_ok_weaker}
 use Rattle.std.proofs.lemmas.List.{take_all}
@@ -33,13 +31,9 @@ printed_cut bs = elim (ltb (max_input + 1) (length bs)) as (λ b. ltb (max_input
 ] refl
 
 -- what the reader has up to the limit is printed, and so all that it has
-pub replayed : {R T E : Type 0} {i : R} {none new items text : List ℕ} (r : Result T E) (before after : Option (List ℕ)) (remaining : R → Option (List ℕ)) (t : Take R) →
-    take_limit t ≡ max_input + 1 → take_inner t ≡ i → none ≡ [] → IfSome (take_remaining remaining t) (λ xs. new ≡ none ++ xs) →
-    items ≡ new → text ≡ printed_run items →
-    OnOk r (Appends before after text) → OnOk r (IfSome (remaining i) (λ bytes. Appends before after (printed_run bytes)))
-replayed {i} {none} {new} {items} {text} r before after remaining t l e z = rw (l, e, z) (go (remaining i))
-  where
-    go : (o : Option (List ℕ)) → IfSome (option_map (take (max_input + 1)) o) (λ xs. new ≡ [] ++ xs) → items ≡ new → text ≡ printed_run items →
-        OnOk r (Appends before after text) → OnOk r (IfSome o (λ bytes. Appends before after (printed_run bytes)))
-    go None x y w = on_ok_weaker r (λ _. tt)
-    go (Some xs) x y w = on_ok_weaker r (λ a. subst (Appends before after) (w ∙ ap printed_run (y ∙ x) ∙ printed_cut xs) a)
+pub replayed : {T E : Type 0} (r : Result T E) (before after known : Option (List ℕ)) (size : ℕ) (items text : List ℕ) →
+    IfSome known (λ xs. items ≡ take size xs) → text ≡ printed_run items → OnOk r (Appends before after text) →
+    size ≡ max_input + 1 → OnOk r (IfSome known (λ bytes. Appends before after (printed_run bytes)))
+replayed r before after None size items text e z a l = on_ok_weaker r (λ _. tt) a
+replayed r before after (Some xs) size items text e z a l =
+    on_ok_weaker r (λ b. subst (Appends before after) (z ∙ ap printed_run (e ∙ ap (λ n. take n xs) l) ∙ printed_cut xs) b) a

@@ -7,35 +7,58 @@
 // more. `replay_from` does the same between any reader and any writer, whose bytes its contract names.
 #![tactic(auto)]
 
-ghost use Rattle.std.specs.Prelude.{OnOk, IfSome};
+ghost use Rattle.std.specs.Prelude.{◌≡◌, ◌+◌, ◌≤◌, length, take, IfOk, OnOk, IfSome};
 ghost use Rattle.std.specs.Io.KnownBytes.{Appends};
+ghost use Rattle.semantics.specs.Definitions.Layout.{max_input};
 ghost use Rattle.semantics.specs.Definitions.Report.{printed_run};
 
 use print_report::{MAX_INPUT, OUTPUT};
-use std::alloc::Global;
 use std::io;
 use std::io::{Input, Read, Write};
 
 // One byte more than the longest input that is run.
-const READ: u64 = MAX_INPUT as u64 + 1;
+const READ: usize = MAX_INPUT + 1;
 
-// Appends the printed run of all that the reader has to what the writer holds. After an error, of reading, of memory or
-// of writing, some of it may be written.
-pub fn replay_from<I: Read + Drop, O: Write>(
-    alloc: Global,
-    input: I,
-    output: &mut O,
-) -> io::Result<()>
-    ensures { OnOk result (IfSome (I.remaining input)
-        (λ bytes. Appends (O.contents output.old) (O.contents output.new) (printed_run bytes))) }
+// Reads until the buffer is full or the reader has no more, however many bytes come at a time. The answer is how many
+// bytes were read. After an error some of the buffer may be written.
+pub fn read_full<I: Read>(input: &mut I, buffer: &mut [u8]) -> io::Result<usize>
+    ensures count { IfOk result (λ n. n ≤ length buffer.new) }
+    ensures bytes { IfOk result (λ n. IfSome (I.remaining input.old)
+        (λ xs. take n buffer.new ≡ take (length buffer.old) xs)) }
 {
-    let mut bytes = Vec::new(alloc);
-    input.take(READ).read_to_end(&mut bytes)?;
+    let mut n = 0;
+    while n < buffer.len() {
+        let some = input.read(&mut buffer[n..])?;
+        if some == 0 {
+            return Ok(n);
+        }
+        n += some;
+    }
+    Ok(n)
+}
+
+// The same as `replay_from`, by way of a lent buffer.
+fn replay_by<I: Read, O: Write>(input: &mut I, bytes: &mut [u8], output: &mut O) -> io::Result<()>
+    requires { length bytes.old ≡ max_input + 1 }
+    ensures { OnOk result (IfSome (I.remaining input.old)
+        (λ known. Appends (O.contents output.old) (O.contents output.new) (printed_run known))) }
+{
+    let n = read_full(input, bytes)?;
     let mut text = [0u8; OUTPUT];
-    let length = print_report::report(&bytes, &mut text);
+    let length = print_report::report(&bytes[..n], &mut text);
     output.write_all(&text[..length])
 }
 
-pub fn replay(rt: &(impl Input + Print + AllocGlobal)) -> io::Result<()> {
-    replay_from(rt.alloc(), rt.reader(), &mut io::writer(rt))
+// Appends the printed run of all that the reader has to what the writer holds. After an error, of reading or of writing,
+// some of it may be written.
+pub fn replay_from<I: Read, O: Write>(input: &mut I, output: &mut O) -> io::Result<()>
+    ensures { OnOk result (IfSome (I.remaining input.old)
+        (λ known. Appends (O.contents output.old) (O.contents output.new) (printed_run known))) }
+{
+    let mut bytes = [0u8; READ];
+    replay_by(input, &mut bytes, output)
+}
+
+pub fn replay(rt: &(impl Input + Print)) -> io::Result<()> {
+    replay_from(&mut rt.reader(), &mut io::writer(rt))
 }
