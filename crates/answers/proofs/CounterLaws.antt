@@ -1,8 +1,8 @@
 -- Laws of a counter that rises, one for each way on which the code goes, and of the three together.
 -- Assumes nothing.
-use Prim.Native.Nat.{ℕ, ◌+◌, ◌≤◌}
+use Prim.Native.Nat.{ℕ, ◌+◌, ◌<◌, min}
 use native.Mathlib.Omega.{arith}
-use mathlib.Core.Path.{◌≡◌, sym, ap}
+use mathlib.Core.Path.{◌≡◌, sym, ap, ◌∙◌}
 use mathlib.Core.List.{[]}
 use borrow.Author.Tests.{eq-eqb, ne_eqb}
 use Rattle.calculus.specs.Reduction.{Rule, ATRE, ATFAIL, ATOK}
@@ -14,19 +14,15 @@ use Rattle.answers.specs.Answers.{counters_of, counted_by}
 -- ---- one counter
 
 module _ (counts rule counter : ℕ) where
-  -- another rule, the top, one more
-  pub raised_not : (rule ≡ counts → ⊥) → counter ≡ counted_at counts rule counter
+  -- another rule, or one more up to the top
+  pub raised_not : (n : ℕ) → n ≡ counts → (rule ≡ n → ⊥) → counter ≡ counted_at counts rule counter
   unfolding counted_at
-  raised_not h = rw (ne_eqb rule counts h)
+  raised_not n e h = rw (ne_eqb rule counts (λ q. h (q ∙ sym e)))
 
-  pub raised_stays : rule ≡ counts → counter ≡ 4294967295 → 4294967295 ≡ counted_at counts rule counter
+  pub raised_one : (n : ℕ) → n ≡ counts → rule ≡ n → (r : ℕ) → r ≡ min (counter + 1) 4294967295 →
+      counter < 4294967296 → r ≡ counted_at counts rule counter
   unfolding counted_at saturating_suc
-  raised_stays h e = rw (eq-eqb rule counts h) (omega arith)
-
-  pub raised_one : rule ≡ counts → (counter ≡ 4294967295 → ⊥) → counter ≤ 4294967295 →
-      counter + 1 ≡ counted_at counts rule counter
-  unfolding counted_at saturating_suc
-  raised_one h e l = rw (eq-eqb rule counts h) (omega arith)
+  raised_one n e h r q l = rw (q, eq-eqb rule counts (h ∙ e)) (omega arith)
 
 -- ---- the three
 

@@ -4,118 +4,105 @@ use Prim.Native.Nat.{ℕ}
 use native.Mathlib.Omega.{arith}
 use mathlib.Core.Path.{◌≡◌, refl, ap}
 use mathlib.Core.List.{List}
+use Rattle.std.specs.Prelude.{◌<◌, Some, None, Result, Ok, Err, IfErr, ⊤}
 use Rattle.answers.specs.declared.choices.Entry.{Entry}
 use Rattle.answers.specs.declared.choices.Entry.TheVariants as entry
-use Rattle.answers.specs.declared.replies.Shortage.TheVariants.{Enough, Short}
-use Rattle.answers.specs.declared.replies.Reply.TheVariants as reply
+use Rattle.answers.specs.declared.refusals.Reason.{Reason}
+use Rattle.answers.specs.declared.refusals.Refusal.{Refusal}
+use Rattle.answers.specs.declared.replies.Move.{Move}
 use Rattle.answers.specs.declared.tallies.Counters.{Counters}
-use Rattle.answers.specs.declared.tables.TableVerdict.TheVariants as table
-use Rattle.answers.specs.declared.halls.HallVerdict.TheVariants as verdict
-use Rattle.answers.specs.declared.openings.OpenAnswer.{OpenAnswer}
-use Rattle.answers.specs.declared.openings.OpenAnswer.TheVariants as answer
-use Rattle.answers.specs.declared.runs.RunAnswer.{RunAnswer}
-use Rattle.answers.specs.declared.runs.RunAnswer.TheVariants.{Completed, Refused}
-use Rattle.answers.specs.declared.steps.StepAnswer.{StepAnswer}
-use Rattle.answers.specs.declared.steps.StepAnswer.TheVariants as step
-use Rattle.answers.specs.declared.suggestions.SuggestAnswer.TheVariants as suggest
-use Rattle.answers.specs.declared.sentences.SentenceAnswer.{SentenceAnswer}
-use Rattle.answers.specs.declared.sentences.SentenceAnswer.TheVariants as sentence
-use Rattle.answers.specs.Answers.{shortage_of, reply_of, verdict_of, hall_verdict_of, open_answer_of, buffers_of, run_call_of, RunCaseDecided, step_call_of, StepCaseDecided, entry_of, suggest_answer_of, sentence_answer_of}
-use Rattle.answers.specs.Claims.{ShortagesDiffer, RepliesDiffer, VerdictInjective, HallVerdictInjective, OpeningInjective, RunAnswerInjective, StepInjective, SuggestionInjective, SentenceCallInjective}
+use Rattle.answers.specs.declared.steps.Step.{Step}
+use Rattle.answers.specs.Answers.{reason_number, number_of_rule, shortage_of, reply_of, verdict_of, open_answer_of, buffers_of, outcome_number, step_call_of, StepCaseDecided, entry_of, suggest_answer_of, sentence_answer_of}
+use Rattle.answers.specs.Claims.{ShortagesDiffer, RepliesDiffer, VerdictInjective, OpeningInjective, RunAnswerInjective, StepInjective, SuggestionInjective, SentenceCallInjective}
+use Rattle.answers.proofs.Numbers.{reasons_differ, rules_differ}
 use Rattle.answers.proofs.CounterLaws.{counters_injective}
+
+-- ---- a refusal
+
+refusals_differ : (e f : Refusal) → reason_number e.reason ≡ reason_number f.reason → e.place ≡ f.place → e ≡ f
+refusals_differ e f n p = let r = reasons_differ e.reason f.reason n in λ i. record { reason = r i; place = p i }
 
 -- ---- the reply to a choice
 
 pub shortages_differ : ShortagesDiffer
 unfolding shortage_of
-shortages_differ Enough Enough e = refl
-shortages_differ Enough (Short b m) e = absurd (let z : ◌≡◌ {A = ℕ} 0 1 = cc in omega arith)
-shortages_differ (Short a k) Enough e = absurd (let z : ◌≡◌ {A = ℕ} 0 1 = cc in omega arith)
-shortages_differ (Short a k) (Short b m) e = cc
+shortages_differ None None e = refl
+shortages_differ None (Some t) e = absurd (let z : ◌≡◌ {A = ℕ} 0 1 = cc in omega arith)
+shortages_differ (Some s) None e = absurd (let z : ◌≡◌ {A = ℕ} 0 1 = cc in omega arith)
+shortages_differ (Some s) (Some t) e =
+    let tray : s.channel ≡ t.channel = cc in
+    let number : s.by ≡ t.by = cc in
+    λ i. Some (record { channel = tray i; by = number i })
+
+moves_differ : (m o : Move) → number_of_rule m.rule ≡ number_of_rule o.rule → shortage_of m.short ≡ shortage_of o.short → m ≡ o
+moves_differ m o r w =
+    let rule = rules_differ m.rule o.rule r in
+    let same = shortages_differ m.short o.short w in
+    λ i. record { rule = rule i; short = same i }
 
 pub replies_differ : RepliesDiffer
 unfolding reply_of
-replies_differ (reply.Moved r v) (reply.Moved q w) e =
-    let rule : r ≡ q = cc in
-    let same : v ≡ w = shortages_differ v w (cc) in
-    rw (rule, same)
-replies_differ (reply.Moved r w) (reply.Refused n) e = absurd (let z : ◌≡◌ {A = ℕ} 0 1 = cc in omega arith)
-replies_differ (reply.Refused n) (reply.Moved r w) e = absurd (let z : ◌≡◌ {A = ℕ} 0 1 = cc in omega arith)
-replies_differ (reply.Refused n) (reply.Refused m) e = cc
+replies_differ (Ok m) (Ok o) e = ap Ok (moves_differ m o (cc) (cc))
+replies_differ (Ok m) (Err f) e = absurd (let z : ◌≡◌ {A = ℕ} 0 1 = cc in omega arith)
+replies_differ (Err f) (Ok m) e = absurd (let z : ◌≡◌ {A = ℕ} 0 1 = cc in omega arith)
+replies_differ (Err f) (Err g) e = ap Err (reasons_differ f g (cc))
 
 -- ---- a table, a hall, an opening
 
 pub verdict_injective : VerdictInjective
 unfolding verdict_of
-verdict_injective table.Accepted table.Accepted e = refl
-verdict_injective table.Accepted (table.Refused n p) e = absurd (let z : ◌≡◌ {A = ℕ} 0 1 = cc in omega arith)
-verdict_injective (table.Refused n p) table.Accepted e = absurd (let z : ◌≡◌ {A = ℕ} 0 1 = cc in omega arith)
-verdict_injective (table.Refused n p) (table.Refused m q) e = cc
+verdict_injective (Ok x) (Ok y) e = refl
+verdict_injective (Ok x) (Err f) e = absurd (let z : ◌≡◌ {A = ℕ} 0 1 = cc in omega arith)
+verdict_injective (Err f) (Ok x) e = absurd (let z : ◌≡◌ {A = ℕ} 0 1 = cc in omega arith)
+verdict_injective (Err f) (Err g) e = ap Err (refusals_differ f g (cc) (cc))
 
-pub hall_verdict_injective : HallVerdictInjective
-unfolding hall_verdict_of
-hall_verdict_injective verdict.WellFormed verdict.WellFormed e = refl
-hall_verdict_injective verdict.WellFormed (verdict.Refused n p) e = absurd (let z : ◌≡◌ {A = ℕ} 0 1 = cc in omega arith)
-hall_verdict_injective (verdict.Refused n p) verdict.WellFormed e = absurd (let z : ◌≡◌ {A = ℕ} 0 1 = cc in omega arith)
-hall_verdict_injective (verdict.Refused n p) (verdict.Refused m q) e = cc
-
-open_answer_injective : (a b : OpenAnswer) → open_answer_of a ≡ open_answer_of b → a ≡ b
+open_answer_injective : (a b : Result Counters Refusal) → open_answer_of a ≡ open_answer_of b → a ≡ b
 unfolding open_answer_of
-open_answer_injective (answer.Opened c) (answer.Opened d) e = ap answer.Opened (counters_injective c d (cc))
-open_answer_injective (answer.Opened c) (answer.Refused n p) e = absurd (let z : ◌≡◌ {A = ℕ} 0 1 = cc in omega arith)
-open_answer_injective (answer.Refused n p) (answer.Opened c) e = absurd (let z : ◌≡◌ {A = ℕ} 0 1 = cc in omega arith)
-open_answer_injective (answer.Refused n p) (answer.Refused m q) e = cc
+open_answer_injective (Ok c) (Ok d) e = ap Ok (counters_injective c d (cc))
+open_answer_injective (Ok c) (Err f) e = absurd (let z : ◌≡◌ {A = ℕ} 0 1 = cc in omega arith)
+open_answer_injective (Err f) (Ok c) e = absurd (let z : ◌≡◌ {A = ℕ} 0 1 = cc in omega arith)
+open_answer_injective (Err f) (Err g) e = ap Err (refusals_differ f g (cc) (cc))
 
 pub opening_injective : OpeningInjective
 opening_injective a b x y e = (open_answer_injective a b (ap (λ o. o.answer) e), ap (λ o. o.hall) e)
 
 -- ---- a run
 
-run_cases : (a b : RunAnswer) (x y : List ℕ) → RunCaseDecided a → RunCaseDecided b → run_call_of a x ≡ run_call_of b y →
-    a ≡ b
-run_cases (Completed p d c) (Completed q k v) x y l m e =
-    let place : p ≡ q = ap (λ r. r.place) e in
-    let done : d ≡ k = ap (λ r. r.done) e in
-    rw (place, done, counters_injective c v (ap (λ r. r.buffers.counters) e))
-run_cases (Completed p d c) (Refused n q k v) x y l m e =
-    absurd (let z : 0 ≡ n = ap (λ r. r.number) e in omega arith)
-run_cases (Refused n p d c) (Completed q k v) x y l m e =
-    absurd (let z : n ≡ 0 = ap (λ r. r.number) e in omega arith)
-run_cases (Refused n p d c) (Refused j q k v) x y l m e =
-    let number : n ≡ j = ap (λ r. r.number) e in
-    let place : p ≡ q = ap (λ r. r.place) e in
-    let done : d ≡ k = ap (λ r. r.done) e in
-    rw (number, place, done, counters_injective c v (ap (λ r. r.buffers.counters) e))
+outcomes_differ : (a b : Result ⊤ Reason) → IfErr a (λ e. 0 < reason_number e) → IfErr b (λ e. 0 < reason_number e) →
+    outcome_number a ≡ outcome_number b → a ≡ b
+unfolding outcome_number
+outcomes_differ (Ok x) (Ok y) l m e = refl
+outcomes_differ (Ok x) (Err g) l m e = absurd (omega arith)
+outcomes_differ (Err f) (Ok y) l m e = absurd (omega arith)
+outcomes_differ (Err f) (Err g) l m e = ap Err (reasons_differ f g e)
 
 pub run_answer_injective : RunAnswerInjective
-run_answer_injective a b x y l m e = (run_cases a b x y l m e, halls a b e)
-  where
-    halls : (a b : RunAnswer) → run_call_of a x ≡ run_call_of b y → x ≡ y
-    halls (Completed p d c) (Completed q k v) e = ap (λ r. r.buffers.hall) e
-    halls (Completed p d c) (Refused n q k v) e = ap (λ r. r.buffers.hall) e
-    halls (Refused n p d c) (Completed q k v) e = ap (λ r. r.buffers.hall) e
-    halls (Refused n p d c) (Refused j q k v) e = ap (λ r. r.buffers.hall) e
+run_answer_injective a b x y l m e =
+    let outcome = outcomes_differ a.outcome b.outcome l m (ap (λ r. r.number) e) in
+    let place : a.place ≡ b.place = ap (λ r. r.place) e in
+    let done : a.done ≡ b.done = ap (λ r. r.done) e in
+    let counters = counters_injective a.counters b.counters (ap (λ r. r.buffers.counters) e) in
+    (λ i. record { outcome = outcome i; place = place i; done = done i; counters = counters i }, ap (λ r. r.buffers.hall) e)
 
 -- ---- a step
 
-module _ (t : Counters) (x y : List ℕ) where
-  step_cases : (a b : StepAnswer) → StepCaseDecided a → StepCaseDecided b →
-      step_call_of a (buffers_of x t) ≡ step_call_of b (buffers_of y t) → a ≡ b
-  step_cases (step.Moved r v p c) (step.Moved s w q d) l m e =
-      let rule : r ≡ s = ap (λ o. o.rule) e in
-      let lacks : v ≡ w = shortages_differ v w (ap (λ o. o.shortage) e) in
-      let place : p ≡ q = ap (λ o. o.place) e in
-      rw (rule, lacks, place, counters_injective c d (ap (λ o. o.buffers.counters) e))
-  step_cases (step.Moved r v p c) (step.Refused n q) l m e = absurd (let z : 0 ≡ n = ap (λ o. o.number) e in omega arith)
-  step_cases (step.Refused n p) (step.Moved r w q c) l m e = absurd (let z : n ≡ 0 = ap (λ o. o.number) e in omega arith)
-  step_cases (step.Refused n p) (step.Refused k q) l m e =
-      let number : n ≡ k = ap (λ o. o.number) e in let place : p ≡ q = ap (λ o. o.place) e in rw (number, place)
+step_cases : (t : Counters) (x y : List ℕ) (a b : Result Step Refusal) → StepCaseDecided a → StepCaseDecided b →
+    step_call_of a (buffers_of x t) ≡ step_call_of b (buffers_of y t) → a ≡ b
+step_cases t x y (Ok s) (Ok u) l m e =
+    let made = moves_differ s.made u.made (ap (λ c. c.rule) e) (ap (λ c. c.shortage) e) in
+    let place : s.place ≡ u.place = ap (λ c. c.place) e in
+    let counters = counters_injective s.counters u.counters (ap (λ c. c.buffers.counters) e) in
+    λ i. Ok (record { made = made i; place = place i; counters = counters i })
+step_cases t x y (Ok s) (Err g) l m e = absurd (let z : 0 ≡ reason_number g.reason = ap (λ c. c.number) e in omega arith)
+step_cases t x y (Err f) (Ok u) l m e = absurd (let z : reason_number f.reason ≡ 0 = ap (λ c. c.number) e in omega arith)
+step_cases t x y (Err f) (Err g) l m e = ap Err (refusals_differ f g (ap (λ c. c.number) e) (ap (λ c. c.place) e))
 
-  step_hall : (a b : StepAnswer) → step_call_of a (buffers_of x t) ≡ step_call_of b (buffers_of y t) → x ≡ y
-  step_hall (step.Moved r v p c) (step.Moved s w q d) e = ap (λ o. o.buffers.hall) e
-  step_hall (step.Moved r v p c) (step.Refused n q) e = ap (λ o. o.buffers.hall) e
-  step_hall (step.Refused n p) (step.Moved r w q c) e = ap (λ o. o.buffers.hall) e
-  step_hall (step.Refused n p) (step.Refused k q) e = ap (λ o. o.buffers.hall) e
+step_hall : (t : Counters) (x y : List ℕ) (a b : Result Step Refusal) →
+    step_call_of a (buffers_of x t) ≡ step_call_of b (buffers_of y t) → x ≡ y
+step_hall t x y (Ok s) (Ok u) e = ap (λ c. c.buffers.hall) e
+step_hall t x y (Ok s) (Err g) e = ap (λ c. c.buffers.hall) e
+step_hall t x y (Err f) (Ok u) e = ap (λ c. c.buffers.hall) e
+step_hall t x y (Err f) (Err g) e = ap (λ c. c.buffers.hall) e
 
 pub step_injective : StepInjective
 step_injective t x y a b l m e = (step_cases t x y a b l m e, step_hall t x y a b e)
@@ -130,23 +117,23 @@ entry_injective (entry.Inside p j) (entry.Inside q k) e = cc
 
 pub suggestion_injective : SuggestionInjective
 unfolding suggest_answer_of
-suggestion_injective (suggest.Suggested o) (suggest.Suggested u) e = ap suggest.Suggested (entry_injective o u (cc))
-suggestion_injective (suggest.Suggested o) suggest.Still e = absurd (let z : ◌≡◌ {A = ℕ} 0 1 = cc in omega arith)
-suggestion_injective (suggest.Suggested o) (suggest.Refused n p) e = absurd (let z : ◌≡◌ {A = ℕ} 0 1 = cc in omega arith)
-suggestion_injective suggest.Still (suggest.Suggested o) e = absurd (let z : ◌≡◌ {A = ℕ} 0 1 = cc in omega arith)
-suggestion_injective suggest.Still suggest.Still e = refl
-suggestion_injective suggest.Still (suggest.Refused n p) e = absurd (let z : ◌≡◌ {A = ℕ} 0 1 = cc in omega arith)
-suggestion_injective (suggest.Refused n p) (suggest.Suggested o) e = absurd (let z : ◌≡◌ {A = ℕ} 0 1 = cc in omega arith)
-suggestion_injective (suggest.Refused n p) suggest.Still e = absurd (let z : ◌≡◌ {A = ℕ} 0 1 = cc in omega arith)
-suggestion_injective (suggest.Refused n p) (suggest.Refused m q) e = cc
+suggestion_injective (Ok (Some o)) (Ok (Some u)) e = ap (λ x. Ok (Some x)) (entry_injective o u (cc))
+suggestion_injective (Ok (Some o)) (Ok None) e = absurd (let z : ◌≡◌ {A = ℕ} 0 1 = cc in omega arith)
+suggestion_injective (Ok (Some o)) (Err f) e = absurd (let z : ◌≡◌ {A = ℕ} 0 1 = cc in omega arith)
+suggestion_injective (Ok None) (Ok (Some u)) e = absurd (let z : ◌≡◌ {A = ℕ} 0 1 = cc in omega arith)
+suggestion_injective (Ok None) (Ok None) e = refl
+suggestion_injective (Ok None) (Err f) e = absurd (let z : ◌≡◌ {A = ℕ} 0 1 = cc in omega arith)
+suggestion_injective (Err f) (Ok (Some u)) e = absurd (let z : ◌≡◌ {A = ℕ} 0 1 = cc in omega arith)
+suggestion_injective (Err f) (Ok None) e = absurd (let z : ◌≡◌ {A = ℕ} 0 1 = cc in omega arith)
+suggestion_injective (Err f) (Err g) e = ap Err (refusals_differ f g (cc) (cc))
 
 -- ---- a sentence
 
-sentence_answer_injective : (a b : SentenceAnswer) → sentence_answer_of a ≡ sentence_answer_of b → a ≡ b
-sentence_answer_injective (sentence.Told n) (sentence.Told m) e = cc
-sentence_answer_injective (sentence.Told n) (sentence.Refused m q) e = absurd (let z : ◌≡◌ {A = ℕ} 0 1 = cc in omega arith)
-sentence_answer_injective (sentence.Refused n p) (sentence.Told m) e = absurd (let z : ◌≡◌ {A = ℕ} 0 1 = cc in omega arith)
-sentence_answer_injective (sentence.Refused n p) (sentence.Refused m q) e = cc
+sentence_answer_injective : (a b : Result ℕ Refusal) → sentence_answer_of a ≡ sentence_answer_of b → a ≡ b
+sentence_answer_injective (Ok n) (Ok m) e = cc
+sentence_answer_injective (Ok n) (Err f) e = absurd (let z : ◌≡◌ {A = ℕ} 0 1 = cc in omega arith)
+sentence_answer_injective (Err f) (Ok m) e = absurd (let z : ◌≡◌ {A = ℕ} 0 1 = cc in omega arith)
+sentence_answer_injective (Err f) (Err g) e = ap Err (refusals_differ f g (cc) (cc))
 
 pub sentence_call_injective : SentenceCallInjective
 sentence_call_injective a b x y e = (sentence_answer_injective a b (ap (λ c. c.answer) e), ap (λ c. c.buffer) e)

@@ -1,3 +1,4 @@
+pub mod Numbers
 pub mod CounterLaws
 pub mod Cases
 pub mod TurnCases

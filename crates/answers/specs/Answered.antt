@@ -1,7 +1,7 @@
 -- How a call answers C: the returned number, and all else that was set. A tally is three numbers, a suggestion three
 -- bytes, a shortage and a station just laid down two.
 -- Assumes nothing.
-use Rattle.std.specs.Prelude.{ℕ, ◌≡◌, Bool, not, ◌&&◌, List, [], ◌∷◌, get_or, eqb}
+use Rattle.std.specs.Prelude.{ℕ, ◌≡◌, Bool, not, ◌&&◌, List, [], ◌∷◌, get_or, eqb, Option, Result}
 use Rattle.std.proofs.Math.Option.{none, some}
 use Rattle.semantics.specs.Definitions.Shortage.{Shortage, enough, short}
 use Rattle.semantics.specs.Definitions.Moves.{Entry, act, inside, Reply}
@@ -13,12 +13,12 @@ use Rattle.semantics.specs.Definitions.Turns.{TurnAnswer, lays, past_end, not_tu
 use Rattle.semantics.specs.Claims.Turns.{left_by}
 use Rattle.semantics.specs.Definitions.Suggestion.{SuggestAnswer, suggested, still, not_suggested}
 use Rattle.semantics.specs.Definitions.Sentence.{SentenceAnswer, told, not_told, SentenceCall}
+use Rattle.answers.specs.declared.refusals.Refusal.{Refusal}
 use Rattle.answers.specs.declared.tallies.Counters as tallies
-use Rattle.answers.specs.declared.turns.TurnAnswer as turns
+use Rattle.answers.specs.declared.turns.Turn.{Turn}
 use Rattle.answers.specs.declared.runs.RunAnswer.{RunAnswer}
-use Rattle.answers.specs.declared.steps.StepAnswer.{StepAnswer}
-use Rattle.answers.specs.declared.sentences.SentenceAnswer as sentences
-use Rattle.answers.specs.Answers.{buffers_of, turn_answer_for, run_call_of, step_call_of, shortage_from, reply_in, sentence_call_of}
+use Rattle.answers.specs.declared.steps.Step.{Step}
+use Rattle.answers.specs.Answers.{buffers_of, TurnIs, run_call_of, step_call_of, shortage_from, reply_in, sentence_call_of}
 
 -- these two numbers as they are
 pub record VerdictSet (n at : ℕ) (returned p : ℕ) : Type 0 where
@@ -68,8 +68,8 @@ pub record TurnAnswered (a : TurnAnswer) (returned p laid : ℕ) (station : List
   pub left_open : left ≡ left_by a
 
 -- of an answer of the code: what is told of the answer that it stands for
-pub record TurnTold (a : turns.TurnAnswer) (returned p laid : ℕ) (station : List ℕ) (left : ℕ) : Type 0 where
-  pub told : (v : TurnAnswer) → a ≡ turn_answer_for v → TurnAnswered v returned p laid station left
+pub record TurnTold (a : Result (Option Turn) Refusal) (returned p laid : ℕ) (station : List ℕ) (left : ℕ) : Type 0 where
+  pub told : (v : TurnAnswer) → TurnIs v a → TurnAnswered v returned p laid station left
 
 -- ---- a tally
 
@@ -123,7 +123,7 @@ pub record StepAnswered (c : StepCall) (returned p r : ℕ) (b hall w : List ℕ
   pub bytes : hall ≡ c.buffers.hall
 
 -- of an answer of the code to the counters that were lent, whatever the hall holds afterwards
-pub record StepTold (a : StepAnswer) (lent : tallies.Counters) (returned p r : ℕ) (b w : List ℕ) : Type 0 where
+pub record StepTold (a : Result Step Refusal) (lent : tallies.Counters) (returned p r : ℕ) (b w : List ℕ) : Type 0 where
   pub told : (hall : List ℕ) → StepAnswered (step_call_of a (buffers_of hall lent)) returned p r b hall w
 
 -- ---- a suggestion
@@ -180,5 +180,5 @@ pub record SentenceAnswered (c : SentenceCall) (returned before after : ℕ) (bu
   pub bytes : buffer ≡ c.buffer
 
 -- of an answer of the code, whatever the buffer holds afterwards
-pub record SentenceTold (a : sentences.SentenceAnswer) (returned before after : ℕ) : Type 0 where
+pub record SentenceTold (a : Result ℕ Refusal) (returned before after : ℕ) : Type 0 where
   pub told : (buffer : List ℕ) → SentenceAnswered (sentence_call_of a buffer) returned before after buffer

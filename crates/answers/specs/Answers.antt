@@ -1,6 +1,6 @@
 -- What each answer of the code says, in the terms of the definitions.
 -- Assumes nothing.
-use Rattle.std.specs.Prelude.{ℕ, ◌<◌, ◌≡◌, Bool, true, false, List, get_or}
+use Rattle.std.specs.Prelude.{ℕ, ◌<◌, ◌≡◌, Bool, true, false, List, get_or, Option, Some, None, Result, Ok, Err, IfErr, ⊤}
 use Rattle.std.proofs.Math.Option.{none, some}
 use Rattle.semantics.specs.Definitions.Shortage as test
 use Rattle.semantics.specs.Definitions.Configuration.{Idle, idle}
@@ -18,28 +18,57 @@ use Rattle.semantics.specs.Definitions.Sentence.{told, not_told, SentenceCall}
 use Rattle.semantics.specs.Definitions.Sentence as words
 use Rattle.answers.specs.declared.choices.Entry.{Entry}
 use Rattle.answers.specs.declared.choices.Entry.TheVariants.{Act, Inside}
-use Rattle.answers.specs.declared.replies.Shortage.{Shortage}
-use Rattle.answers.specs.declared.replies.Shortage.TheVariants.{Enough, Short}
-use Rattle.answers.specs.declared.replies.Reply.{Reply}
-use Rattle.answers.specs.declared.replies.Reply.TheVariants as reply
+use Rattle.answers.specs.declared.refusals.Reason.{Reason}
+use Rattle.answers.specs.declared.refusals.Reason.TheVariants as reason
+use Rattle.answers.specs.declared.refusals.Refusal.{Refusal}
+use Rattle.answers.specs.declared.rules.Rule.{Rule}
+use Rattle.answers.specs.declared.rules.Rule.TheVariants as rule
+use Rattle.answers.specs.declared.replies.Short.{Short}
+use Rattle.answers.specs.declared.replies.Move.{Move}
 use Rattle.answers.specs.declared.tallies.Counters.{Counters}
-use Rattle.answers.specs.declared.tables.TableVerdict.{TableVerdict}
-use Rattle.answers.specs.declared.tables.TableVerdict.TheVariants as table
-use Rattle.answers.specs.declared.halls.HallVerdict.{HallVerdict}
-use Rattle.answers.specs.declared.halls.HallVerdict.TheVariants as hall
-use Rattle.answers.specs.declared.openings.OpenAnswer.{OpenAnswer}
-use Rattle.answers.specs.declared.openings.OpenAnswer.TheVariants as open-hall
-use Rattle.answers.specs.declared.turns.TurnAnswer.{TurnAnswer}
-use Rattle.answers.specs.declared.turns.TurnAnswer.TheVariants as turn
+use Rattle.answers.specs.declared.turns.Turn.{Turn}
 use Rattle.answers.specs.declared.runs.RunAnswer.{RunAnswer}
-use Rattle.answers.specs.declared.runs.RunAnswer.TheVariants as run
-use Rattle.answers.specs.declared.runs.RunAsNumbers.{RunAsNumbers}
-use Rattle.answers.specs.declared.steps.StepAnswer.{StepAnswer}
-use Rattle.answers.specs.declared.steps.StepAnswer.TheVariants as step
-use Rattle.answers.specs.declared.suggestions.SuggestAnswer.{SuggestAnswer}
-use Rattle.answers.specs.declared.suggestions.SuggestAnswer.TheVariants as suggest
-use Rattle.answers.specs.declared.sentences.SentenceAnswer.{SentenceAnswer}
-use Rattle.answers.specs.declared.sentences.SentenceAnswer.TheVariants as sentence
+use Rattle.answers.specs.declared.steps.Step.{Step}
+
+-- ---- the numbers of document 01
+
+unfoldable pub reason_number : Reason → ℕ
+reason_number reason.UnknownRecord = 1
+reason_number reason.RecordCutShort = 2
+reason_number reason.TooManyTerms = 3
+reason_number reason.ChannelOutOfRange = 4
+reason_number reason.ForwardReference = 5
+reason_number reason.ClassMismatch = 6
+reason_number reason.OverLimit = 7
+reason_number reason.BadTokens = 8
+reason_number reason.WrongEnd = 9
+reason_number reason.WrongLength = 10
+reason_number reason.Malformed = 11
+reason_number reason.UnknownKind = 12
+reason_number reason.CutShort = 13
+reason_number reason.NoComponent = 14
+reason_number reason.WrongComponent = 15
+reason_number reason.NoNode = 16
+reason_number reason.NoRule = 17
+reason_number reason.EmptyChannel = 18
+reason_number reason.TooManyComponents = 19
+reason_number reason.FullChannel = 20
+reason_number reason.ShortBuffer = 21
+
+unfoldable pub number_of_rule : Rule → ℕ
+number_of_rule rule.Out = 1
+number_of_rule rule.In = 2
+number_of_rule rule.Rep = 3
+number_of_rule rule.Atst = 4
+number_of_rule rule.Atre = 5
+number_of_rule rule.Atfail = 6
+number_of_rule rule.Atok = 7
+number_of_rule rule.Ardok = 8
+number_of_rule rule.Ardf = 9
+number_of_rule rule.Awr = 10
+number_of_rule rule.Aoi = 11
+number_of_rule rule.Aof = 12
+number_of_rule rule.Aoe = 13
 
 -- ---- a choice, and the reply to it
 
@@ -48,14 +77,14 @@ entry_of (Act p) = moves.act p
 entry_of (Inside p k) = moves.inside p k
 
 -- each case with its numbers
-unfoldable pub shortage_of : Shortage → test.Shortage
-shortage_of Enough = test.enough
-shortage_of (Short a k) = test.short a k
+unfoldable pub shortage_of : Option Short → test.Shortage
+shortage_of None = test.enough
+shortage_of (Some s) = test.short s.channel s.by
 
-unfoldable pub reply_of : Reply → moves.Reply
+unfoldable pub reply_of : Result Move Reason → moves.Reply
 unfolding shortage_of
-reply_of (reply.Moved r w) = moves.moved_by r (shortage_of w)
-reply_of (reply.Refused n) = moves.refused_by n
+reply_of (Ok m) = moves.moved_by (number_of_rule m.rule) (shortage_of m.short)
+reply_of (Err e) = moves.refused_by (reason_number e)
 
 -- ---- a tally
 
@@ -75,25 +104,20 @@ counted_by t rule = record {
 abbrev pub buffers_of : List ℕ → Counters → Buffers
 buffers_of hall c = record { hall = hall; counters = counters_of c }
 
--- ---- a table and a hall that are checked: the verdict that each case is
+-- ---- what is accepted or refused: a table, a hall, an opening
 
-unfoldable pub verdict_of : TableVerdict → Verdict
-verdict_of table.Accepted = ok
-verdict_of (table.Refused n p) = rejected n p
-
-unfoldable pub hall_verdict_of : HallVerdict → Verdict
-hall_verdict_of hall.WellFormed = ok
-hall_verdict_of (hall.Refused n p) = rejected n p
-
--- ---- an opening
+-- whatever is accepted; a refusal's number and place
+unfoldable pub verdict_of : {T : Type 0} → Result T Refusal → Verdict
+verdict_of (Ok x) = ok
+verdict_of (Err e) = rejected (reason_number e.reason) e.place
 
 -- an opened hall's counters; a refusal's number and place
-unfoldable pub open_answer_of : OpenAnswer → calls.OpenAnswer
-open_answer_of (open-hall.Opened c) = opened (counters_of c)
-open_answer_of (open-hall.Refused n p) = not_opened n p
+unfoldable pub open_answer_of : Result Counters Refusal → calls.OpenAnswer
+open_answer_of (Ok c) = opened (counters_of c)
+open_answer_of (Err e) = not_opened (reason_number e.reason) e.place
 
 -- the answer, and the lent bytes afterwards
-abbrev pub opening_of : OpenAnswer → List ℕ → Opening
+abbrev pub opening_of : Result Counters Refusal → List ℕ → Opening
 opening_of a hall = record { answer = open_answer_of a; hall = hall }
 
 -- ---- a turn of an opening
@@ -105,57 +129,56 @@ kind_in c = get_or (component_bytes (idle c)) 0 0
 unfoldable pub body_in : Idle → ℕ
 body_in c = get_or (component_bytes (idle c)) 1 0
 
--- each answer of the definitions as the case that says it, a component in its two bytes
-unfoldable pub turn_answer_for : opening.TurnAnswer → TurnAnswer
-turn_answer_for (lays (some c) n) = turn.Component (kind_in c) (body_in c) n
-turn_answer_for (lays none n) = turn.Nothing n
-turn_answer_for past_end = turn.PastEnd
-turn_answer_for (not_turned n p) = turn.Refused n p
+-- what the code answers for each answer of the definitions, a component in its two bytes
+abbrev pub TurnIs : opening.TurnAnswer → Result (Option Turn) Refusal → Type 0
+TurnIs (lays (some c) n) a =
+    a ≡ Ok (Some (record { laid = Some (record { kind = kind_in c; body = body_in c }); left = n }))
+TurnIs (lays none n) a = a ≡ Ok (Some (record { laid = None; left = n }))
+TurnIs past_end a = a ≡ Ok None
+TurnIs (not_turned n p) a = (e : Refusal) × (a ≡ Err e) × (reason_number e.reason ≡ n) × (e.place ≡ p)
 
 -- ---- a run
 
--- each case as the call of the definitions, with the lent bytes afterwards: number 0 for a run that was completed
+-- 0 for a run that was completed
+unfoldable pub outcome_number : Result ⊤ Reason → ℕ
+outcome_number (Ok x) = 0
+outcome_number (Err e) = reason_number e
+
+-- the answer as the call of the definitions, with the lent bytes afterwards
 abbrev pub run_call_of : RunAnswer → (hall : List ℕ) → RunCall
-run_call_of (run.Completed p d c) hall = record { number = 0; place = p; done = d; buffers = buffers_of hall c }
-run_call_of (run.Refused n p d c) hall = record { number = n; place = p; done = d; buffers = buffers_of hall c }
+run_call_of a hall =
+    record { number = outcome_number a.outcome; place = a.place; done = a.done; buffers = buffers_of hall a.counters }
 
 -- no refusal has number 0, so that the number tells the case
 abbrev pub RunCaseDecided : RunAnswer → Type 0
-RunCaseDecided (run.Completed p d c) = Unit {0}
-RunCaseDecided (run.Refused n p d c) = 0 < n
-
--- both cases as numbers
-abbrev pub call_of : RunAsNumbers → List ℕ → RunCall
-call_of o hall = record { number = o.number; place = o.place; done = o.done; buffers = buffers_of hall o.counters }
-
-pub record NumbersAre (a : RunAnswer) (o : RunAsNumbers) : Type 0 where
-  pub same : (hall : List ℕ) → call_of o hall ≡ run_call_of a hall
-
--- the counters that a run leaves, completed or refused
-abbrev pub counters_left : RunAnswer → Counters
-counters_left (run.Completed p d c) = c
-counters_left (run.Refused n p d c) = c
+RunCaseDecided a = IfErr a.outcome (λ e. 0 < reason_number e)
 
 -- ---- a step
 
 -- each case as the call of the definitions, with what was lent and the hall's bytes afterwards: number 0 where the
 -- choice moved; rule 0, nothing short and the counters that were lent where it is refused
-abbrev pub step_call_of : StepAnswer → Buffers → StepCall
-step_call_of (step.Moved r w p c) l =
-    record { number = 0; place = p; rule = r; shortage = shortage_of w; buffers = buffers_of l.hall c }
-step_call_of (step.Refused n p) l = record { number = n; place = p; rule = 0; shortage = test.enough; buffers = l }
+abbrev pub step_call_of : Result Step Refusal → Buffers → StepCall
+step_call_of (Ok s) l =
+    record {
+      number = 0;
+      place = s.place;
+      rule = number_of_rule s.made.rule;
+      shortage = shortage_of s.made.short;
+      buffers = buffers_of l.hall s.counters;
+    }
+step_call_of (Err e) l =
+    record { number = reason_number e.reason; place = e.place; rule = 0; shortage = test.enough; buffers = l }
 
 -- no refusal has number 0, so that the number tells the case
-abbrev pub StepCaseDecided : StepAnswer → Type 0
-StepCaseDecided (step.Moved r w p c) = Unit {0}
-StepCaseDecided (step.Refused n p) = 0 < n
+abbrev pub StepCaseDecided : Result Step Refusal → Type 0
+StepCaseDecided a = IfErr a (λ e. 0 < reason_number e.reason)
 
 -- ---- a suggestion
 
-unfoldable pub suggest_answer_of : SuggestAnswer → suggestion.SuggestAnswer
-suggest_answer_of (suggest.Suggested e) = suggested (entry_of e)
-suggest_answer_of suggest.Still = still
-suggest_answer_of (suggest.Refused n p) = not_suggested n p
+unfoldable pub suggest_answer_of : Result (Option Entry) Refusal → suggestion.SuggestAnswer
+suggest_answer_of (Ok (Some e)) = suggested (entry_of e)
+suggest_answer_of (Ok None) = still
+suggest_answer_of (Err e) = not_suggested (reason_number e.reason) e.place
 
 -- ---- a sentence
 
@@ -169,10 +192,10 @@ abbrev pub reply_in : (moved : Bool) (number : ℕ) → test.Shortage → moves.
 reply_in true n w = moves.moved_by n w
 reply_in false n w = moves.refused_by n
 
-abbrev pub sentence_answer_of : SentenceAnswer → words.SentenceAnswer
-sentence_answer_of (sentence.Told n) = told n
-sentence_answer_of (sentence.Refused n p) = not_told n p
+abbrev pub sentence_answer_of : Result ℕ Refusal → words.SentenceAnswer
+sentence_answer_of (Ok n) = told n
+sentence_answer_of (Err e) = not_told (reason_number e.reason) e.place
 
 -- the answer, and the lent bytes afterwards
-abbrev pub sentence_call_of : SentenceAnswer → List ℕ → SentenceCall
+abbrev pub sentence_call_of : Result ℕ Refusal → List ℕ → SentenceCall
 sentence_call_of a buffer = record { answer = sentence_answer_of a; buffer = buffer }

@@ -1,7 +1,7 @@
 -- What is claimed of the answers. No two of the code say the same; 0 is told of nothing that is refused; what C is told of a
 -- turn, case by case; and that what a step tells may be handed on for a sentence.
 -- Assumes nothing.
-use Rattle.std.specs.Prelude.{ℕ, ◌+◌, ◌≤◌, ◌<◌, ◌≡◌, cond, ◌⊎◌, List, [], ◌∷◌, length, get_or, eqb}
+use Rattle.std.specs.Prelude.{ℕ, ◌+◌, ◌≤◌, ◌<◌, ◌≡◌, cond, ◌⊎◌, List, [], ◌∷◌, length, get_or, eqb, Option, Result, ⊤}
 use Rattle.std.proofs.Math.Option.{none, some}
 use Rattle.semantics.specs.Definitions.Basics.{Bytes}
 use Rattle.semantics.specs.Definitions.Shortage.{enough, short}
@@ -15,50 +15,45 @@ use Rattle.semantics.specs.Definitions.Suggestion.{suggested, still, suggest_cal
 use Rattle.semantics.specs.Definitions.Sentence.{sentence, sentence_call}
 use Rattle.semantics.specs.Claims.Sentences.{AllBytes}
 use Rattle.semantics.specs.Checks.Steps.{step_reply}
-use Rattle.answers.specs.declared.replies.Shortage.{Shortage}
-use Rattle.answers.specs.declared.replies.Reply.{Reply}
+use Rattle.answers.specs.declared.choices.Entry.{Entry}
+use Rattle.answers.specs.declared.refusals.Reason.{Reason}
+use Rattle.answers.specs.declared.refusals.Refusal.{Refusal}
+use Rattle.answers.specs.declared.replies.Short.{Short}
+use Rattle.answers.specs.declared.replies.Move.{Move}
 use Rattle.answers.specs.declared.tallies.Counters.{Counters}
-use Rattle.answers.specs.declared.tables.TableVerdict.{TableVerdict}
-use Rattle.answers.specs.declared.halls.HallVerdict.{HallVerdict}
-use Rattle.answers.specs.declared.openings.OpenAnswer.{OpenAnswer}
 use Rattle.answers.specs.declared.runs.RunAnswer.{RunAnswer}
-use Rattle.answers.specs.declared.steps.StepAnswer.{StepAnswer}
-use Rattle.answers.specs.declared.suggestions.SuggestAnswer.{SuggestAnswer}
-use Rattle.answers.specs.declared.sentences.SentenceAnswer.{SentenceAnswer}
-use Rattle.answers.specs.Answers.{shortage_of, reply_of, buffers_of, verdict_of, hall_verdict_of, opening_of, run_call_of, RunCaseDecided, step_call_of, StepCaseDecided, suggest_answer_of, sentence_call_of}
+use Rattle.answers.specs.declared.steps.Step.{Step}
+use Rattle.answers.specs.Answers.{shortage_of, reply_of, buffers_of, verdict_of, opening_of, run_call_of, RunCaseDecided, step_call_of, StepCaseDecided, suggest_answer_of, sentence_call_of}
 use Rattle.answers.specs.Answered.{VerdictAnswered, OpeningAnswered, TurnAnswered, shortage_words, choice_words, SuggestionAnswered, reply_from, SentenceAnswered}
 
 -- ---- no two answers of the code say the same
 
 abbrev pub ShortagesDiffer : Type 0
-ShortagesDiffer = (v w : Shortage) → shortage_of v ≡ shortage_of w → v ≡ w
+ShortagesDiffer = (v w : Option Short) → shortage_of v ≡ shortage_of w → v ≡ w
 
 abbrev pub RepliesDiffer : Type 0
-RepliesDiffer = (a b : Reply) → reply_of a ≡ reply_of b → a ≡ b
+RepliesDiffer = (a b : Result Move Reason) → reply_of a ≡ reply_of b → a ≡ b
 
 abbrev pub VerdictInjective : Type 0
-VerdictInjective = (a b : TableVerdict) → verdict_of a ≡ verdict_of b → a ≡ b
-
-abbrev pub HallVerdictInjective : Type 0
-HallVerdictInjective = (a b : HallVerdict) → hall_verdict_of a ≡ hall_verdict_of b → a ≡ b
+VerdictInjective = (a b : Result ⊤ Refusal) → verdict_of a ≡ verdict_of b → a ≡ b
 
 -- and the halls, and the buffers, that they leave are the same
 abbrev pub OpeningInjective : Type 0
-OpeningInjective = (a b : OpenAnswer) (x y : List ℕ) → opening_of a x ≡ opening_of b y → (a ≡ b) × (x ≡ y)
+OpeningInjective = (a b : Result Counters Refusal) (x y : List ℕ) → opening_of a x ≡ opening_of b y → (a ≡ b) × (x ≡ y)
 
 abbrev pub RunAnswerInjective : Type 0
 RunAnswerInjective = (a b : RunAnswer) (x y : List ℕ) → RunCaseDecided a → RunCaseDecided b →
     run_call_of a x ≡ run_call_of b y → (a ≡ b) × (x ≡ y)
 
 abbrev pub StepInjective : Type 0
-StepInjective = (t : Counters) (x y : List ℕ) (a b : StepAnswer) → StepCaseDecided a → StepCaseDecided b →
+StepInjective = (t : Counters) (x y : List ℕ) (a b : Result Step Refusal) → StepCaseDecided a → StepCaseDecided b →
     step_call_of a (buffers_of x t) ≡ step_call_of b (buffers_of y t) → (a ≡ b) × (x ≡ y)
 
 abbrev pub SuggestionInjective : Type 0
-SuggestionInjective = (a b : SuggestAnswer) → suggest_answer_of a ≡ suggest_answer_of b → a ≡ b
+SuggestionInjective = (a b : Result (Option Entry) Refusal) → suggest_answer_of a ≡ suggest_answer_of b → a ≡ b
 
 abbrev pub SentenceCallInjective : Type 0
-SentenceCallInjective = (a b : SentenceAnswer) (x y : List ℕ) → sentence_call_of a x ≡ sentence_call_of b y →
+SentenceCallInjective = (a b : Result ℕ Refusal) (x y : List ℕ) → sentence_call_of a x ≡ sentence_call_of b y →
     (a ≡ b) × (x ≡ y)
 
 -- ---- a returned 0 means that nothing is refused

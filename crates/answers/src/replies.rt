@@ -1,30 +1,42 @@
-// The reply to an entry of a schedule (document 01's choice), and what its test found short.
-ghost use Rattle.std.specs.Prelude.{◌≡◌};
+// The reply to an entry of a schedule (document 01's choice): the move, with what its test found short; or why not.
+ghost use Rattle.std.specs.Prelude.{◌≡◌, None};
 ghost use Rattle.answers.specs.Answers.{shortage_of};
 ghost use Rattle.answers.specs.Answered.{shortage_words, tells_short};
 
-// What the test of reads against counts found: enough, or the lowest channel (tray) that is short, and by how many.
-#[derive(Clone, Copy)]
-pub enum Shortage {
-    Enough,
-    Short { channel: u8, by: u8 },
+use crate::rules::Rule;
+
+// What the test of reads against counts found, where they are not enough: the lowest channel (tray) that is short, and by
+// how many.
+#[derive(Clone, Copy, PartialEq, Eq)]
+pub struct Short {
+    pub channel: u8,
+    pub by: u8,
 }
 
-// Moved by the rule of this number, with what its test found short (a rule that makes none tells enough); or refused with
-// this number.
-#[derive(Clone, Copy)]
-pub enum Reply {
-    Moved(u8, Shortage),
-    Refused(u8),
+// A move: its rule, with what its test found short. A rule that makes no test finds nothing short. The reply to an entry is
+// a move or the reason why there is none.
+#[derive(Clone, Copy, PartialEq, Eq)]
+pub struct Move {
+    pub rule: Rule,
+    pub short: Option<Short>,
+}
+
+impl Move {
+    // By a rule, with nothing short.
+    pub fn by(rule: Rule) -> Self
+        ensures { result ≡ record { rule = rule; short = None } }
+    {
+        Move { rule, short: None }
+    }
 }
 
 // What was short, as its tray and by how many; 0 0 where nothing was.
-pub fn shortage_words(shortage: Shortage) -> [u8; 2]
+pub fn shortage_words(shortage: Option<Short>) -> [u8; 2]
     ensures { result ≡ shortage_words (shortage_of shortage) }
 {
     match shortage {
-        Shortage::Enough => [0, 0],
-        Shortage::Short { channel, by } => [channel, by],
+        None => [0, 0],
+        Some(short) => [short.channel, short.by],
     }
 }
 

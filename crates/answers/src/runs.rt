@@ -1,80 +1,28 @@
 // What running a schedule (document 01's list of choices) answers.
 ghost use Rattle.std.specs.Prelude.{◌≡◌};
-ghost use Rattle.answers.specs.Answers.{NumbersAre, counters_left};
+ghost use Rattle.answers.specs.Answers.{outcome_number};
 ghost use Rattle.answers.specs.Answered.{RunTold};
 
+use crate::refusals::Reason;
 use crate::tallies::{Counters, tally_words};
 
-// The answer of a run: where it stopped, how many entries were done, and the counters after them. A run that is refused
-// has the refusal's number, and the place of the entry that was refused.
+// The answer of a run: whether it was completed or which refusal ended it, where it stopped, how many entries were done,
+// and the counters after them. The place is that of the entry that was refused.
 #[derive(Clone, Copy)]
-pub enum RunAnswer {
-    Completed {
-        place: usize,
-        done: usize,
-        counters: Counters,
-    },
-    Refused {
-        number: u8,
-        place: usize,
-        done: usize,
-        counters: Counters,
-    },
-}
-
-// The same as numbers: number 0 stands for a run that was completed.
-#[derive(Clone, Copy)]
-pub struct RunAsNumbers {
-    pub number: u8,
+pub struct RunAnswer {
+    pub outcome: Result<(), Reason>,
     pub place: usize,
     pub done: usize,
     pub counters: Counters,
 }
 
-pub fn numbers_of(answer: RunAnswer) -> RunAsNumbers
-    ensures { NumbersAre answer result }
+// How a run ended, as a number: 0 stands for a run that was completed.
+pub fn outcome_number(outcome: Result<(), Reason>) -> u8
+    ensures { result ≡ outcome_number outcome }
 {
-    match answer {
-        RunAnswer::Completed {
-            place,
-            done,
-            counters,
-        } => RunAsNumbers {
-            number: 0,
-            place,
-            done,
-            counters,
-        },
-        RunAnswer::Refused {
-            number,
-            place,
-            done,
-            counters,
-        } => RunAsNumbers {
-            number,
-            place,
-            done,
-            counters,
-        },
-    }
-}
-
-// The counters that a run leaves, completed or refused.
-pub fn counters_left(answer: RunAnswer) -> Counters
-    ensures { result ≡ counters_left answer }
-{
-    match answer {
-        RunAnswer::Completed {
-            place: _,
-            done: _,
-            counters,
-        } => counters,
-        RunAnswer::Refused {
-            number: _,
-            place: _,
-            done: _,
-            counters,
-        } => counters,
+    match outcome {
+        Ok(()) => 0,
+        Err(reason) => reason.number(),
     }
 }
 
@@ -83,10 +31,8 @@ pub fn counters_left(answer: RunAnswer) -> Counters
 pub fn tell_run(answer: RunAnswer, tally: &mut [u32; 3], place: &mut usize, done: &mut usize) -> u8
     ensures { RunTold answer result place.new done.new tally.new }
 {
-    let numbers = numbers_of(answer);
-    let counters = numbers.counters;
-    *place = numbers.place;
-    *done = numbers.done;
-    *tally = tally_words(counters);
-    numbers.number
+    *place = answer.place;
+    *done = answer.done;
+    *tally = tally_words(answer.counters);
+    outcome_number(answer.outcome)
 }

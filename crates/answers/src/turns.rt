@@ -1,17 +1,23 @@
-// What showing a turn of a table's opening answers.
+// What showing a turn of a table's opening answers: the turn; none, where there is no such turn; or the refusal.
 ghost use Rattle.answers.specs.Answered.{TurnTold};
 
-// The component (station) that the turn lays down, in its two bytes, or that it lays down none, each with how many terms
-// are then left to open; that there is no such turn; or the refusal's number and place.
-#[derive(Clone, Copy)]
-pub enum TurnAnswer {
-    Component { kind: u8, body: u8, left: usize },
-    Nothing { left: usize },
-    PastEnd,
-    Refused { number: u8, place: usize },
+use crate::refusals::Refusal;
+
+// A component (station) that was just laid down, in its two bytes.
+#[derive(Clone, Copy, PartialEq, Eq)]
+pub struct Station {
+    pub kind: u8,
+    pub body: u8,
 }
 
-// What a turn laid down.
+// What a turn lays down, if anything, and how many terms are then left to open.
+#[derive(Clone, Copy, PartialEq, Eq)]
+pub struct Turn {
+    pub laid: Option<Station>,
+    pub left: usize,
+}
+
+// What a turn laid down, as C is told.
 const LAID_NOTHING: u8 = 0;
 
 const LAID_STATION: u8 = 1;
@@ -21,7 +27,7 @@ const LAID_PAST_END: u8 = 2;
 // 0, place 0, whether the turn lays down a station, the station, 0 0 where there is none, and how many terms are then left
 // to open; past the end none. Or the number of the refusal and its place, with all else 0.
 pub fn tell_turn(
-    answer: TurnAnswer,
+    answer: Result<Option<Turn>, Refusal>,
     laid: &mut u8,
     station: &mut [u8; 2],
     left: &mut usize,
@@ -34,27 +40,25 @@ pub fn tell_turn(
     *station = [0, 0];
     *left = 0;
     match answer {
-        TurnAnswer::Component {
-            kind,
-            body,
-            left: waiting,
-        } => {
-            *laid = LAID_STATION;
-            *station = [kind, body];
-            *left = waiting;
+        Ok(shown) => {
+            match shown {
+                None => *laid = LAID_PAST_END,
+                Some(turn) => {
+                    *left = turn.left;
+                    match turn.laid {
+                        None => {}
+                        Some(new) => {
+                            *laid = LAID_STATION;
+                            *station = [new.kind, new.body];
+                        }
+                    }
+                }
+            }
             0
         }
-        TurnAnswer::Nothing { left: waiting } => {
-            *left = waiting;
-            0
-        }
-        TurnAnswer::PastEnd => {
-            *laid = LAID_PAST_END;
-            0
-        }
-        TurnAnswer::Refused { number, place: at } => {
-            *place = at;
-            number
+        Err(refusal) => {
+            *place = refusal.place;
+            refusal.reason.number()
         }
     }
 }

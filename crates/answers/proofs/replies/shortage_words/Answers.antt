@@ -3,8 +3,8 @@
 use Rattle.answers.proofs.Cases.{enough_words, short_words}
 use Rattle.answers.proofs.replies.shortage_words.Goals as goal
 
-pub returns-in-Enough : goal.returns-in-Enough
-returns-in-Enough c = search enough_words
+pub returns-in-None : goal.returns-in-None
+returns-in-None c = search enough_words
 
-pub returns-in-Short : goal.returns-in-Short
-returns-in-Short c = search short_words
+pub returns-in-Some : goal.returns-in-Some
+returns-in-Some c = search short_words

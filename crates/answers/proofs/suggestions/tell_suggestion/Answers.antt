@@ -3,11 +3,11 @@
 use Rattle.answers.proofs.Cases.{suggestion_made, suggestion_still, suggestion_refused}
 use Rattle.answers.proofs.suggestions.tell_suggestion.Goals as goal
 
-pub returns-in-Suggested : goal.returns-in-Suggested
-returns-in-Suggested c = search suggestion_made
+pub returns-in-Some : goal.returns-in-Some
+returns-in-Some c = search suggestion_made
 
-pub returns-in-Still : goal.returns-in-Still
-returns-in-Still c = search suggestion_still
+pub returns-in-None : goal.returns-in-None
+returns-in-None c = search suggestion_still
 
-pub returns-in-Refused : goal.returns-in-Refused
-returns-in-Refused c = search suggestion_refused
+pub returns-in-Err : goal.returns-in-Err
+returns-in-Err c = search suggestion_refused

@@ -3,14 +3,14 @@
 use Rattle.answers.proofs.TurnCases.{turn_laid_holds, turn_laid_nothing, turn_past, turn_turned_down}
 use Rattle.answers.proofs.turns.tell_turn.Goals as goal
 
-pub returns-in-Component : goal.returns-in-Component
-returns-in-Component c = search turn_laid_holds
+pub returns-in-Some-laid : goal.returns-in-Some-laid
+returns-in-Some-laid c = search turn_laid_holds
 
-pub returns-in-Nothing : goal.returns-in-Nothing
-returns-in-Nothing c = search turn_laid_nothing
+pub returns-in-None-laid : goal.returns-in-None-laid
+returns-in-None-laid c = search turn_laid_nothing
 
-pub returns-in-PastEnd : goal.returns-in-PastEnd
-returns-in-PastEnd c = search turn_past
+pub returns-in-None : goal.returns-in-None
+returns-in-None c = search turn_past
 
-pub returns-in-Refused : goal.returns-in-Refused
-returns-in-Refused c = search turn_turned_down
+pub returns-in-Err : goal.returns-in-Err
+returns-in-Err c = search turn_turned_down
