@@ -32,12 +32,11 @@ unfolding taken_by
 taken_none b h = rw (le-ltb b channels h)
 
 -- fewer bytes name a channel no more often
-fewer : (a : ℕ) (xs : List ℕ) (m n : ℕ) → m ≤ n → occurrences a (take m xs) ≤ occurrences a (take n xs)
+fewer : (a : ℕ) (xs : List ℕ) (m : ℕ) → occurrences a (take m xs) ≤ occurrences a xs
 unfolding occurrences
-fewer a xs zero n h = omega arith
-fewer a xs (suc m) zero h = absurd (omega arith)
-fewer a [] (suc m) (suc n) h = omega arith
-fewer a (x ∷ xs) (suc m) (suc n) h = let p = fewer a xs m n (omega arith) in omega arith
+fewer a xs zero = omega arith
+fewer a [] (suc m) = omega arith
+fewer a (x ∷ xs) (suc m) = let p = fewer a xs m in omega arith
 
 module _ (s : List ℕ) (k : ℕ) where
   pub leaves_start : (left : List ℕ) → left ≡ take channels (drop k s) → Leaves left s k []
@@ -90,40 +89,38 @@ module _ (s : List ℕ) (k : ℕ) where
   leaves_enough : (left bs : List ℕ) → Leaves left s k bs → true ≡ within_at (needs_of bs) s k
   leaves_enough left bs l = sym (all_covered (needs_of bs) s k (λ a h. let p = l.each a h in omega arith))
 
--- ---- turns: the first i bytes of a log of the given size were seen
+-- ---- turns: the first i bytes of a log were seen
 
-module _ (s : List ℕ) (at size k i : ℕ) (left : List ℕ) (b : ℕ) (sofar : Leaves left s k (take i (drop at s)))
-    (byte : b ≡ get_or s (at + i) 0) (further : i < size) (held : at + size ≤ length s) where
+module _ (s log : List ℕ) (k i : ℕ) (left : List ℕ) (b : ℕ) (sofar : Leaves left s k (take i log))
+    (byte : b ≡ get_or log i 0) (further : i < length log) where
   left_read : (n : ℕ) → n ≡ get_or left b 0 → n ≢ 0 → b < channels → length left ≡ channels →
-      Leaves (set left b (n - 1)) s k (take (i + 1) (drop at s))
-  left_read n e z h l = rw (one_more s at i (omega arith), ← byte, e)
-      (leaves_read s k left (take i (drop at s)) b sofar h l (λ q. z (e ∙ q)))
+      Leaves (set left b (n - 1)) s k (take (i + 1) log)
+  left_read n e z h l = rw (one_more log i (omega arith), ← byte, e)
+      (leaves_read s k left (take i log) b sofar h l (λ q. z (e ∙ q)))
 
-  left_write : channels ≤ b → Leaves left s k (take (i + 1) (drop at s))
-  left_write h = rw (one_more s at i (omega arith), ← byte) (leaves_write s k left (take i (drop at s)) b sofar h)
+  left_write : channels ≤ b → Leaves left s k (take (i + 1) log)
+  left_write h = rw (one_more log i (omega arith), ← byte) (leaves_write s k left (take i log) b sofar h)
 
-  none_left : (last : ℕ) → get_or left b 0 ≡ 0 → b < channels →
-      false ≡ within_at (needs_of (take size (drop at s) ++ (last ∷ []))) s k
+  none_left : (last : ℕ) → get_or left b 0 ≡ 0 → b < channels → false ≡ within_at (needs_of (log ++ (last ∷ []))) s k
   none_left last z h =
-      let bs = take i (drop at s) in
-      let all = take size (drop at s) in
+      let bs = take i log in
       let p = needs_count bs b h in
-      let q = needs_count all b h in
-      let r = needs_count (take (i + 1) (drop at s)) b h in
-      let m : get_or (needs_of (take (i + 1) (drop at s))) b 0 ≡ get_or (needs_of bs) b 0 + 1 =
-      rw (one_more s at i (omega arith), ← byte) (snoc_count bs b b h ∙ rw (same_self b)) in
-      let f = fewer b (drop at s) (i + 1) size (omega arith) in
-      let g = snoc_count all last b h in
-      leaves_none s k left bs b sofar h z (all ++ (last ∷ [])) (omega arith)
+      let q = needs_count log b h in
+      let r = needs_count (take (i + 1) log) b h in
+      let m : get_or (needs_of (take (i + 1) log)) b 0 ≡ get_or (needs_of bs) b 0 + 1 =
+      rw (one_more log i (omega arith), ← byte) (snoc_count bs b b h ∙ rw (same_self b)) in
+      let f = fewer b log (i + 1) in
+      let g = snoc_count log last b h in
+      leaves_none s k left bs b sofar h z (log ++ (last ∷ [])) (omega arith)
 
   -- a read takes one from its channel, and a write none from the channel that it names
   module _ (t w n : ℕ) (takes : t ≡ taken_by b) (index : w ≡ b) (count : n ≡ get_or left (w % channels) 0) where
-    pub left_turn : t ≤ n → length left ≡ channels → Leaves (set left (w % channels) (n - t)) s k (take (i + 1) (drop at s))
+    pub left_turn : t ≤ n → length left ≡ channels → Leaves (set left (w % channels) (n - t)) s k (take (i + 1) log)
     unfolding taken_by
     left_turn h l = go (ltb b channels) refl takes
       where
         go : (r : Bool) → ltb b channels ≡ r → t ≡ cond r 1 0 →
-            Leaves (set left (w % channels) (n - t)) s k (take (i + 1) (drop at s))
+            Leaves (set left (w % channels) (n - t)) s k (take (i + 1) log)
         go true e f =
             let o = ltb-true b channels e in
             let c : w % channels ≡ b = omega arith in
@@ -133,12 +130,11 @@ module _ (s : List ℕ) (at size k i : ℕ) (left : List ℕ) (b : ℕ) (sofar :
             let c : n - t ≡ get_or left (w % channels) 0 = omega arith in
             rw (c, set-get_or left (w % channels) 0) (left_write (omega arith))
 
-    pub left_none : (last : ℕ) → n < t → false ≡ within_at (needs_of (take size (drop at s) ++ (last ∷ []))) s k
+    pub left_none : (last : ℕ) → n < t → false ≡ within_at (needs_of (log ++ (last ∷ []))) s k
     unfolding taken_by
     left_none last h = go (ltb b channels) refl takes
       where
-        go : (r : Bool) → ltb b channels ≡ r → t ≡ cond r 1 0 →
-            false ≡ within_at (needs_of (take size (drop at s) ++ (last ∷ []))) s k
+        go : (r : Bool) → ltb b channels ≡ r → t ≡ cond r 1 0 → false ≡ within_at (needs_of (log ++ (last ∷ []))) s k
         go true e f =
             let o = ltb-true b channels e in
             let c : w % channels ≡ b = omega arith in
@@ -149,9 +145,9 @@ module _ (s : List ℕ) (at size k i : ℕ) (left : List ℕ) (b : ℕ) (sofar :
 
 module _ (s : List ℕ) (k : ℕ) (bs left : List ℕ) (b t w n : ℕ) (l : Leaves left s k bs) (full : length left ≡ channels)
     (takes : t ≡ taken_by b) (index : w ≡ b) (count : n ≡ get_or left (w % channels) 0) where
-  last_taken : leb t n ≡ within_at (needs_of (bs ++ (b ∷ []))) s k
+  pub left_end : leb t n ≡ within_at (needs_of (bs ++ (b ∷ []))) s k
   unfolding taken_by
-  last_taken = go (ltb b channels) refl takes
+  left_end = go (ltb b channels) refl takes
     where
       go : (r : Bool) → ltb b channels ≡ r → t ≡ cond r 1 0 → leb t n ≡ within_at (needs_of (bs ++ (b ∷ []))) s k
       go false e f =
@@ -169,11 +165,3 @@ module _ (s : List ℕ) (k : ℕ) (bs left : List ℕ) (b t w n : ℕ) (l : Leav
                 let q = same_self b in
                 lt-leb t n (omega arith) ∙ leaves_none s k left bs b l o (omega arith) (bs ++ (b ∷ [])) (omega arith))
           ]
-
-pub left_end : (s : List ℕ) (at size k i : ℕ) (left : List ℕ) (b t w n : ℕ) → Leaves left s k (take i (drop at s)) →
-    i ≤ size → size ≤ i → length left ≡ channels → t ≡ taken_by b → w ≡ b → n ≡ get_or left (w % channels) 0 →
-    leb t n ≡ within_at (needs_of (take size (drop at s) ++ (b ∷ []))) s k
-left_end s at size k i left b t w n l h f full takes index count =
-    let z : i ≡ size = omega arith in
-    let m : Leaves left s k (take size (drop at s)) = rw z at l in
-    last_taken s k (take size (drop at s)) left b t w n m full takes index count

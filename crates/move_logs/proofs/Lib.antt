@@ -5,6 +5,5 @@ pub mod NeedsAndCounts
 pub mod CountsLeft
 pub mod LowestShort
 pub mod Writes
-pub mod CopiedCounts
 pub mod StoredLogs
 pub mod LogOffsets

@@ -3,24 +3,24 @@
 use Prim.Native.Nat.{ℕ, ◌+◌, ◌-◌, ◌≤◌, ◌<◌}
 use native.Mathlib.Omega.{arith}
 use native.Mathlib.Decide.{dec_lt}
-use mathlib.Core.Path.{◌≡◌, refl, sym, ap, ◌∙◌}
+use mathlib.Core.Path.{◌≡◌, refl, sym, ◌∙◌}
 use mathlib.Core.Bool.{Bool, true, false, cond}
 use mathlib.Core.List.{List, [], ◌∷◌, ◌++◌}
 use lib.Dec.{ltb}
-use lib.ListN.{get_or, take, drop, set, length-take}
+use lib.ListN.{get_or, drop}
 use lib.Seq.{get_or-take, get_or-drop}
 use borrow.Author.Tests.{ltb-true, ltb-false}
+use Rattle.std.specs.Prelude.{Option, Some, None}
 use Rattle.calculus.specs.State.{count, same, occurrences, Included}
 use Rattle.calculus.proofs.States.{same_other}
 use Rattle.semantics.specs.Definitions.Layout.{channels, write_offset}
 use Rattle.semantics.specs.Definitions.Shortage.{enough, short}
 use Rattle.theorems.proofs.Shortages.{found_is}
-use Rattle.answers.specs.declared.replies.Shortage.{Shortage}
-use Rattle.answers.specs.declared.replies.Shortage.TheVariants.{Enough, Short}
+use Rattle.answers.specs.declared.replies.Short.{Short}
 use Rattle.answers.specs.Answers.{shortage_of}
-use Rattle.move_logs.specs.Needs.{reads_of, counts_in, short_at, also_needed, needs_of, within_at}
+use Rattle.move_logs.specs.Needs.{reads_of, counts_in, short_at, needs_of, within_at}
 use Rattle.move_logs.specs.Values.{LowestFound}
-use Rattle.move_logs.proofs.Needs.{needs_count, needs_few, also_needed_holds, none_needed}
+use Rattle.move_logs.proofs.Needs.{needs_count, none_needed}
 use Rattle.move_logs.proofs.NeedsAndCounts.{covered}
 
 -- ---- reads
@@ -59,22 +59,18 @@ counts_read s k a h = get_or-take channels (drop k s) a 0 h ∙ get_or-drop k s 
 
 -- where every channel has what is needed of it nothing is short
 all_enough : (bs s : List ℕ) (k : ℕ) → ((a : ℕ) → a < channels → get_or (needs_of bs) a 0 ≤ get_or s (k + a) 0) →
-    shortage_of Enough ≡ short_at bs s k
+    shortage_of None ≡ short_at bs s k
 unfolding shortage_of short_at Included
 all_enough bs s k f = sym (found_is (reads_of bs) (counts_in s k) enough (λ a. elim (dec_lt a channels) [
   | yes h ↦ (let n = needs_reads bs a h in let c = counts_read s k a h in let l = f a h in omega arith)
   | no h ↦ (let z = reads_none bs a (omega arith) in omega arith)
 ]))
 
-within_enough : (bs s : List ℕ) (k : ℕ) → within_at (needs_of bs) s k ≡ true → shortage_of Enough ≡ short_at bs s k
-within_enough bs s k e = all_enough bs s k (λ a h. covered (needs_of bs) s k a e h)
-
--- a write more needs nothing
-pub write_enough : (bs s : List ℕ) (k : ℕ) (r : Bool) → r ≡ within_at (needs_of (bs ++ (16 ∷ []))) s k → r ≡ true → shortage_of Enough ≡ short_at bs s k
-write_enough bs s k r is e = within_enough bs s k (ap (λ n. within_at n s k) (none_needed bs 16 (omega arith)) ∙ sym is ∙ e)
-
-pub readable_enough : (bs s : List ℕ) (k : ℕ) (r : Bool) → r ≡ within_at (needs_of bs) s k → r ≡ true → shortage_of Enough ≡ short_at bs s k
-readable_enough bs s k r is e = within_enough bs s k (sym is ∙ e)
+-- where counts suffice nothing is short
+pub within_enough : (need s : List ℕ) (k : ℕ) (r : Bool) → r ≡ within_at need s k → r ≡ true → LowestFound None need s k
+within_enough need s k r is e =
+    let w : within_at need s k ≡ true = sym is ∙ e in
+    record { found = λ bs q. all_enough bs s k (λ a h. rw (← q) (covered need s k a w h)) }
 
 -- ---- turns: the channels below i have what is needed of them
 
@@ -85,23 +81,20 @@ pub none_below : (need s : List ℕ) (k : ℕ) → EnoughBelow need s k 0
 none_below need s k = record { each = λ a h. absurd (omega arith) }
 
 module _ (need s : List ℕ) (k i : ℕ) (below : EnoughBelow need s k i) where
-  pub enough_next : (w n c : ℕ) → w ≡ i → n ≡ get_or need w 0 → c ≡ get_or s (k + w) 0 → n ≤ c → EnoughBelow need s k (i + 1)
-  enough_next w n c e f g l =
-      record { each = λ a h. elim (dec_lt a i) [ yes x ↦ below.each a x | no x ↦ here a (omega arith) ] }
+  pub enough_next : get_or need i 0 ≤ get_or s (k + i) 0 → EnoughBelow need s k (i + 1)
+  enough_next l = record { each = λ a h. elim (dec_lt a i) [ yes x ↦ below.each a x | no x ↦ here a (omega arith) ] }
     where
       here : (a : ℕ) → a ≡ i → get_or need a 0 ≤ get_or s (k + a) 0
-      here a q = rw (q, ← e, ← f, ← g) l
+      here a q = rw q l
 
-  pub short_here : (v w n c : ℕ) → v ≡ i → v < channels → w ≡ i → n ≡ get_or need w 0 → c ≡ get_or s (k + w) 0 → c < n → LowestFound (Short i (n - c)) need s k
+  pub short_here : i < channels → get_or s (k + i) 0 < get_or need i 0 →
+      LowestFound (Some (record { channel = i; by = get_or need i 0 - get_or s (k + i) 0 })) need s k
   unfolding shortage_of short_at
-  short_here v w n c d u e f g l = record {
+  short_here h l = record {
     found = λ bs is.
-        let h : i < channels = omega arith in
         let needed : get_or need i 0 ≡ occurrences i (reads_of bs) = rw is (needs_reads bs i h) in
         let there = counts_read s k i h in
-        let m : n ≡ get_or need i 0 = f ∙ rw e in
-        let o : c ≡ get_or s (k + i) 0 = g ∙ rw e in
-        sym (found_is (reads_of bs) (counts_in s k) (short i (n - c)) (record {
+        sym (found_is (reads_of bs) (counts_in s k) (short i (get_or need i 0 - get_or s (k + i) 0)) (record {
           lacks = omega arith;
           exact = omega arith;
           none_lower = λ b x.
@@ -111,28 +104,16 @@ module _ (need s : List ℕ) (k i : ℕ) (below : EnoughBelow need s k i) where
         }));
   }
 
-  pub short_nowhere : (v : ℕ) → v ≡ i → channels ≤ v → LowestFound Enough need s k
-  short_nowhere v d u = record { found = λ bs is. all_enough bs s k (λ a x. rw (← is) (below.each a (omega arith))) }
+  pub short_nowhere : channels ≤ i → LowestFound None need s k
+  short_nowhere u = record { found = λ bs is. all_enough bs s k (λ a x. rw (← is) (below.each a (omega arith))) }
 
 -- needs that are the same are short of the same
-pub lowest_same : (r : Shortage) (need all s : List ℕ) (k : ℕ) → LowestFound r need s k → need ≡ all → LowestFound r all s k
+pub lowest_same : (r : Option Short) (need all s : List ℕ) (k : ℕ) → LowestFound r need s k → need ≡ all → LowestFound r all s k
 lowest_same r need all s k l e = rw (← e) l
 
 -- what bytes with a write more are short of they are without it
-pub lowest_found : (r : Shortage) (bs s : List ℕ) (k : ℕ) → LowestFound r (needs_of (bs ++ (16 ∷ []))) s k → shortage_of r ≡ short_at bs s k
+pub lowest_found : (r : Option Short) (bs s : List ℕ) (k : ℕ) → LowestFound r (needs_of (bs ++ (16 ∷ []))) s k → shortage_of r ≡ short_at bs s k
 lowest_found r bs s k l = l.found bs (sym (none_needed bs 16 (omega arith)))
 
-pub lowest_with : (r : Shortage) (bs s : List ℕ) (k a : ℕ) → LowestFound r (needs_of (bs ++ (a ∷ []))) s k → shortage_of r ≡ short_at (bs ++ (a ∷ [])) s k
+pub lowest_with : (r : Option Short) (bs s : List ℕ) (k a : ℕ) → LowestFound r (needs_of (bs ++ (a ∷ []))) s k → shortage_of r ≡ short_at (bs ++ (a ∷ [])) s k
 lowest_with r bs s k a l = l.found (bs ++ (a ∷ [])) refl
-
--- ---- one action more
-
-pub with_fit : (bs : List ℕ) (size : ℕ) (need : List ℕ) (w : ℕ) → need ≡ needs_of (take size bs) → size ≤ 16 → w < channels → get_or need w 0 < 255
-with_fit bs size need w e k l = rw e (let p = needs_few (take size bs) w l in let z = length-take size bs in omega arith)
-
-pub with_read : (bs need : List ℕ) (a w x : ℕ) → need ≡ needs_of bs → w ≡ a → w < channels → x ≡ get_or need w 0 + 1 → set need w x ≡ needs_of (bs ++ (a ∷ []))
-unfolding also_needed
-with_read bs need a w x e q h f = rw (f, ← q, e) (also_needed_holds bs w h)
-
-pub with_write : (bs need : List ℕ) (a w : ℕ) → need ≡ needs_of bs → w ≡ a → channels ≤ w → need ≡ needs_of (bs ++ (a ∷ []))
-with_write bs need a w e q h = e ∙ none_needed bs a (omega arith)

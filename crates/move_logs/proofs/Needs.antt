@@ -1,6 +1,6 @@
 -- Laws of what a log's bytes need: one for each turn of the code, and how often each channel is needed.
 -- Assumes nothing.
-use Prim.Native.Nat.{ℕ, ◌+◌, ◌≤◌, ◌<◌}
+use Prim.Native.Nat.{ℕ, ◌+◌, ◌-◌, ◌≤◌, ◌<◌}
 use native.Mathlib.Omega.{arith}
 use native.Mathlib.Numerals.{add-one}
 use native.Mathlib.Decide.{ℕ_discrete}
@@ -9,8 +9,8 @@ use mathlib.Core.Logic.{◌≢◌}
 use mathlib.Core.Bool.{Bool, true, false, cond}
 use mathlib.Core.List.{List, [], ◌∷◌, ◌++◌}
 use lib.Dec.{ltb, eqb}
-use lib.ListN.{length, get_or, take, drop, set, replicate, length-drop, length-take, length-set}
-use lib.Seq.{take-suc, get_or-drop, get_or-set_same, get_or-set_other}
+use lib.ListN.{length, get_or, take, drop, set, replicate, length-drop, length-set}
+use lib.Seq.{take-suc, take_all, get_or-set_same, get_or-set_other}
 use borrow.Author.Tests.{lt-ltb, le-ltb, ltb-true, ltb-false}
 use Rattle.calculus.specs.State.{same, occurrences}
 use Rattle.calculus.proofs.States.{same_self, same_other}
@@ -20,12 +20,15 @@ use Rattle.move_logs.specs.Needs.{also_needed, needing, needs_from, needs_of}
 
 -- ---- one action more
 
+-- the bytes of a log as the code cuts them out
+pub log_is : (s : List ℕ) (at size : ℕ) → take size (take (length s - at) (drop at s)) ≡ take size (drop at s)
+log_is s at size =
+    let e : length (drop at s) ≤ length s - at = rw (length-drop at s) (omega arith) in
+    rw (take_all (length s - at) (drop at s) e) refl
+
 -- the bytes of one action more
-pub one_more : (s : List ℕ) (at i : ℕ) → at + i < length s →
-    take (i + 1) (drop at s) ≡ take i (drop at s) ++ (get_or s (at + i) 0 ∷ [])
-one_more s at i h =
-    let l : i < length (drop at s) = rw (length-drop at s) (omega arith) in
-    rw (add-one i, take-suc (drop at s) i 0 l, get_or-drop) refl
+pub one_more : (log : List ℕ) (i : ℕ) → i < length log → take (i + 1) log ≡ take i log ++ (get_or log i 0 ∷ [])
+one_more log i h = rw (add-one i) (take-suc log i 0 h)
 
 needs_snoc : (need bs : List ℕ) (b : ℕ) → needs_from need (bs ++ (b ∷ [])) ≡ needing (needs_from need bs) b
 unfolding needs_from
@@ -116,28 +119,29 @@ occurrences_few a (b ∷ bs) = let p = occurrences_few a bs in let q = same_one 
 pub needs_few : (bs : List ℕ) (a : ℕ) → a < channels → get_or (needs_of bs) a 0 ≤ length bs
 needs_few bs a h = let p = needs_count bs a h in let q = occurrences_few a bs in omega arith
 
--- ---- turns: the first i bytes of a log of the given size were seen
+-- ---- turns: the first i bytes of a log were seen
 
 pub needs_start : replicate channels 0 ≡ needs_of []
 unfolding needs_of needs_from
 needs_start = refl
 
-pub needs_fit : (bs : List ℕ) (size i : ℕ) (need : List ℕ) (a : ℕ) → need ≡ needs_of (take i bs) → i < size →
-    size ≤ 16 → a < channels → get_or need a 0 < 255
-needs_fit bs size i need a e h k l =
-    let p = needs_few (take i bs) a l in
-    let q = length-take i bs in rw e (omega arith)
+-- of 16 bytes and one more no channel is needed more often than a byte can say
+pub needs_fit : (bs need : List ℕ) (a w : ℕ) → need ≡ needs_of bs → length bs ≤ 16 → w ≡ a → a < channels → get_or need w 0 + 1 < 256
+needs_fit bs need a w e k q l = let p = needs_few bs a l in rw (e, q) (omega arith)
 
-module _ (s : List ℕ) (at size i : ℕ) (need : List ℕ) (b : ℕ) (sofar : need ≡ needs_of (take i (drop at s)))
-    (byte : b ≡ get_or s (at + i) 0) (further : i < size)
-    (held : at + size ≤ length s) where
-  pub needs_read : (x : ℕ) → x ≡ get_or need b 0 + 1 → b < channels → set need b x ≡ needs_of (take (i + 1) (drop at s))
-  unfolding also_needed
-  needs_read x e h = rw (one_more s at i (omega arith), ← byte, e, sofar) (also_needed_holds (take i (drop at s)) b h)
+-- one action more, at its place as an index
+pub also_read : (bs need : List ℕ) (a w : ℕ) → need ≡ needs_of bs → w ≡ a → a < channels →
+    set need w (get_or need w 0 + 1) ≡ needs_of (bs ++ (a ∷ []))
+unfolding also_needed
+also_read bs need a w e q h = rw (q, e) (also_needed_holds bs a h)
 
-  pub needs_write : channels ≤ b → need ≡ needs_of (take (i + 1) (drop at s))
-  needs_write h = rw (one_more s at i (omega arith), ← byte) (sofar ∙ none_needed (take i (drop at s)) b h)
+pub also_written : (bs need : List ℕ) (a : ℕ) → need ≡ needs_of bs → channels ≤ a → need ≡ needs_of (bs ++ (a ∷ []))
+also_written bs need a e h = e ∙ none_needed bs a h
 
-pub needs_end : (s : List ℕ) (at size i : ℕ) (need : List ℕ) → need ≡ needs_of (take i (drop at s)) → i ≤ size →
-    size ≤ i → need ≡ needs_of (take size (drop at s))
-needs_end s at size i need e h k = let z : i ≡ size = omega arith in rw z at e
+module _ (log : List ℕ) (i : ℕ) (need : List ℕ) (b : ℕ) (sofar : need ≡ needs_of (take i log))
+    (byte : b ≡ get_or log i 0) (further : i < length log) where
+  pub needs_read : (w : ℕ) → w ≡ b → b < channels → set need w (get_or need w 0 + 1) ≡ needs_of (take (i + 1) log)
+  needs_read w q h = rw (one_more log i further, ← byte) (also_read (take i log) need b w sofar q h)
+
+  pub needs_write : channels ≤ b → need ≡ needs_of (take (i + 1) log)
+  needs_write h = rw (one_more log i further, ← byte) (also_written (take i log) need b sofar h)

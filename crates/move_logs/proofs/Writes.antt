@@ -6,7 +6,7 @@ use mathlib.Core.Path.{◌≡◌, refl, sym, ap, ◌∙◌}
 use mathlib.Core.Bool.{Bool, true, false, cond}
 use mathlib.Core.List.{List, [], ◌∷◌, ◌++◌}
 use lib.Dec.{ltb}
-use lib.ListN.{length, get_or, take, drop, set, replicate, length-append}
+use lib.ListN.{length, get_or, take, set, replicate, length-append}
 use borrow.Author.Tests.{lt-ltb, le-ltb}
 use Rattle.semantics.specs.Definitions.Basics.{padded}
 use Rattle.semantics.specs.Definitions.Layout.{max_actions, write_offset, output_kind}
@@ -57,7 +57,7 @@ unfolding output_bytes
 output_length [] = refl
 output_length (x ∷ xs) = let e = output_length xs in omega arith
 
--- ---- turns: the first i bytes of a log of the given size were seen
+-- ---- turns: the first i bytes of a log were seen
 
 -- bytes and a number that are the outputs of these channels
 abbrev pub OutputsSoFar : List ℕ → ℕ → List ℕ → Type 0
@@ -80,21 +80,17 @@ pub outputs_start : OutputsSoFar (replicate outputs_size 0) 0 (writes_of [])
 unfolding output_bytes padded writes_of
 outputs_start = record { counted = refl; bytes = refl }
 
-module _ (s : List ℕ) (at size i : ℕ) (bytes : List ℕ) (count b : ℕ) (sofar : OutputsSoFar bytes count (writes_of (take i (drop at s))))
-    (byte : b ≡ get_or s (at + i) 0) (further : i < size) (held : at + size ≤ length s) where
-  next : take (i + 1) (drop at s) ≡ take i (drop at s) ++ (b ∷ [])
-  next = rw byte (one_more s at i (omega arith))
+module _ (log : List ℕ) (i : ℕ) (bytes : List ℕ) (count b : ℕ) (sofar : OutputsSoFar bytes count (writes_of (take i log)))
+    (byte : b ≡ get_or log i 0) (further : i < length log) where
+  next : take (i + 1) log ≡ take i log ++ (b ∷ [])
+  next = rw byte (one_more log i (omega arith))
 
-  pub outputs_read : b < write_offset → OutputsSoFar bytes count (writes_of (take (i + 1) (drop at s)))
-  outputs_read h = rw (next, writes_read (take i (drop at s)) b h) sofar
+  pub outputs_read : b < write_offset → OutputsSoFar bytes count (writes_of (take (i + 1) log))
+  outputs_read h = rw (next, writes_read (take i log) b h) sofar
 
-  pub outputs_written : write_offset ≤ b → size ≤ max_actions → count ≤ i →
-      OutputsSoFar (more bytes count (b - write_offset)) (count + 1) (writes_of (take (i + 1) (drop at s)))
+  pub outputs_written : write_offset ≤ b → length log ≤ max_actions → count ≤ i →
+      OutputsSoFar (more bytes count (b - write_offset)) (count + 1) (writes_of (take (i + 1) log))
   outputs_written h k l =
       let n = sofar.counted in
-      let p = outputs_more bytes count (writes_of (take i (drop at s))) (b - write_offset) sofar (omega arith) in
-      rw (next, writes_write (take i (drop at s)) b h) p
-
-pub outputs_end : (s : List ℕ) (at size i : ℕ) (bytes : List ℕ) (count : ℕ) → OutputsSoFar bytes count (writes_of (take i (drop at s))) →
-    i ≤ size → size ≤ i → OutputsSoFar bytes count (writes_of (take size (drop at s)))
-outputs_end s at size i bytes count e h k = let z : i ≡ size = omega arith in rw z at e
+      let p = outputs_more bytes count (writes_of (take i log)) (b - write_offset) sofar (omega arith) in
+      rw (next, writes_write (take i log) b h) p

@@ -15,21 +15,21 @@ ghost use Rattle.move_logs.specs.Needs.{needs_of, taken_by, within_at, short_at,
 ghost use Rattle.move_logs.specs.Writes.{writes_of};
 ghost use Rattle.move_logs.specs.Values.{LogIs, OutputsAre, LowestFound};
 
-use answers::Shortage;
-use buffer::wide;
+use answers::Short;
 use hall_layout::{CHANNELS, IDLE_SIZE, KIND_OUTPUT, LOG_SIZE, WRITE_OFFSET};
 
 // The components that a log of writes alone becomes, in bytes.
 const OUTPUTS_SIZE: usize = IDLE_SIZE * LOG_SIZE;
 
-// A log: how many actions it has, and a byte for each of them, with zeros behind.
+// A log: how many actions it has, and a byte for each of them, with zeros behind. A leaf stores it so.
 #[derive(Clone, Copy)]
 pub struct Log {
     pub length: u8,
     pub actions: [u8; LOG_SIZE],
 }
 
-// The components (stations) that the writes of a log become, as bytes with zeros behind, and how many they are.
+// The components (stations) that the writes of a log become, as bytes with zeros behind, and how many they are. An array,
+// since nothing is allocated; the zeros behind make it one value for one log.
 #[derive(Clone, Copy)]
 pub struct Outputs {
     pub bytes: [u8; OUTPUTS_SIZE],
@@ -54,20 +54,8 @@ fn counts_at(s: &[u8], at: usize) -> [u8; CHANNELS]
     ensures { result ≡ take channels (drop at s.now) }
 {
     let mut counts = [0u8; CHANNELS];
-    let mut i: usize = 0;
-    while i < CHANNELS {
-        counts[i] = s[at + i];
-        i += 1;
-    }
+    counts.copy_from_slice(&s[at..at + CHANNELS]);
     counts
-}
-
-// A channel is needed once more.
-fn one_more(times: u8) -> u8
-    requires { times < max_byte }
-    ensures { result ≡ times + 1 }
-{
-    times + 1
 }
 
 // How often each channel is read by the log of so many actions whose bytes begin at an offset.
@@ -75,13 +63,11 @@ pub fn needs_of(s: &[u8], at: usize, size: usize) -> [u8; CHANNELS]
     requires { (size ≤ max_actions) × (at + size ≤ length s.now) }
     ensures { result ≡ needs_of (take size (drop at s.now)) }
 {
+    let log = &s[at..][..size];
     let mut need = [0u8; CHANNELS];
-    let mut i: usize = 0;
-    while i < size {
-        let action = wide(s[at + i]);
-        i += 1;
-        if action < CHANNELS {
-            need[action] = one_more(need[action]);
+    for &action in log {
+        if action < WRITE_OFFSET {
+            need[usize::from(action)] += 1;
         }
     }
     need
@@ -91,7 +77,7 @@ pub fn needs_of(s: &[u8], at: usize, size: usize) -> [u8; CHANNELS]
 fn taken_by(action: u8) -> u8
     ensures { result ≡ taken_by action }
 {
-    if action < WRITE_OFFSET { 1 } else { 0 }
+    u8::from(action < WRITE_OFFSET)
 }
 
 // Whether the counts that stand at an offset suffice for the reads of the stored log of so many actions at another, with
@@ -102,42 +88,36 @@ fn suffice(s: &[u8], at: usize, size: usize, action: u8, counts: usize) -> bool
     ensures { result ≡ within_at (needs_of (take size (drop at s.now) ++ (action ∷ []))) s.now
         counts }
 {
+    let log = &s[at..][..size];
     let mut left = counts_at(s, counts);
-    let mut i: usize = 0;
-    while i < size {
-        let byte = s[at + i];
-        i += 1;
+    for &byte in log {
         let taken = taken_by(byte);
-        let channel = wide(byte) % CHANNELS;
+        let channel = usize::from(byte) % CHANNELS;
         let count = left[channel];
         if count < taken {
             return false;
         }
         left[channel] = count - taken;
     }
-    let last = taken_by(action);
-    last <= left[wide(action) % CHANNELS]
+    taken_by(action) <= left[usize::from(action) % CHANNELS]
 }
 
 // The lowest channel that is needed more often than the counts say that stand at an offset, and how many it lacks.
-fn lowest_short(s: &[u8], need: [u8; CHANNELS], counts: usize) -> Shortage
+fn lowest_short(s: &[u8], need: [u8; CHANNELS], counts: usize) -> Option<Short>
     requires { counts + channels ≤ length s.now }
     ensures { LowestFound result need s.now counts }
 {
-    let mut channel: u8 = 0;
-    while wide(channel) < CHANNELS {
-        let i = wide(channel);
-        let count = s[counts + i];
-        let needed = need[i];
+    for channel in 0..CHANNELS {
+        let count = s[counts + channel];
+        let needed = need[channel];
         if count < needed {
-            return Shortage::Short {
-                channel,
+            return Some(Short {
+                channel: channel as u8,
                 by: needed - count,
-            };
+            });
         }
-        channel += 1;
     }
-    Shortage::Enough
+    None
 }
 
 // What the reads of a stored log need, with one action more at its end.
@@ -146,17 +126,16 @@ fn needs_with(s: &[u8], at: usize, size: usize, action: u8) -> [u8; CHANNELS]
     ensures { result ≡ needs_of (take size (drop at s.now) ++ (action ∷ [])) }
 {
     let mut need = needs_of(s, at, size);
-    let i = wide(action);
-    if CHANNELS <= i {
-        return need;
+    if action < WRITE_OFFSET {
+        need[usize::from(action)] += 1;
     }
-    need[i] = one_more(need[i]);
     need
 }
 
-// The lowest channel that a stored log with one action more is short of. It is a function for both tests below, and none of
-// theirs, so that the compiler leaves it out of line and a test that passes stays short.
-fn lowest_lacking(s: &[u8], at: usize, size: usize, action: u8, counts: usize) -> Shortage
+// The lowest channel that a stored log with one action more is short of. It stays out of line, so that a test that passes
+// is short.
+#[inline(never)]
+fn lowest_lacking(s: &[u8], at: usize, size: usize, action: u8, counts: usize) -> Option<Short>
     requires { (size ≤ max_actions) × (at + size ≤ length s.now) × (counts + channels ≤ length s.now) }
     ensures { LowestFound result (needs_of (take size (drop at s.now) ++ (action ∷ []))) s.now
         counts }
@@ -165,29 +144,36 @@ fn lowest_lacking(s: &[u8], at: usize, size: usize, action: u8, counts: usize) -
     lowest_short(s, need, counts)
 }
 
-// The one test of reads against counts: what the counts that stand at an offset lack for the reads of a stored log. The
-// action more is a write, which needs nothing.
-pub fn shortage(s: &[u8], at: usize, size: usize, counts: usize) -> Shortage
+// The one test of reads against counts: what the counts that stand at an offset lack for the reads of a stored log with one
+// action more at its end.
+fn lacking(s: &[u8], at: usize, size: usize, action: u8, counts: usize) -> Option<Short>
+    requires { (size ≤ max_actions) × (at + size ≤ length s.now) × (counts + channels ≤ length s.now) }
+    ensures { LowestFound result (needs_of (take size (drop at s.now) ++ (action ∷ []))) s.now
+        counts }
+{
+    if suffice(s, at, size, action, counts) {
+        return None;
+    }
+    lowest_lacking(s, at, size, action, counts)
+}
+
+// What the counts that stand at an offset lack for the reads of a stored log. The action more is a write, which needs
+// nothing.
+pub fn shortage(s: &[u8], at: usize, size: usize, counts: usize) -> Option<Short>
     requires { (size ≤ max_actions) × (at + size ≤ length s.now) × (counts + channels ≤ length s.now) }
     ensures { shortage_of result ≡ short_at (take size (drop at s.now)) s.now counts }
 {
-    if suffice(s, at, size, WRITE_OFFSET, counts) {
-        return Shortage::Enough;
-    }
-    lowest_lacking(s, at, size, WRITE_OFFSET, counts)
+    lacking(s, at, size, WRITE_OFFSET, counts)
 }
 
-// The same test with a read of a channel at the log's end.
-pub fn shortage_with(s: &[u8], at: usize, size: usize, channel: u8, counts: usize) -> Shortage
+// What they lack for its reads and one read more, of a channel.
+pub fn shortage_with(s: &[u8], at: usize, size: usize, channel: u8, counts: usize) -> Option<Short>
     requires { (size ≤ max_actions) × (at + size ≤ length s.now) × (channel < channels)
         × (counts + channels ≤ length s.now) }
     ensures { shortage_of result ≡ short_at (take size (drop at s.now) ++ (channel ∷ []))
         s.now counts }
 {
-    if suffice(s, at, size, channel, counts) {
-        return Shortage::Enough;
-    }
-    lowest_lacking(s, at, size, channel, counts)
+    lacking(s, at, size, channel, counts)
 }
 
 // The counts of a hall, lowered by needs that they cover.
@@ -195,10 +181,8 @@ pub fn take_needs(s: &mut [u8], need: [u8; CHANNELS])
     requires { (channels ≤ length s.old) × (within_at need s.old 0 ≡ true) }
     ensures { s.new ≡ lowered need s.old }
 {
-    let mut channel: usize = 0;
-    while channel < CHANNELS {
-        s[channel] = s[channel] - need[channel];
-        channel += 1;
+    for (channel, &needed) in need.iter().enumerate() {
+        s[channel] -= needed;
     }
 }
 
@@ -207,12 +191,10 @@ pub fn outputs_of(s: &[u8], at: usize, size: usize) -> Outputs
     requires { (size ≤ max_actions) × (at + size ≤ length s.now) }
     ensures { OutputsAre result (writes_of (take size (drop at s.now))) }
 {
+    let log = &s[at..][..size];
     let mut bytes = [0u8; OUTPUTS_SIZE];
     let mut count: usize = 0;
-    let mut i: usize = 0;
-    while i < size {
-        let action = s[at + i];
-        i += 1;
+    for &action in log {
         if WRITE_OFFSET <= action {
             let end = count * IDLE_SIZE;
             bytes[end] = KIND_OUTPUT;

@@ -1,12 +1,8 @@
--- `needs_of` meets its contract: before each turn the needs are those of the first i actions. Assumes nothing.
-use Prim.Native.Nat.{◌≤◌, ◌-◌}
+-- `needs_of` meets its contract: before each turn the needs are those of the actions so far. Assumes nothing.
 use mathlib.Core.Path.{◌≡◌}
-use lib.ListN.{take, drop}
+use lib.ListN.{take}
 use Rattle.move_logs.specs.Needs.{needs_of}
 use Rattle.move_logs.proofs.needs_of.Given as goal
 
-abbrev pub invariant-loop-i : goal.invariant-loop-i
-invariant-loop-i l = (l.i ≤ l.size) × (l.need ≡ needs_of (take l.i (drop l.at l.s)))
-
-abbrev pub decreases-loop-i : goal.decreases-loop-i
-decreases-loop-i l = l.size - l.i
+abbrev pub invariant-loop-action : goal.invariant-loop-action
+invariant-loop-action l = l.need ≡ needs_of (take l.action-index l.log)

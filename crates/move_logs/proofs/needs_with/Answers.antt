@@ -1,12 +1,16 @@
 -- `needs_with` meets its contract. Assumes nothing.
-use Rattle.move_logs.proofs.LowestShort.{with_fit, with_read, with_write}
+use native.Mathlib.Omega.{arith}
+use lib.ListN.{length-take}
+use Rattle.move_logs.proofs.Needs.{needs_fit, also_read, also_written}
 use Rattle.move_logs.proofs.needs_with.Goals as goal
 
-pub returns-then-i-ge-CHANNELS : goal.returns-then-i-ge-CHANNELS
-returns-then-i-ge-CHANNELS c = search with_write
+pub overflow_add-need : goal.overflow_add-need
+overflow_add-need c = record {
+  fits = needs_fit _ _ _ _ c.needs_of-need.ensures (simp length-take (omega arith)) c.from.ensures (omega arith);
+}
 
-pub one_more-requires : goal.one_more-requires
-one_more-requires c = search with_fit
+pub returns-then-action-lt-WRITE_OFFSET : goal.returns-then-action-lt-WRITE_OFFSET
+returns-then-action-lt-WRITE_OFFSET c = search also_read
 
-pub returns : goal.returns
-returns c = search with_read
+pub returns-else-action-lt-WRITE_OFFSET : goal.returns-else-action-lt-WRITE_OFFSET
+returns-else-action-lt-WRITE_OFFSET c = search also_written

@@ -1,13 +1,9 @@
--- `suffice` meets its contract: before each turn the reads among the first i actions were taken. Assumes nothing.
-use Prim.Native.Nat.{◌≤◌, ◌-◌}
+-- `suffice` meets its contract: before each turn the reads among the actions so far were taken. Assumes nothing.
 use mathlib.Core.Path.{◌≡◌}
-use lib.ListN.{length, take, drop}
+use lib.ListN.{length, take}
 use Rattle.semantics.specs.Definitions.Layout.{channels}
 use Rattle.move_logs.proofs.CountsLeft.{Leaves}
 use Rattle.move_logs.proofs.suffice.Given as goal
 
-abbrev pub invariant-loop-i : goal.invariant-loop-i
-invariant-loop-i l = (l.i ≤ l.size) × (length l.left ≡ channels) × Leaves l.left l.s l.counts (take l.i (drop l.at l.s))
-
-abbrev pub decreases-loop-i : goal.decreases-loop-i
-decreases-loop-i l = l.size - l.i
+abbrev pub invariant-loop-byte : goal.invariant-loop-byte
+invariant-loop-byte l = (length l.left ≡ channels) × Leaves l.left l.s l.counts (take l.byte-index l.log)
