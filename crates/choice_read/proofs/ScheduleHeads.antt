@@ -1,5 +1,6 @@
 -- Laws of the head of a schedule: one for each return of the code.
 -- Assumes nothing.
+use Rattle.std.specs.Prelude.{Some, None, Ok, Err}
 use Prim.Native.Nat.{ℕ, zero, suc, ◌+◌, ◌-◌, ◌≤◌, ◌<◌}
 use native.Mathlib.Omega.{arith}
 use mathlib.Core.Path.{◌≡◌, refl}
@@ -8,8 +9,9 @@ use lib.ListN.{length, get_or, drop, length-drop, drop_of_length-le}
 use lib.Seq.{drop-cons}
 use Rattle.semantics.specs.Definitions.Run.{malformed, schedule}
 use Rattle.answers.specs.declared.choices.Entry.TheVariants.{Act, Inside}
-use Rattle.choice_read.specs.declared.ParsedEntry.TheVariants.{Entry, Malformed, End}
-use Rattle.choice_read.specs.Entries.{ParsedEntryIs}
+use Rattle.answers.specs.declared.refusals.Reason.TheVariants.{UnknownKind, CutShort}
+use Rattle.answers.specs.Answers.{reason_number}
+use Rattle.choice_read.specs.Entries.{ParsedIs}
 
 -- ---- bytes that are no entry
 
@@ -34,7 +36,7 @@ inside_short (p ∷ k ∷ bs) h = absurd (omega arith)
 -- ---- what the code finds
 
 module _ (s : List ℕ) (at : ℕ) where
-  pub found_end : length s ≤ at → ParsedEntryIs s at End
+  pub found_end : length s ≤ at → ParsedIs s at None
   unfolding schedule
   found_end h = rw (drop_of_length-le s h)
 
@@ -48,17 +50,20 @@ module _ (s : List ℕ) (at : ℕ) where
   rest_length : length (drop (at + 1) s) ≡ length s - (at + 1)
   rest_length = length-drop (at + 1) s
 
-  pub found_unknown : at < length s → (get_or s at 0 ≡ 1 → ⊥) → (get_or s at 0 ≡ 2 → ⊥) → ParsedEntryIs s at (Malformed 12)
+  pub found_unknown : at < length s → (get_or s at 0 ≡ 1 → ⊥) → (get_or s at 0 ≡ 2 → ⊥) → ParsedIs s at (Some (Err UnknownKind))
+  unfolding reason_number
   found_unknown l h i = rw (first l) (unknown (get_or s at 0) (drop (at + 1) s) h i)
 
-  pub found_act_short : at < length s → get_or s at 0 ≡ 1 → length s - at < 2 → ParsedEntryIs s at (Malformed 13)
+  pub found_act_short : at < length s → get_or s at 0 ≡ 1 → length s - at < 2 → ParsedIs s at (Some (Err CutShort))
+  unfolding reason_number
   found_act_short l k h = let r = rest_length in rw (first l, k) (act_short (drop (at + 1) s) (omega arith))
 
-  pub found_inside_short : at < length s → get_or s at 0 ≡ 2 → length s - at < 3 → ParsedEntryIs s at (Malformed 13)
+  pub found_inside_short : at < length s → get_or s at 0 ≡ 2 → length s - at < 3 → ParsedIs s at (Some (Err CutShort))
+  unfolding reason_number
   found_inside_short l k h = let r = rest_length in rw (first l, k) (inside_short (drop (at + 1) s) (omega arith))
 
   pub found_act : at < length s → get_or s at 0 ≡ 1 → 2 ≤ length s - at →
-      ParsedEntryIs s at (Entry (Act (get_or s (at + 1) 0)) (at + 2))
+      ParsedIs s at (Some (Ok (record { entry = Act (get_or s (at + 1) 0); next = at + 2 })))
   unfolding schedule
   found_act l k h = record {
     size = 2;
@@ -69,7 +74,7 @@ module _ (s : List ℕ) (at : ℕ) where
   }
 
   pub found_inside : at < length s → get_or s at 0 ≡ 2 → 3 ≤ length s - at →
-      ParsedEntryIs s at (Entry (Inside (get_or s (at + 1) 0) (get_or s (at + 2) 0)) (at + 3))
+      ParsedIs s at (Some (Ok (record { entry = Inside (get_or s (at + 1) 0) (get_or s (at + 2) 0); next = at + 3 })))
   unfolding schedule
   found_inside l k h = record {
     size = 3;

@@ -1,11 +1,11 @@
 -- What the code finds at an offset of a schedule (list of choices), said by the schedule that begins there.
 -- Assumes nothing.
-use Rattle.std.specs.Prelude.{ℕ, ◌+◌, ◌≤◌, ◌<◌, ◌≡◌, List, [], ◌∷◌, length, drop}
+use Rattle.std.specs.Prelude.{ℕ, ◌+◌, ◌≤◌, ◌<◌, ◌≡◌, List, [], ◌∷◌, length, drop, Option, Some, None, Result, Ok, Err}
 use Rattle.semantics.specs.Definitions.Moves as moves
 use Rattle.semantics.specs.Definitions.Run.{entry, malformed, schedule}
-use Rattle.answers.specs.Answers.{entry_of}
-use Rattle.choice_read.specs.declared.ParsedEntry.{ParsedEntry}
-use Rattle.choice_read.specs.declared.ParsedEntry.TheVariants as parsed
+use Rattle.answers.specs.declared.refusals.Reason.{Reason}
+use Rattle.answers.specs.Answers.{reason_number, entry_of}
+use Rattle.choice_read.specs.declared.Parsed.{Parsed}
 
 -- an entry of some bytes stands at an offset, and the rest of the schedule behind it
 pub record EntryAt (s : List ℕ) (at : ℕ) (e : moves.Entry) (next : ℕ) : Type 0 where
@@ -16,7 +16,7 @@ pub record EntryAt (s : List ℕ) (at : ℕ) (e : moves.Entry) (next : ℕ) : Ty
   pub held : next ≤ length s
 
 -- what was found at an offset is what the schedule that begins there says; each case is that of one schedule alone
-abbrev pub ParsedEntryIs : List ℕ → ℕ → ParsedEntry → Type 0
-ParsedEntryIs s at (parsed.Entry e next) = EntryAt s at (entry_of e) next
-ParsedEntryIs s at (parsed.Malformed n) = schedule (drop at s) ≡ malformed n ∷ []
-ParsedEntryIs s at parsed.End = schedule (drop at s) ≡ []
+abbrev pub ParsedIs : List ℕ → ℕ → Option (Result Parsed Reason) → Type 0
+ParsedIs s at (Some (Ok p)) = EntryAt s at (entry_of p.entry) p.next
+ParsedIs s at (Some (Err e)) = schedule (drop at s) ≡ malformed (reason_number e) ∷ []
+ParsedIs s at None = schedule (drop at s) ≡ []

@@ -1,49 +1,51 @@
 // The entry (choice) whose bytes begin at an offset of a schedule (document 01's list of choices).
 #![tactic(auto)]
 
-ghost use Rattle.choice_read.specs.Entries.{ParsedEntryIs};
+ghost use Rattle.choice_read.specs.Entries.{ParsedIs};
 
-use answers::{CUT_SHORT, Entry, KIND_ACT, KIND_INSIDE, UNKNOWN_KIND};
+use answers::{Entry, KIND_ACT, KIND_INSIDE, Reason};
 
 // The bytes of an entry of each kind, kind and all.
 pub const ACT_SIZE: usize = 2;
 
 pub const INSIDE_SIZE: usize = 3;
 
-// What stands at an offset of a schedule: an entry with the offset behind it, what is refused, or nothing any more.
+// An entry, with the offset behind it.
 #[derive(Clone, Copy)]
-pub enum ParsedEntry {
-    Entry { entry: Entry, next: usize },
-    Malformed(u8),
-    End,
+pub struct Parsed {
+    pub entry: Entry,
+    pub next: usize,
 }
 
-pub fn parse_entry(choices: &[u8], at: usize) -> ParsedEntry
-    ensures { ParsedEntryIs choices.now at result }
+// What stands at an offset of a schedule: an entry, or what is refused there; nothing past the end.
+pub fn parse_entry(choices: &[u8], at: usize) -> Option<Result<Parsed, Reason>>
+    ensures { ParsedIs choices.now at result }
 {
     if choices.len() <= at {
-        return ParsedEntry::End;
+        return None;
     }
     let kind = choices[at];
     let left = choices.len() - at;
     if kind == KIND_ACT {
         if left < ACT_SIZE {
-            return ParsedEntry::Malformed(CUT_SHORT);
+            return Some(Err(Reason::CutShort));
         }
         let position = choices[at + 1];
-        let next = at + ACT_SIZE;
-        let entry = Entry::Act { position };
-        return ParsedEntry::Entry { entry, next };
+        return Some(Ok(Parsed {
+            entry: Entry::Act { position },
+            next: at + ACT_SIZE,
+        }));
     }
     if kind == KIND_INSIDE {
         if left < INSIDE_SIZE {
-            return ParsedEntry::Malformed(CUT_SHORT);
+            return Some(Err(Reason::CutShort));
         }
         let position = choices[at + 1];
         let node = choices[at + 2];
-        let next = at + INSIDE_SIZE;
-        let entry = Entry::Inside { position, node };
-        return ParsedEntry::Entry { entry, next };
+        return Some(Ok(Parsed {
+            entry: Entry::Inside { position, node },
+            next: at + INSIDE_SIZE,
+        }));
     }
-    ParsedEntry::Malformed(UNKNOWN_KIND)
+    Some(Err(Reason::UnknownKind))
 }
