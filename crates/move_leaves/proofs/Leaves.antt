@@ -10,6 +10,7 @@ use lib.ListN.{length, get_or, drop, get_elem?, length-append, length-drop}
 use lib.Seq.{get_or-drop}
 use lib.Dec.{eqb}
 use borrow.Author.Tests.{ne_eqb, eqb-true, eqb-false}
+use Rattle.std.specs.Prelude.{Some, None}
 use Rattle.calculus.specs.Syntax.{Log, State}
 use Rattle.semantics.specs.Definitions.Terms.{Expression, end_t, retry_t, rd_t, wt_t, or_else_t, Term, process, expression, number}
 use Rattle.semantics.specs.Definitions.Configuration.{Tree, leaf, fork, transaction, Configuration}
@@ -137,15 +138,15 @@ leaf_names d s at x other =
     record { terms = x.terms; named = M; decoded = x.there.decoded; there = leaf_named (rw e at x.there) }
 
 -- what the code answers, at a fork and at a leaf
-pub fork_read : (d s : List ℕ) (at : ℕ) → get_or s at 0 ≡ fork_kind → LeafKindRead d s at 0
+pub fork_read : (d s : List ℕ) (at : ℕ) → get_or s at 0 ≡ fork_kind → LeafKindRead d s at None
 unfolding kind_of_node
 fork_read d s at f = record { found = λ ts u x. let (l, r, e) = as_fork x f in rw e }
 
 pub leaf_read : (d s : List ℕ) (at k : ℕ) → (get_or s at 0 ≡ fork_kind → ⊥) → ExpressionKindRead d (get_or s (at + leaf_term) 0) k →
-    LeafKindRead d s at k
+    LeafKindRead d s at (Some k)
 unfolding kind_of_node
 leaf_read d s at k other q = record {
-  found = λ ts u x. let (M, δ, e) = as_leaf x other in rw e (q.found ts M x.decoded (leaf_named (rw e at x)));
+  found = λ ts u x. let (M, δ, e) = as_leaf x other in rw e (ap Some (q.found ts M x.decoded (leaf_named (rw e at x))));
 }
 
 -- the left side of a fork stands behind its byte

@@ -3,7 +3,7 @@
 --
 -- d is a decoded table; s has a hall's bytes.
 -- Assumes nothing.
-use Rattle.std.specs.Prelude.{ℕ, ◌<◌, ◌≡◌, List, ◌++◌, get_or, drop}
+use Rattle.std.specs.Prelude.{ℕ, ◌<◌, ◌≡◌, Option, Some, None, List, ◌++◌, get_or, drop}
 use Rattle.std.proofs.Math.Option.{some}
 use Rattle.semantics.specs.Definitions.Terms.{Expression, Term, expression}
 use Rattle.semantics.specs.Definitions.Configuration.{Tree, leaf, fork, Configuration}
@@ -29,11 +29,11 @@ pub record ExpressionKindRead (d : List ℕ) (b r : ℕ) : Type 0 where
 
 -- ---- a node
 
--- the byte of the kind of a leaf's expression; 0 for a fork
-unfoldable pub kind_of_node : Tree → ℕ
+-- the byte of the kind of a leaf's expression; none for a fork
+unfoldable pub kind_of_node : Tree → Option ℕ
 unfolding term_kind
-kind_of_node (leaf M δ) = term_kind (expression M)
-kind_of_node (fork l r) = 0
+kind_of_node (leaf M δ) = Some (term_kind (expression M))
+kind_of_node (fork l r) = None
 
 -- the tree u, of the terms ts that d decodes, stands at an offset
 pub record TreeAt (ts : List Term) (u : Tree) (d s : List ℕ) (at : ℕ) : Type 0 where
@@ -49,7 +49,7 @@ pub record CanReadNode (d s : List ℕ) (at : ℕ) : Type 0 where
   pub there : TreeAt terms tree d s at
 
 -- r is the kind at its node, whichever table and tree it is
-pub record LeafKindRead (d s : List ℕ) (at r : ℕ) : Type 0 where
+pub record LeafKindRead (d s : List ℕ) (at : ℕ) (r : Option ℕ) : Type 0 where
   pub found : (ts : List Term) (u : Tree) → TreeAt ts u d s at → r ≡ kind_of_node u
 
 -- ---- a transaction
