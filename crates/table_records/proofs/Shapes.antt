@@ -4,16 +4,19 @@ use Prim.{Unit}
 use Prim.Native.Nat.{ℕ, zero, suc, ◌+◌, ◌≤◌, ◌<◌}
 use native.Mathlib.Nat.{eq-or-lt_of_le}
 use native.Mathlib.Omega.{arith}
-use mathlib.Core.Path.{◌≡◌, refl}
+use mathlib.Core.Path.{◌≡◌, refl, ap, ◌∙◌}
+use mathlib.Core.Bool.{Bool, true, false, not, true≢false, false≢true}
 use mathlib.Core.Logic.{⊎_elim}
-use mathlib.Core.Option.{Option, none, some}
+use mathlib.Core.Option.{none, some}
+use mathlib.Core.Option as option
+use Rattle.std.specs.Prelude.{None, is_some}
 use mathlib.Core.List.{List, [], ◌∷◌}
 use lib.ListN.{length, get_or, get_elem?}
-use Rattle.semantics.specs.Definitions.Table.{Kind, kinds, kind_by_number, Field, channel_f, program_f, expression_f, amount_f, fields}
+use Rattle.semantics.specs.Definitions.Table.{Kind, kinds, kind_by_number, Field, fields}
 use Rattle.theorems.proofs.Lists.{all_at}
 use Rattle.table_records.specs.declared.Shape.{Shape}
 use Rattle.table_records.specs.ParsedRecords.{RecordBegins, ShortRecord}
-use Rattle.table_records.specs.Shapes.{last_kind, fields_of, body_of, field_number, class_of, number_of, shape_of}
+use Rattle.table_records.specs.Shapes.{last_kind, fields_of, body_of, field_at, class_of, shape_of}
 
 -- ---- by the kinds from one number on
 
@@ -42,7 +45,7 @@ unfolding body_of fields_of kind_by_number
 body_few zero b p = omega arith
 body_few (suc k) b p = rw p (go (get_elem? kinds k) refl)
   where
-    go : (o : Option Kind) → get_elem? kinds k ≡ o → length (fields_of o) ≤ 2
+    go : (o : option.Option Kind) → get_elem? kinds k ≡ o → length (fields_of o) ≤ 2
     go none e = omega arith
     go (some K) e = fields_few K k e
 
@@ -69,16 +72,10 @@ beyond : (k n : ℕ) → 0 < k → NoneOf k n → n < k
 beyond k zero h r = h
 beyond k (suc n) h r = let g = beyond k n h r.0 in let e = r.1 in omega arith
 
-pub no_shape : (k : ℕ) → NoneOf k last_kind → (0, 0, 0) ≡ shape_of k
+pub no_shape : (k : ℕ) → NoneOf k last_kind → record { class = None; first = None; second = None } ≡ shape_of k
 unfolding shape_of body_of class_of
 no_shape zero r = refl
 no_shape (suc k) r = rw (no_kind (suc k) (beyond (suc k) last_kind (omega arith) r))
-
-numbered : (f : Field) → field_number f ≡ 0 → ⊥
-numbered channel_f e = omega arith
-numbered program_f e = omega arith
-numbered expression_f e = omega arith
-numbered amount_f e = omega arith
 
 pub cut_short : (s : List ℕ) (at k next : ℕ) → RecordBegins s at k next → length s < next → ShortRecord s at
 cut_short s at k next x h =
@@ -86,35 +83,35 @@ cut_short s at k next x h =
 
 -- x is the shape of kind k
 module _ (k : ℕ) (x : Shape) (p : x ≡ shape_of k) where
-  pub shape_class : x.0 ≡ class_of k
+  pub shape_class : x.class ≡ class_of k
   unfolding shape_of
   shape_class = rw p
 
   -- its body has no byte, one, or two
-  no_byte : x.1 ≡ 0 → length (body_of k) ≡ 0
-  unfolding shape_of
+  no_byte : is_some x.first ≡ false → length (body_of k) ≡ 0
+  unfolding shape_of field_at
   no_byte h = go (body_of k) (rw p at h)
     where
-      go : (fs : List Field) → number_of (get_elem? fs 0) ≡ 0 → length fs ≡ 0
+      go : (fs : List Field) → is_some (field_at fs 0) ≡ false → length fs ≡ 0
       go [] e = refl
-      go (f ∷ fs) e = absurd (numbered f e)
+      go (f ∷ fs) e = absurd (true≢false e)
 
-  one_byte : (x.1 ≡ 0 → ⊥) → x.2 ≡ 0 → length (body_of k) ≡ 1
-  unfolding shape_of
+  one_byte : is_some x.first ≡ true → is_some x.second ≡ false → length (body_of k) ≡ 1
+  unfolding shape_of field_at
   one_byte h g = go (body_of k) (rw p at h) (rw p at g)
     where
-      go : (fs : List Field) → (number_of (get_elem? fs 0) ≡ 0 → ⊥) → number_of (get_elem? fs 1) ≡ 0 → length fs ≡ 1
-      go [] h g = absurd (h refl)
+      go : (fs : List Field) → is_some (field_at fs 0) ≡ true → is_some (field_at fs 1) ≡ false → length fs ≡ 1
+      go [] h g = absurd (false≢true h)
       go (f ∷ []) h g = refl
-      go (f ∷ e ∷ fs) h g = absurd (numbered e g)
+      go (f ∷ e ∷ fs) h g = absurd (true≢false g)
 
-  two_bytes : (x.2 ≡ 0 → ⊥) → length (body_of k) ≡ 2
-  unfolding shape_of
+  two_bytes : is_some x.second ≡ true → length (body_of k) ≡ 2
+  unfolding shape_of field_at
   two_bytes h = go (body_of k) (body_few k (length (body_of k)) refl) (rw p at h)
     where
-      go : (fs : List Field) → length fs ≤ 2 → (number_of (get_elem? fs 1) ≡ 0 → ⊥) → length fs ≡ 2
-      go [] n h = absurd (h refl)
-      go (f ∷ []) n h = absurd (h refl)
+      go : (fs : List Field) → length fs ≤ 2 → is_some (field_at fs 1) ≡ true → length fs ≡ 2
+      go [] n h = absurd (false≢true h)
+      go (f ∷ []) n h = absurd (false≢true h)
       go (f ∷ e ∷ []) n h = refl
       go (f ∷ e ∷ d ∷ fs) n h = absurd (omega arith)
 
@@ -123,11 +120,13 @@ module _ (k : ℕ) (x : Shape) (p : x ≡ shape_of k) where
     begins : (n : ℕ) → length (body_of k) ≡ n → (next : ℕ) → next ≡ at + 1 + n → RecordBegins s at k next
     begins n e next q = record { inside = inside; known = record { low = omega arith; high = high }; kind = kind; behind = rw e q }
 
-    pub begins_alone : x.1 ≡ 0 → RecordBegins s at k (at + 1)
-    begins_alone h = begins 0 (no_byte h) (at + 1) (omega arith)
+    module _ (b : Bool) (e : is_some x.first ≡ not b) where
+      pub begins_alone : b ≡ true → RecordBegins s at k (at + 1)
+      begins_alone h = begins 0 (no_byte (e ∙ ap not h)) (at + 1) (omega arith)
 
-    pub begins_with_one : (x.1 ≡ 0 → ⊥) → x.2 ≡ 0 → RecordBegins s at k (at + 2)
-    begins_with_one h g = begins 1 (one_byte h g) (at + 2) (omega arith)
+      module _ (h : b ≡ false) (d : Bool) (f : is_some x.second ≡ not d) where
+        pub begins_with_one : d ≡ true → RecordBegins s at k (at + 2)
+        begins_with_one g = begins 1 (one_byte (e ∙ ap not h) (f ∙ ap not g)) (at + 2) (omega arith)
 
-    pub begins_with_two : (x.2 ≡ 0 → ⊥) → RecordBegins s at k (at + 3)
-    begins_with_two h = begins 2 (two_bytes h) (at + 3) (omega arith)
+        pub begins_with_two : d ≡ false → RecordBegins s at k (at + 3)
+        begins_with_two g = begins 2 (two_bytes (f ∙ ap not g)) (at + 3) (omega arith)

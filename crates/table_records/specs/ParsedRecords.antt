@@ -1,10 +1,10 @@
 -- What parsing answers at an offset of a table's bytes: one of four cases, and what each says of the bytes.
 -- Assumes nothing.
-use Rattle.std.specs.Prelude.{ℕ, ◌+◌, ◌≤◌, ◌<◌, ◌≡◌, ◌⊎◌, List, length, get_or}
+use Rattle.std.specs.Prelude.{ℕ, ◌+◌, ◌≤◌, ◌<◌, ◌≡◌, ◌⊎◌, List, length, get_or, Result, Ok, Err}
 use Rattle.semantics.specs.Definitions.Table.{nil_k}
 use Rattle.table_records.specs.declared.Record.{Record}
-use Rattle.table_records.specs.declared.ParsedRecord.{ParsedRecord}
-use Rattle.table_records.specs.declared.ParsedRecord.TheVariants.{End, UnknownKind, CutShort, Whole}
+use Rattle.table_records.specs.declared.NoRecord.{NoRecord}
+use Rattle.table_records.specs.declared.NoRecord.TheVariants.{End, UnknownKind, CutShort}
 use Rattle.table_records.specs.Shapes.{kind_byte, last_kind, body_of}
 
 -- a byte is that of a kind
@@ -34,8 +34,8 @@ pub record ShortRecord (s : List ℕ) (at : ℕ) : Type 0 where
   pub known : IsKind (get_or s at 0)
   pub cut : length s < at + 1 + length (body_of (get_or s at 0))
 
-abbrev pub ParsedRecordIs : List ℕ → ℕ → ParsedRecord → Type 0
-ParsedRecordIs s at End = length s ≤ at
-ParsedRecordIs s at UnknownKind = (at < length s) × ((get_or s at 0 ≡ 0) ⊎ (last_kind < get_or s at 0))
-ParsedRecordIs s at CutShort = ShortRecord s at
-ParsedRecordIs s at (Whole x) = WholeRecord s at x
+abbrev pub ParsedRecordIs : List ℕ → ℕ → Result Record NoRecord → Type 0
+ParsedRecordIs s at (Err End) = length s ≤ at
+ParsedRecordIs s at (Err UnknownKind) = (at < length s) × ((get_or s at 0 ≡ 0) ⊎ (last_kind < get_or s at 0))
+ParsedRecordIs s at (Err CutShort) = ShortRecord s at
+ParsedRecordIs s at (Ok x) = WholeRecord s at x

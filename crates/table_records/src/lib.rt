@@ -7,10 +7,10 @@ mod reader;
 ghost use Rattle.std.specs.Prelude.{◌≡◌, List, length};
 ghost use Rattle.semantics.specs.Definitions.Terms.{Term};
 ghost use Rattle.semantics.specs.Definitions.Table.{channel_out_of_range, forward_reference};
-ghost use Rattle.table_records.specs.Shapes.{field_from, fails_at, class_of, shape_of};
+ghost use Rattle.table_records.specs.Shapes.{fails_at, class_of, shape_of};
 ghost use Rattle.table_records.specs.ParsedRecords.{RecordBegins, ParsedRecordIs};
 
-use buffer::{byte_at, wide};
+use buffer::byte_at;
 pub use reader::{Reader, parse};
 
 // The kinds: processes, expressions, and the two that are no terms.
@@ -46,53 +46,75 @@ const LAST_KIND: u8 = START;
 // Channels are numbered below it.
 pub const CHANNELS: usize = 16;
 
-// What a byte of a body is. A reference has the number of the class that it refers to.
-pub const NO_FIELD: u8 = 0;
+// The class of a term.
+#[derive(Clone, Copy, PartialEq, Eq, Debug)]
+pub enum Class {
+    Process,
+    Expression,
+}
 
-pub const CHANNEL: u8 = 1;
+// What a byte of a body is.
+#[derive(Clone, Copy, PartialEq, Eq, Debug)]
+pub enum Field {
+    Channel,
+    // The number of an earlier term of this class.
+    Reference(Class),
+    Count,
+}
 
-pub const PROCESS: u8 = 2;
+// The class of a kind's records, none where they are no terms, and their fields.
+#[derive(Clone, Copy, PartialEq, Eq, Debug)]
+pub struct Shape {
+    pub class: Option<Class>,
+    pub first: Option<Field>,
+    pub second: Option<Field>,
+}
 
-pub const EXPRESSION: u8 = 3;
-
-pub const COUNT: u8 = 4;
-
-// The class of a record that is no term.
-pub const NO_CLASS: u8 = 0;
-
-// The class of a kind's records, and their first and second field.
-#[derive(Clone, Copy)]
-pub struct Shape(pub u8, pub u8, pub u8);
-
-// What the records of a kind are, in a line for each. A body has a byte for each field: lengths of bodies, classes and
+// What the records of each kind are. A body has a byte for each field: lengths of bodies, classes and
 // the tests of fields are made from this.
+#[tactic(auto, using(crate::proofs::Shapes::no_shape), unfolding(crate::specs::Shapes::shape_of))]
 pub fn shape_of(kind: u8) -> Shape
     ensures { result ≡ shape_of kind }
 {
-    match kind {
-        NIL => Shape(PROCESS, NO_FIELD, NO_FIELD),
-        PUT => Shape(PROCESS, CHANNEL, NO_FIELD),
-        TAKE => Shape(PROCESS, CHANNEL, PROCESS),
-        REPEATED_TAKE => Shape(PROCESS, CHANNEL, PROCESS),
-        PAR => Shape(PROCESS, PROCESS, PROCESS),
-        ATOM => Shape(PROCESS, EXPRESSION, NO_FIELD),
-        END => Shape(EXPRESSION, NO_FIELD, NO_FIELD),
-        RETRY => Shape(EXPRESSION, NO_FIELD, NO_FIELD),
-        RD => Shape(EXPRESSION, CHANNEL, EXPRESSION),
-        WT => Shape(EXPRESSION, CHANNEL, EXPRESSION),
-        OR_ELSE => Shape(EXPRESSION, EXPRESSION, EXPRESSION),
-        TOKENS => Shape(NO_CLASS, CHANNEL, COUNT),
-        START => Shape(NO_CLASS, PROCESS, NO_FIELD),
-        _ => Shape(NO_CLASS, NO_FIELD, NO_FIELD),
+    use Class::{Expression, Process};
+    use Field::{Channel, Count, Reference};
+    let (class, first, second) = match kind {
+        NIL => (Some(Process), None, None),
+        PUT => (Some(Process), Some(Channel), None),
+        TAKE => (Some(Process), Some(Channel), Some(Reference(Process))),
+        REPEATED_TAKE => (Some(Process), Some(Channel), Some(Reference(Process))),
+        PAR => (
+            Some(Process),
+            Some(Reference(Process)),
+            Some(Reference(Process)),
+        ),
+        ATOM => (Some(Process), Some(Reference(Expression)), None),
+        END => (Some(Expression), None, None),
+        RETRY => (Some(Expression), None, None),
+        RD => (Some(Expression), Some(Channel), Some(Reference(Expression))),
+        WT => (Some(Expression), Some(Channel), Some(Reference(Expression))),
+        OR_ELSE => (
+            Some(Expression),
+            Some(Reference(Expression)),
+            Some(Reference(Expression)),
+        ),
+        TOKENS => (None, Some(Channel), Some(Count)),
+        START => (None, Some(Reference(Process)), None),
+        _ => (None, None, None),
+    };
+    Shape {
+        class,
+        first,
+        second,
     }
 }
 
-// The class of a kind's records: PROCESS, EXPRESSION or NO_CLASS.
-pub fn class_of(kind: u8) -> u8
+// The class of a kind's records.
+#[tactic(auto, using(crate::proofs::Shapes::shape_class))]
+pub fn class_of(kind: u8) -> Option<Class>
     ensures { result ≡ class_of kind }
 {
-    let Shape(class, _, _) = shape_of(kind);
-    class
+    shape_of(kind).class
 }
 
 // A record: its kind, the two bytes behind the kind (0 past the table's end), which are its body where that has as
@@ -105,28 +127,27 @@ pub struct Record {
     pub next: usize,
 }
 
-// What stands at an offset of a table's bytes.
-#[derive(Clone, Copy)]
-pub enum ParsedRecord {
+// Why no record stands at an offset of a table's bytes.
+#[derive(Clone, Copy, PartialEq, Eq, Debug)]
+pub enum NoRecord {
     // No byte is left.
     End,
     UnknownKind,
     // The kind's body runs past the table's end.
     CutShort,
-    Whole(Record),
 }
 
 // The record of a kind that begins at an offset, with the offset behind it.
-fn record_up_to(table: &[u8], at: usize, kind: u8, next: usize) -> ParsedRecord
+fn record_up_to(table: &[u8], at: usize, kind: u8, next: usize) -> Result<Record, NoRecord>
     requires { RecordBegins table.now at kind next }
     ensures { ParsedRecordIs table.now at result }
 {
     if table.len() < next {
-        return ParsedRecord::CutShort;
+        return Err(NoRecord::CutShort);
     }
     let first = byte_at(table, at + 1);
     let second = byte_at(table, at + 2);
-    ParsedRecord::Whole(Record {
+    Ok(Record {
         kind,
         first,
         second,
@@ -136,46 +157,44 @@ fn record_up_to(table: &[u8], at: usize, kind: u8, next: usize) -> ParsedRecord
 
 // What stands at an offset: the work beneath the reader. Each length of a body has a way of its own, so that where the
 // next record begins is foreseen, and need not wait for this one's kind.
-fn record_at(table: &[u8], at: usize) -> ParsedRecord
+fn record_at(table: &[u8], at: usize) -> Result<Record, NoRecord>
     ensures { ParsedRecordIs table.now at result }
 {
     if table.len() <= at {
-        return ParsedRecord::End;
+        return Err(NoRecord::End);
     }
     let kind = table[at];
-    if kind == 0 {
-        return ParsedRecord::UnknownKind;
+    if kind == 0 || LAST_KIND < kind {
+        return Err(NoRecord::UnknownKind);
     }
-    if LAST_KIND < kind {
-        return ParsedRecord::UnknownKind;
-    }
-    let Shape(_, first, second) = shape_of(kind);
-    if first == NO_FIELD {
+    let shape = shape_of(kind);
+    if shape.first.is_none() {
         return record_up_to(table, at, kind, at + 1);
     }
-    if second == NO_FIELD {
+    if shape.second.is_none() {
         return record_up_to(table, at, kind, at + 2);
     }
     record_up_to(table, at, kind, at + 3)
 }
 
 // 4, on one field: a channel that no hall has.
-pub fn channel_out_of_range(field: u8, byte: u8) -> bool
-    ensures { result ≡ fails_at channel_out_of_range (field_from field) byte }
+#[tactic(auto, unfolding(crate::specs::Shapes::fails_at, semantics::specs::Definitions::Table::channel_out_of_range))]
+pub fn channel_out_of_range(field: Option<Field>, byte: u8) -> bool
+    ensures { result ≡ fails_at channel_out_of_range field byte }
 {
-    if field == CHANNEL {
-        CHANNELS <= wide(byte)
-    } else {
-        false
+    match field {
+        Some(Field::Channel) => CHANNELS <= usize::from(byte),
+        _ => false,
     }
 }
 
 // 5, on one field: a reference that is not to one of the terms so far.
-pub fn forward_reference(terms: usize, field: u8, byte: u8) -> bool
-    ensures { (ts : List Term) → length ts ≡ terms → result ≡ fails_at (forward_reference ts) (field_from field) byte }
+#[tactic(auto, unfolding(crate::specs::Shapes::fails_at, semantics::specs::Definitions::Table::forward_reference))]
+pub fn forward_reference(terms: usize, field: Option<Field>, byte: u8) -> bool
+    ensures { (ts : List Term) → length ts ≡ terms → result ≡ fails_at (forward_reference ts) field byte }
 {
     match field {
-        PROCESS | EXPRESSION => terms <= wide(byte),
+        Some(Field::Reference(_)) => terms <= usize::from(byte),
         _ => false,
     }
 }

@@ -1,9 +1,8 @@
-// The reader that draws a table's records. Its functions are thin: each takes it apart or puts it together, and the
-// work is done on a slice and an offset.
+// The reader that draws a table's records. Its functions are thin: the work is done on a slice and an offset.
 ghost use Rattle.std.specs.Prelude.{◌≡◌};
 ghost use Rattle.table_records.specs.ParsedRecords.{ParsedRecordIs};
 
-use crate::{ParsedRecord, record_at};
+use crate::{NoRecord, Record, record_at};
 
 // The offset of a table's first record.
 const FIRST_RECORD: usize = 0;
@@ -37,16 +36,15 @@ impl<'a> Reader<'a> {
     }
 
     // What stands at the reader's offset. A whole record has the offset behind it, for `seek`.
-    pub fn parse_next(self) -> ParsedRecord
+    pub fn parse_next(self) -> Result<Record, NoRecord>
         ensures { ParsedRecordIs self.entry.table.now self.entry.at result }
     {
         record_at(self.table, self.at)
     }
 }
 
-// What stands at an offset of a table, drawn by a reader. Callers keep a slice and an offset: a function that holds a
-// reader is proved step by step by hand, and one that calls this is not.
-pub fn parse(table: &[u8], at: usize) -> ParsedRecord
+// What stands at an offset of a table, drawn by a reader, for callers that keep a slice and an offset.
+pub fn parse(table: &[u8], at: usize) -> Result<Record, NoRecord>
     ensures { ParsedRecordIs table.now at result }
 {
     Reader::new(table).seek(at).parse_next()

@@ -2,44 +2,48 @@
 -- Assumes nothing.
 use Prim.Native.Nat.{ℕ, ◌≤◌, ◌<◌}
 use native.Mathlib.Omega.{arith}
-use mathlib.Core.Path.{◌≡◌, ◌∙◌}
-use mathlib.Core.Bool.{Bool, true}
+use mathlib.Core.Path.{◌≡◌}
+use mathlib.Core.Bool.{false}
 use lib.Dec.{ltb}
 use borrow.Author.Tests.{lt-ltb, le-ltb}
+use Rattle.std.specs.Prelude.{Option, Some, None}
 use Rattle.semantics.specs.Definitions.Layout.{max_components, max_branches, max_actions}
-use Rattle.semantics.specs.Definitions.Terms.{Expression, Program, Term, process, expression}
-use Rattle.semantics.specs.Definitions.Table.{program_f, term_record, over_limit}
-use Rattle.table_records.specs.Shapes.{field_number, class_of}
-use Rattle.table_terms.specs.Decoded.{RecordOf, breadth, term_length}
+use Rattle.semantics.specs.Definitions.Terms.{Term, process, expression}
+use Rattle.semantics.specs.Definitions.Table.{term_record, over_limit}
+use Rattle.table_records.specs.declared.Class.{Class}
+use Rattle.table_records.specs.declared.Class.TheVariants.{Process, Expression}
+use Rattle.table_records.specs.Shapes.{term_class, class_of}
+use Rattle.table_terms.specs.Decoded.{breadth, term_length}
 use Rattle.table_terms.specs.TermMeasures.{LimitTested}
 use Rattle.table_terms.proofs.TermKinds.{record_class}
 
 -- c is the class of kind k
-module _ (k b l c : ℕ) (class : c ≡ class_of k) where
-  of_process : (r : Bool) → c ≡ field_number program_f → ((P : Program) → b ≡ breadth (process P) → r ≡ over_limit (term_record (process P))) → LimitTested k b l r
-  of_process r h f = record { found = λ i x y t e p q. go i x y t e p }
-    where
-      go : (i x y : ℕ) (t : Term) → RecordOf i k x y t → b ≡ breadth t → r ≡ over_limit (term_record t)
-      go i x y (process P) e p = f P p
-      go i x y (expression M) e p = let g = record_class i k x y (expression M) e in absurd (omega arith)
+module _ (k b l : ℕ) (c : Option Class) (class : c ≡ class_of k) where
+  pub no_term : c ≡ None → LimitTested k b l false
+  no_term e = record { found = λ i x y t r p q. let s = record_class i k x y t r in let z : ◌≡◌ {A = ℕ} 0 1 = cc in absurd (omega arith) }
 
-  module _ (other : c ≡ field_number program_f → ⊥) where
-    of_expression_holds : (r : Bool) →
-        ((M : Expression) → b ≡ breadth (expression M) → l ≡ term_length (expression M) → r ≡ over_limit (term_record (expression M))) → LimitTested k b l r
-    of_expression_holds r f = record { found = λ i x y t e p q. go i x y t e p q }
-      where
-        go : (i x y : ℕ) (t : Term) → RecordOf i k x y t → b ≡ breadth t → l ≡ term_length t → r ≡ over_limit (term_record t)
-        go i x y (process P) e p q = absurd (other (class ∙ record_class i k x y (process P) e))
-        go i x y (expression M) e p q = f M p q
-
-    pub branches_over : max_branches < b → LimitTested k b l true
+  module _ (x : Class) (is : c ≡ Some x) where
+    pub width_tested : x ≡ Process → LimitTested k b l (ltb max_components b)
     unfolding breadth over_limit
-    branches_over g = of_expression_holds true (λ M p q. rw (← p, lt-ltb max_branches b g))
+    width_tested e = record { found = λ i y z t r p q. go t (record_class i k y z t r) p }
+      where
+        go : (t : Term) → class_of k ≡ Some (term_class t) → b ≡ breadth t → ltb max_components b ≡ over_limit (term_record t)
+        go (process P) s p = rw p
+        go (expression M) s p = let z : ◌≡◌ {A = ℕ} 0 1 = cc in absurd (omega arith)
 
-    pub length_tested : b ≤ max_branches → LimitTested k b l (ltb max_actions l)
-    unfolding breadth term_length over_limit
-    length_tested g = of_expression_holds (ltb max_actions l) (λ M p q. rw (← p, ← q, le-ltb max_branches b g))
+    module _ (e : x ≡ Expression) where
+      pub branches_over : max_branches < b → LimitTested k b l (ltb max_branches b)
+      unfolding breadth over_limit
+      branches_over g = record { found = λ i y z t r p q. go t (record_class i k y z t r) p }
+        where
+          go : (t : Term) → class_of k ≡ Some (term_class t) → b ≡ breadth t → ltb max_branches b ≡ over_limit (term_record t)
+          go (process P) s p = let z : ◌≡◌ {A = ℕ} 0 1 = cc in absurd (omega arith)
+          go (expression M) s p = rw (← p, lt-ltb max_branches b g)
 
-  pub width_tested : c ≡ field_number program_f → LimitTested k b l (ltb max_components b)
-  unfolding breadth over_limit
-  width_tested h = of_process (ltb max_components b) h (λ P p. rw p)
+      pub length_tested : b ≤ max_branches → LimitTested k b l (ltb max_actions l)
+      unfolding breadth term_length over_limit
+      length_tested g = record { found = λ i y z t r p q. go t (record_class i k y z t r) p q }
+        where
+          go : (t : Term) → class_of k ≡ Some (term_class t) → b ≡ breadth t → l ≡ term_length t → ltb max_actions l ≡ over_limit (term_record t)
+          go (process P) s p q = let z : ◌≡◌ {A = ℕ} 0 1 = cc in absurd (omega arith)
+          go (expression M) s p q = rw (← p, ← q, le-ltb max_branches b g)

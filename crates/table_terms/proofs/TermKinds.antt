@@ -2,11 +2,12 @@
 -- Assumes nothing.
 use Prim.Native.Nat.{ℕ}
 use mathlib.Core.Path.{◌≡◌}
+use Rattle.std.specs.Prelude.{Some}
 use Rattle.semantics.specs.Definitions.Terms.{end_t, retry_t, rd_t, wt_t, or_else_t, nil_t, put_t, take_t, repeat_t, par_t, atom_t, Term, process, expression}
-use Rattle.table_records.specs.Shapes.{field_number, term_class, class_of}
+use Rattle.table_records.specs.Shapes.{term_class, class_of}
 use Rattle.table_terms.specs.Decoded.{RecordOf}
 
-pub record_class : (i k l r : ℕ) (t : Term) → RecordOf i k l r t → class_of k ≡ field_number (term_class t)
+pub record_class : (i k l r : ℕ) (t : Term) → RecordOf i k l r t → class_of k ≡ Some (term_class t)
 unfolding class_of
 record_class i k l r (process (nil_t n)) e = rw e
 record_class i k l r (process (put_t n a)) e = rw e.0

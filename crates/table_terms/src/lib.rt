@@ -10,8 +10,7 @@ ghost use Rattle.std.specs.Prelude.{◌≡◌, ◌+◌, ◌<◌, max, length, ge
 ghost use Rattle.table_terms.specs.Decoded.{channels, max_terms, decoded_bytes, kind_at, first_at, second_at, breadth_at, length_at, with_record, with_measures};
 ghost use Rattle.table_terms.specs.TermMeasures.{breadth_in, length_in, CanMeasure, MeasuresOf, LimitTested};
 
-use buffer::wide;
-use table_records::{CHANNELS, OR_ELSE, PAR, PROCESS, RD, Record, WT};
+use table_records::{CHANNELS, Class, OR_ELSE, PAR, RD, Record, WT};
 
 // A table has at most so many terms.
 pub const TERMS: usize = 200;
@@ -122,16 +121,16 @@ pub fn put_tokens(decoded: &mut [u8; DECODED], channel: usize, count: u8)
 pub fn larger(a: u8, b: u8) -> u8
     ensures { result ≡ max a b }
 {
-    if a < b { b } else { a }
+    a.max(b)
 }
 
 // Both measures of a term in one number: the breadth, and 256 for each step of the length. The walk answers in this
 // form, because the compiler hands a number back in a register and a struct through memory.
 fn packed(breadth: u8, length: u8) -> u16
-    ensures result_value { breadth_in result ≡ breadth }
-    ensures result_value_2 { length_in result ≡ length }
+    ensures breadth { breadth_in result ≡ breadth }
+    ensures length { length_in result ≡ length }
 {
-    breadth as u16 + 256 * (length as u16)
+    u16::from(breadth) + 256 * u16::from(length)
 }
 
 fn breadth_in(p: u16) -> u8
@@ -152,19 +151,19 @@ const ALONE: u16 = 1;
 // The measures of two terms as one, side by side or as the alternatives of orElse.
 fn of_both(left: u16, right: u16) -> u16
     requires { breadth_in left + breadth_in right < 256 }
-    ensures result_value { breadth_in result ≡ breadth_in left + breadth_in right }
-    ensures result_value_2 { length_in result ≡ max (length_in left) (length_in right) }
+    ensures breadth { breadth_in result ≡ breadth_in left + breadth_in right }
+    ensures length { length_in result ≡ max (length_in left) (length_in right) }
 {
     let breadth = breadth_in(left) + breadth_in(right);
-    let length = larger(length_in(left), length_in(right));
+    let length = length_in(left).max(length_in(right));
     packed(breadth, length)
 }
 
 // The measures of a term behind rd or wt, with that.
 fn of_longer(rest: u16) -> u16
     requires { 1 + length_in rest < 256 }
-    ensures result_value { breadth_in result ≡ breadth_in rest }
-    ensures result_value_2 { length_in result ≡ 1 + length_in rest }
+    ensures breadth { breadth_in result ≡ breadth_in rest }
+    ensures length { length_in result ≡ 1 + length_in rest }
 {
     let length = 1 + length_in(rest);
     packed(breadth_in(rest), length)
@@ -173,8 +172,8 @@ fn of_longer(rest: u16) -> u16
 // The measures that are stored of the term at a number.
 fn stored_measures(decoded: &[u8; DECODED], i: usize) -> u16
     requires { i < max_terms }
-    ensures result_value { breadth_in result ≡ breadth_at decoded.now i }
-    ensures result_value_2 { length_in result ≡ length_at decoded.now i }
+    ensures breadth { breadth_in result ≡ breadth_at decoded.now i }
+    ensures length { length_in result ≡ length_at decoded.now i }
 {
     packed(breadth_at(decoded, i), length_at(decoded, i))
 }
@@ -190,8 +189,8 @@ fn walk(decoded: &[u8; DECODED], measured: usize, at: usize) -> u16
 {
     match kind_at(decoded, at) {
         PAR | OR_ELSE => {
-            let first = wide(first_at(decoded, at));
-            let second = wide(second_at(decoded, at));
+            let first = usize::from(first_at(decoded, at));
+            let second = usize::from(second_at(decoded, at));
             let left = if first < measured {
                 stored_measures(decoded, first)
             } else {
@@ -205,7 +204,7 @@ fn walk(decoded: &[u8; DECODED], measured: usize, at: usize) -> u16
             of_both(left, right)
         }
         RD | WT => {
-            let second = wide(second_at(decoded, at));
+            let second = usize::from(second_at(decoded, at));
             let rest = if second < measured {
                 stored_measures(decoded, second)
             } else {
@@ -237,11 +236,9 @@ pub fn measures_of(decoded: &[u8; DECODED], measured: usize, at: usize) -> Measu
 pub fn over_limit(kind: u8, m: Measures) -> bool
     ensures { LimitTested kind m.breadth m.length result }
 {
-    if table_records::class_of(kind) == PROCESS {
-        return MAX_WIDTH < m.breadth;
+    match table_records::class_of(kind) {
+        Some(Class::Process) => MAX_WIDTH < m.breadth,
+        Some(Class::Expression) => MAX_BRANCHES < m.breadth || MAX_LENGTH < m.length,
+        None => false,
     }
-    if MAX_BRANCHES < m.breadth {
-        return true;
-    }
-    MAX_LENGTH < m.length
 }

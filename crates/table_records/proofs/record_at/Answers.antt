@@ -6,8 +6,8 @@ use Rattle.table_records.proofs.record_at.Goals as goal
 pub record_up_to-requires : goal.record_up_to-requires
 record_up_to-requires c = search begins_alone
 
-pub record_up_to-requires-then-second-eq-NO_FIELD : goal.record_up_to-requires-then-second-eq-NO_FIELD
-record_up_to-requires-then-second-eq-NO_FIELD c = search begins_with_one
+pub record_up_to-requires-then-is_none-2 : goal.record_up_to-requires-then-is_none-2
+record_up_to-requires-then-is_none-2 c = search begins_with_one
 
 pub record_up_to-requires-2 : goal.record_up_to-requires-2
 record_up_to-requires-2 c = search begins_with_two

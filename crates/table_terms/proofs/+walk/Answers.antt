@@ -14,14 +14,14 @@ walk-right-requires t c = (search right_falls, search right_side)
 
 pub of_both-requires : goal.of_both-requires
 of_both-requires t c =
-    let left : MeasuresOf c.args.decoded.now c.args.measured c.wide-first.result (breadth_in c.if-first-measured.left) (length_in c.if-first-measured.left) =
+    let left : MeasuresOf c.args.decoded.now c.args.measured c.from-first.result (breadth_in c.if-first-measured.left) (length_in c.if-first-measured.left) =
     elim c.if-first-measured.branch [
-      | then-first-measured w ↦ looked_up _ _ _ _ _ w.if-first-measured.true (ap breadth_in w.left-is ∙ w.stored_measures-left.ensures.result_value) (ap length_in w.left-is ∙ w.stored_measures-left.ensures.result_value_2)
+      | then-first-measured w ↦ looked_up _ _ _ _ _ w.if-first-measured.true (ap breadth_in w.left-is ∙ w.stored_measures-left.ensures.breadth) (ap length_in w.left-is ∙ w.stored_measures-left.ensures.length)
       | else-first-measured w ↦ rw w.left-is w.walk-left.ensures
     ] in
-    let right : MeasuresOf c.args.decoded.now c.args.measured c.wide-second.result (breadth_in c.if-second-measured.right) (length_in c.if-second-measured.right) =
+    let right : MeasuresOf c.args.decoded.now c.args.measured c.from-second.result (breadth_in c.if-second-measured.right) (length_in c.if-second-measured.right) =
     elim c.if-second-measured.branch [
-      | then-second-measured w ↦ looked_up _ _ _ _ _ w.if-second-measured.true (ap breadth_in w.right-is ∙ w.stored_measures-right.ensures.result_value) (ap length_in w.right-is ∙ w.stored_measures-right.ensures.result_value_2)
+      | then-second-measured w ↦ looked_up _ _ _ _ _ w.if-second-measured.true (ap breadth_in w.right-is ∙ w.stored_measures-right.ensures.breadth) (ap length_in w.right-is ∙ w.stored_measures-right.ensures.length)
       | else-second-measured w ↦ rw w.right-is w.walk-right.ensures
     ] in
     search sum_fits
@@ -31,32 +31,32 @@ walk-rest-requires t c = (search rest_falls, search rest_side)
 
 pub of_longer-requires : goal.of_longer-requires
 of_longer-requires t c =
-    let rest : MeasuresOf c.args.decoded.now c.args.measured c.wide-second-in-9.result (breadth_in c.if-second-measured-2.rest) (length_in c.if-second-measured-2.rest) =
+    let rest : MeasuresOf c.args.decoded.now c.args.measured c.from-second-in-9.result (breadth_in c.if-second-measured-2.rest) (length_in c.if-second-measured-2.rest) =
     elim c.if-second-measured-2.branch [
-      | then-second-measured-2 w ↦ looked_up _ _ _ _ _ w.if-second-measured-2.true (ap breadth_in w.rest-is ∙ w.stored_measures-rest.ensures.result_value) (ap length_in w.rest-is ∙ w.stored_measures-rest.ensures.result_value_2)
+      | then-second-measured-2 w ↦ looked_up _ _ _ _ _ w.if-second-measured-2.true (ap breadth_in w.rest-is ∙ w.stored_measures-rest.ensures.breadth) (ap length_in w.rest-is ∙ w.stored_measures-rest.ensures.length)
       | else-second-measured-2 w ↦ rw w.rest-is w.walk-rest.ensures
     ] in
     search longer_fits
 
 pub returns-after-second-measured : goal.returns-after-second-measured
 returns-after-second-measured t c =
-    let left : MeasuresOf c.args.decoded.now c.args.measured c.wide-first.result (breadth_in c.if-first-measured.left) (length_in c.if-first-measured.left) =
+    let left : MeasuresOf c.args.decoded.now c.args.measured c.from-first.result (breadth_in c.if-first-measured.left) (length_in c.if-first-measured.left) =
     elim c.if-first-measured.branch [
-      | then-first-measured w ↦ looked_up _ _ _ _ _ w.if-first-measured.true (ap breadth_in w.left-is ∙ w.stored_measures-left.ensures.result_value) (ap length_in w.left-is ∙ w.stored_measures-left.ensures.result_value_2)
+      | then-first-measured w ↦ looked_up _ _ _ _ _ w.if-first-measured.true (ap breadth_in w.left-is ∙ w.stored_measures-left.ensures.breadth) (ap length_in w.left-is ∙ w.stored_measures-left.ensures.length)
       | else-first-measured w ↦ rw w.left-is w.walk-left.ensures
     ] in
-    let right : MeasuresOf c.args.decoded.now c.args.measured c.wide-second.result (breadth_in c.if-second-measured.right) (length_in c.if-second-measured.right) =
+    let right : MeasuresOf c.args.decoded.now c.args.measured c.from-second.result (breadth_in c.if-second-measured.right) (length_in c.if-second-measured.right) =
     elim c.if-second-measured.branch [
-      | then-second-measured w ↦ looked_up _ _ _ _ _ w.if-second-measured.true (ap breadth_in w.right-is ∙ w.stored_measures-right.ensures.result_value) (ap length_in w.right-is ∙ w.stored_measures-right.ensures.result_value_2)
+      | then-second-measured w ↦ looked_up _ _ _ _ _ w.if-second-measured.true (ap breadth_in w.right-is ∙ w.stored_measures-right.ensures.breadth) (ap length_in w.right-is ∙ w.stored_measures-right.ensures.length)
       | else-second-measured w ↦ rw w.right-is w.walk-right.ensures
     ] in
     search sides_measured
 
 pub returns-after-second-measured-2 : goal.returns-after-second-measured-2
 returns-after-second-measured-2 t c =
-    let rest : MeasuresOf c.args.decoded.now c.args.measured c.wide-second-in-9.result (breadth_in c.if-second-measured-2.rest) (length_in c.if-second-measured-2.rest) =
+    let rest : MeasuresOf c.args.decoded.now c.args.measured c.from-second-in-9.result (breadth_in c.if-second-measured-2.rest) (length_in c.if-second-measured-2.rest) =
     elim c.if-second-measured-2.branch [
-      | then-second-measured-2 w ↦ looked_up _ _ _ _ _ w.if-second-measured-2.true (ap breadth_in w.rest-is ∙ w.stored_measures-rest.ensures.result_value) (ap length_in w.rest-is ∙ w.stored_measures-rest.ensures.result_value_2)
+      | then-second-measured-2 w ↦ looked_up _ _ _ _ _ w.if-second-measured-2.true (ap breadth_in w.rest-is ∙ w.stored_measures-rest.ensures.breadth) (ap length_in w.rest-is ∙ w.stored_measures-rest.ensures.length)
       | else-second-measured-2 w ↦ rw w.rest-is w.walk-rest.ensures
     ] in
     search rest_measured
