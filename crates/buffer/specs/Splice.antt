@@ -19,7 +19,7 @@ spliced s a b v = fit (length s) (take a s ++ (v ++ drop b s))
 
 -- the most bytes that are moved at once
 abbrev pub chunk : ℕ
-chunk = 4096
+chunk = 12288
 
 -- the elements b..used can be moved so that they begin at e: none but zeros follow them, and there is room
 pub record CanShift (s : List ℕ) (b e used : ℕ) : Type 0 where

