@@ -69,9 +69,9 @@ module _ (s : List ℕ) where
 
   -- no node is to be passed, or the walk goes past one, behind which no subtree may be to come
   module _ (left p at : ℕ) (r : Walk) (e : passed s left p at ≡ r) where
-    pub walk_done : left ≤ 0 → record { at = at; pending = p; left = left } ≡ r
+    pub walk_done : left ≤ 0 → record { at = at; pending = p; left = 0 } ≡ r
     unfolding passed
-    walk_done h = let z : left ≡ 0 = omega arith in rw z (rw z at e)
+    walk_done h = let z : left ≡ 0 = omega arith in rw z at e
 
     module _ (h : 0 < left) (i : 0 < p) (k : ℕ) (f : k ≡ get_or s at 0) where
       module _ (q : ℕ) (g : q ≡ pending_behind k p) (z : ℕ) (m : z ≡ node_size k) where

@@ -8,11 +8,12 @@
 ghost use Rattle.std.specs.Prelude.{◌≡◌, ◌≤◌, ◌<◌, length};
 ghost use Rattle.hall_layout.specs.Nodes.{node_size, pending_behind, passed, node_start, tree_end};
 
-use buffer::{byte_at, wide};
+use buffer::byte_at;
 pub use table_records::CHANNELS;
 use table_terms::{MAX_BRANCHES, MAX_LENGTH, MAX_WIDTH};
 
-// Bytes of kind: three of components (stations) and two of nodes.
+// Bytes of kind: three of components (stations) and two of nodes. Numbers and no enum, since the bytes are the stored
+// form, which C lends.
 pub const KIND_WAITING: u8 = 20;
 
 pub const KIND_TRANSACTION: u8 = 21;
@@ -117,9 +118,7 @@ pub fn pass_nodes(s: &[u8], tree: usize, nodes: u8) -> Walk
 {
     let mut at = tree;
     let mut pending: usize = 1;
-    let mut left = wide(nodes);
-    while 0 < left {
-        left -= 1;
+    for left in (0..usize::from(nodes)).rev() {
         let kind = byte_at(s, at);
         if kind == KIND_FORK {
             pending = pending_behind(kind, pending);
@@ -132,7 +131,11 @@ pub fn pass_nodes(s: &[u8], tree: usize, nodes: u8) -> Walk
             }
         }
     }
-    Walk { at, pending, left }
+    Walk {
+        at,
+        pending,
+        left: 0,
+    }
 }
 
 // Where node number k, in preorder, of the tree that begins at an offset begins.
@@ -152,6 +155,5 @@ pub fn tree_end(s: &[u8], tree: usize) -> usize
     requires { tree ≤ length s.now }
     ensures { result ≡ tree_end s.now tree }
 {
-    let walk = pass_nodes(s, tree, MAX_NODES);
-    walk.at
+    pass_nodes(s, tree, MAX_NODES).at
 }

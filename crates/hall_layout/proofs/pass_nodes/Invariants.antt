@@ -7,6 +7,3 @@ use Rattle.hall_layout.proofs.pass_nodes.Given as goal
 
 abbrev pub invariant-loop-left : goal.invariant-loop-left
 invariant-loop-left l = (passed l.s l.left l.pending l.at ≡ passed l.s l.nodes 1 l.tree) × (l.left ≤ l.nodes) × (0 < l.pending) × (l.pending ≤ 1 + (l.nodes - l.left)) × (l.at ≤ l.tree + leaf_size * (l.nodes - l.left))
-
-abbrev pub decreases-loop-left : goal.decreases-loop-left
-decreases-loop-left l = l.left
