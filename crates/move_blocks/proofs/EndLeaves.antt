@@ -2,14 +2,15 @@
 -- Assumes nothing.
 use Prim.Native.Nat.{ℕ, ◌+◌, ◌*◌, ◌-◌, ◌≤◌, ◌<◌}
 use native.Mathlib.Omega.{arith}
-use mathlib.Core.Path.{◌≡◌, sym, ap, ◌∙◌}
-use mathlib.Core.Bool.{true}
+use mathlib.Core.Path.{◌≡◌, refl, sym, ap, ◌∙◌}
+use mathlib.Core.Bool.{Bool, true, false}
 use mathlib.Core.Option.{some}
 use mathlib.Core.List.{List, [], ◌∷◌}
 use lib.ListN.{length, get_or, take, drop, replicate, get_elem?, length-append}
 use mir.Syntax.{w64}
 use mir.Val.{Fits}
 use borrow.Author.Tests.{le-leb, lt-leb}
+use Rattle.std.specs.Prelude.{Option, Some, None, is_some, Ok, Err}
 use Rattle.calculus.specs.Syntax.{rd, wt, Log, State}
 use Rattle.calculus.specs.Log.{WT}
 use Rattle.semantics.specs.Definitions.Basics.{padded}
@@ -19,10 +20,11 @@ use Rattle.semantics.specs.Definitions.Shortage.{short, is_enough}
 use Rattle.semantics.specs.Definitions.Logs.{shortage, readable}
 use Rattle.table_terms.specs.Decoded.{Decoded}
 use Rattle.hall_layout.specs.Layout.{channels, max_actions, max_components, idle_size, transaction_head, leaf_log_length, leaf_log}
-use Rattle.answers.specs.declared.replies.Shortage.{Shortage}
-use Rattle.answers.specs.declared.replies.Shortage.TheVariants.{Enough, Short}
-use Rattle.answers.specs.declared.replies.Reply.TheVariants.{Moved, Refused}
-use Rattle.answers.specs.Answers.{shortage_of, reply_of}
+use Rattle.answers.specs.declared.refusals.Reason.TheVariants.{TooManyComponents}
+use Rattle.answers.specs.declared.rules.Rule.TheVariants.{Atfail, Atok}
+use Rattle.answers.specs.declared.replies.Short.{Short}
+use Rattle.answers.specs.declared.replies.Move.{Move}
+use Rattle.answers.specs.Answers.{number_of_rule, reason_number, shortage_of, reply_of}
 use Rattle.hall_held.specs.Holds.{Holds}
 use Rattle.hall_held.proofs.Holds.{sixteen}
 use Rattle.move_logs.specs.declared.Outputs.{Outputs}
@@ -111,19 +113,27 @@ module _ (s : List ℕ) (leaf n : ℕ) (x : CanLookCommit s leaf n) where
 
 -- ---- the reply to a commit
 
-module _ (s : List ℕ) (leaf n size : ℕ) (r : Shortage) (e : size ≡ get_or s (leaf + leaf_log_length) 0)
+pub none_is : (r : Option Short) (b : Bool) → b ≡ is_some r → b ≡ false → r ≡ None
+none_is None b is e = refl
+none_is (Some w) b is e = absurd (let z : true ≡ false = sym is ∙ e in let o : ◌≡◌ {A = ℕ} 0 1 = cc in omega arith)
+
+module _ (s : List ℕ) (leaf n size : ℕ) (r : Option Short) (e : size ≡ get_or s (leaf + leaf_log_length) 0)
     (g : shortage_of r ≡ short_at (take size (drop (leaf + leaf_log) s)) s 0) where
   short_here : {σ : State} {δ : Log} → EndLogAt s leaf σ δ → shortage_of r ≡ shortage σ δ
   short_here {σ} {δ} y = stored_shortage s (leaf + leaf_log) size δ y.log (e ∙ y.size) 0 σ _ y.counts g
 
   -- ATFAIL
-  pub commit_fails : (a k : ℕ) → r ≡ Short a k → CommitLooked s leaf n (Moved 6 (Short a k))
-  unfolding reply_of shortage_of commit_reply readable is_enough
-  commit_fails a k q = record {
-    found = λ σ δ y. let is : shortage σ δ ≡ short a k = sym (short_here y) ∙ ap shortage_of q in rw is;
-  }
+  pub commit_fails : (b : Bool) → b ≡ is_some r → b ≡ true → CommitLooked s leaf n (Ok (record { rule = Atfail; short = r }))
+  unfolding reply_of number_of_rule shortage_of commit_reply readable is_enough
+  commit_fails b is yes_some = go r refl
+    where
+      go : (v : Option Short) → r ≡ v → CommitLooked s leaf n (Ok (record { rule = Atfail; short = v }))
+      go None q = absurd (let z : true ≡ false = sym yes_some ∙ is ∙ ap is_some q in let o : ◌≡◌ {A = ℕ} 0 1 = cc in omega arith)
+      go (Some w) q = record {
+        found = λ σ δ y. let is : shortage σ δ ≡ short w.channel w.by = sym (short_here y) ∙ ap shortage_of q in rw is;
+      }
 
-  module _ (o : Outputs) (w : OutputsAre o (writes_of (take size (drop (leaf + leaf_log) s)))) (q : r ≡ Enough) where
+  module _ (o : Outputs) (w : OutputsAre o (writes_of (take size (drop (leaf + leaf_log) s)))) (q : r ≡ None) where
     enough_here : {σ : State} {δ : Log} → EndLogAt s leaf σ δ → readable σ δ ≡ true
     unfolding shortage_of readable is_enough
     enough_here y = ap is_enough (sym (short_here y) ∙ ap shortage_of q)
@@ -132,8 +142,8 @@ module _ (s : List ℕ) (leaf n size : ℕ) (r : Shortage) (e : size ≡ get_or 
     many_here {σ} {δ} y = stored_outputs_count s (leaf + leaf_log) size δ y.log (e ∙ y.size) o w
 
     -- refused by the number of components
-    pub commit_crowded : max_components < n - 1 + o.count → CommitLooked s leaf n (Refused 19)
-    unfolding reply_of commit_reply
+    pub commit_crowded : max_components < n - 1 + o.count → CommitLooked s leaf n (Err TooManyComponents)
+    unfolding reply_of reason_number commit_reply
     commit_crowded l = record {
       found = λ σ δ y.
           let c = many_here y in
@@ -142,11 +152,12 @@ module _ (s : List ℕ) (leaf n size : ℕ) (r : Shortage) (e : size ≡ get_or 
     }
 
     -- ATOK
-    pub commit_done : n - 1 + o.count ≤ max_components → CommitLooked s leaf n (Moved 7 Enough)
-    unfolding reply_of commit_reply
-    commit_done l = record {
+    pub commit_done : n - 1 + o.count ≤ max_components → (m : Move) → m ≡ record { rule = Atok; short = None } →
+        CommitLooked s leaf n (Ok m)
+    unfolding reply_of number_of_rule shortage_of commit_reply
+    commit_done l m by = record {
       found = λ σ δ y.
           let c = many_here y in
           let k : n - 1 + length (WT δ) ≤ max_components = rw (← c) l in
-          rw (enough_here y, le-leb _ _ k);
+          rw (by, enough_here y, le-leb _ _ k);
     }

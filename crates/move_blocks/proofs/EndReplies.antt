@@ -14,6 +14,7 @@ use Rattle.calculus.specs.Syntax.{Log, State}
 use Rattle.calculus.specs.State.{without}
 use Rattle.calculus.specs.Log.{RD, WT}
 use Rattle.calculus.specs.Reduction.{Rule, ATFAIL, ATOK}
+use Rattle.std.specs.Prelude.{Option, Some, None, Result, Ok, Err}
 use Rattle.semantics.specs.Definitions.Basics.{replace_at}
 use Rattle.semantics.specs.Definitions.Table.{end_k, retry_k}
 use Rattle.semantics.specs.Definitions.Terms.{Expression, end_t, retry_t, rd_t, wt_t, or_else_t, Term}
@@ -26,10 +27,11 @@ use Rattle.theorems.proofs.Moves.{position_of, component_answer, chosen_at}
 use Rattle.table_records.specs.Shapes.{kind_byte}
 use Rattle.hall_layout.specs.Layout.{hall_bytes, max_components, transaction_head}
 use Rattle.hall_laws.specs.ReadParts.{term_kind}
-use Rattle.answers.specs.declared.replies.Reply as code
-use Rattle.answers.specs.declared.replies.Shortage.TheVariants.{Enough}
-use Rattle.answers.specs.declared.replies.Reply.TheVariants.{Moved, Refused}
-use Rattle.answers.specs.Answers.{reply_of}
+use Rattle.answers.specs.declared.refusals.Reason.{Reason}
+use Rattle.answers.specs.declared.refusals.Reason.TheVariants.{WrongComponent}
+use Rattle.answers.specs.declared.rules.Rule.TheVariants.{Atre}
+use Rattle.answers.specs.declared.replies.Move.{Move}
+use Rattle.answers.specs.Answers.{number_of_rule, reason_number, shortage_of, reply_of}
 use Rattle.hall_held.specs.Holds.{Holds}
 use Rattle.hall_held.proofs.Holds.{hall_length, few_components}
 use Rattle.move_leaves.specs.Leaves.{CanReadNode, LeafKindRead, kind_of_node, TransactionAt}
@@ -104,20 +106,37 @@ module _ {ts : List Term} {h : Configuration} {s starts : List ℕ} {n : ℕ} (y
   more_reply t f q = reply_blocked y p _ f 15 q
 
 -- the nodes of a transaction by the kind of the first
-data Ending (t : Tree) (k : ℕ) : Type 0 where
-  ended : (e : ℕ) (δ : Log) → t ≡ leaf (end_t e) δ → k ≡ kind_byte end_k → Ending t k
-  retried : (e : ℕ) (δ : Log) → t ≡ leaf (retry_t e) δ → k ≡ kind_byte retry_k → Ending t k
-  more : ((σ : State) (m : ℕ) (M : Expression) → ends σ m M t ≡ blocked 15) → (k ≡ kind_byte end_k → ⊥) →
-      (k ≡ kind_byte retry_k → ⊥) → Ending t k
+data Ending (t : Tree) (k : Option ℕ) : Type 0 where
+  ended : (e : ℕ) (δ : Log) → t ≡ leaf (end_t e) δ → k ≡ Some (kind_byte end_k) → Ending t k
+  retried : (e : ℕ) (δ : Log) → t ≡ leaf (retry_t e) δ → k ≡ Some (kind_byte retry_k) → Ending t k
+  more : ((σ : State) (m : ℕ) (M : Expression) → ends σ m M t ≡ blocked 15) → (k ≡ Some (kind_byte end_k) → ⊥) →
+      (k ≡ Some (kind_byte retry_k) → ⊥) → Ending t k
+
+-- kinds that differ
+differs : (a b : ℕ) → (a ≡ b → ⊥) → Some a ≡ Some b → ⊥
+differs a b f e = f (cc)
+
+none_differs : (b : ℕ) → None ≡ Some b → ⊥
+none_differs b e = let z : ◌≡◌ {A = ℕ} 0 1 = cc in absurd (omega arith)
+
+-- by a part of it
+pub some_is : (k : Option ℕ) (j b : ℕ) → k ≡ Some j → j ≡ b → k ≡ Some b
+some_is k j b e f = rw (e, f)
+
+pub other_is : (k : Option ℕ) (j b : ℕ) → k ≡ Some j → (j ≡ b → ⊥) → k ≡ Some b → ⊥
+other_is k j b e f g = differs j b f (sym e ∙ g)
+
+pub none_is_other : (k : Option ℕ) (b : ℕ) → k ≡ None → k ≡ Some b → ⊥
+none_is_other k b e g = none_differs b (sym e ∙ g)
 
 ending : (t : Tree) → Ending t (kind_of_node t)
 unfolding ends kind_of_node term_kind
 ending (leaf (end_t e) δ) = ended e δ refl refl
 ending (leaf (retry_t e) δ) = retried e δ refl refl
-ending (leaf (rd_t e a N) δ) = more (λ σ m M. refl) (λ z. omega arith) (λ z. omega arith)
-ending (leaf (wt_t e a N) δ) = more (λ σ m M. refl) (λ z. omega arith) (λ z. omega arith)
-ending (leaf (or_else_t e N N') δ) = more (λ σ m M. refl) (λ z. omega arith) (λ z. omega arith)
-ending (fork l r) = more (λ σ m M. refl) (λ z. omega arith) (λ z. omega arith)
+ending (leaf (rd_t e a N) δ) = more (λ σ m M. refl) (differs _ _ (λ z. omega arith)) (differs _ _ (λ z. omega arith))
+ending (leaf (wt_t e a N) δ) = more (λ σ m M. refl) (differs _ _ (λ z. omega arith)) (differs _ _ (λ z. omega arith))
+ending (leaf (or_else_t e N N') δ) = more (λ σ m M. refl) (differs _ _ (λ z. omega arith)) (differs _ _ (λ z. omega arith))
+ending (fork l r) = more (λ σ m M. refl) (none_differs _) (none_differs _)
 
 -- ---- the code
 
@@ -129,7 +148,7 @@ module _ {ts : List Term} {h : Configuration} {d s starts : List ℕ} {n p at : 
       EndLogAt s (at + transaction_head) h.counts δ
   log_there m M σ N δ e = rw w.begins (end_log_at w.decoded w.holds p m M σ N δ e)
 
-  by_end : (C : Type 0) (k : ℕ) → LeafKindRead d s (at + transaction_head) k → k ≡ kind_byte end_k →
+  by_end : (C : Type 0) (k : Option ℕ) → LeafKindRead d s (at + transaction_head) k → k ≡ Some (kind_byte end_k) →
       ((m : ℕ) (M : Expression) (σ : State) (e : ℕ) (δ : Log) →
       get_elem? h.components p ≡ some (transaction m M σ (leaf (end_t e) δ)) → C) → C
   by_end C k q same next =
@@ -137,7 +156,7 @@ module _ {ts : List Term} {h : Configuration} {d s starts : List ℕ} {n p at : 
       let z = q.found ts f.nodes f.stands in
       elim (ending f.nodes) [
         | ended e δ t i ↦ next f.number f.block f.snapshot e δ (rw t at f.there)
-        | retried e δ t i ↦ absurd (omega arith)
+        | retried e δ t i ↦ absurd (differs _ _ (λ v. omega arith) (sym i ∙ sym z ∙ same))
         | more a b c ↦ absurd (b (sym z ∙ same))
       ]
 
@@ -151,7 +170,7 @@ module _ (d s : List ℕ) (n at : ℕ) (x : CanLookEnd d s n at) where
   pub end_fits : at + transaction_head < hall_bytes
   end_fits = rw (hall_length x.there.holds) at (node_inside d s (at + transaction_head) end_stands)
 
-  pub end_can : (k : ℕ) → LeafKindRead d s (at + transaction_head) k → k ≡ kind_byte end_k →
+  pub end_can : (k : Option ℕ) → LeafKindRead d s (at + transaction_head) k → k ≡ Some (kind_byte end_k) →
       CanLookCommit s (at + transaction_head) n
   end_can k q same =
       let w = x.there in
@@ -165,31 +184,32 @@ module _ (d s : List ℕ) (n at : ℕ) (x : CanLookEnd d s n at) where
       })
 
 module _ (d s : List ℕ) (n at : ℕ) where
-  pub look_retry : (k : ℕ) → LeafKindRead d s (at + transaction_head) k → k ≡ kind_byte retry_k → EndLooked d s n at (Moved 5 Enough)
-  unfolding reply_of
-  look_retry k q same = record {
+  pub look_retry : (k : Option ℕ) → LeafKindRead d s (at + transaction_head) k → k ≡ Some (kind_byte retry_k) →
+      (m : Move) → m ≡ record { rule = Atre; short = None } → EndLooked d s n at (Ok m)
+  unfolding reply_of number_of_rule shortage_of
+  look_retry k q same m by = record {
     found = λ ts h starts p w.
         let f = transaction_parts w in
         let z = q.found ts f.nodes f.stands in
         elim (ending f.nodes) [
-          | ended e δ t i ↦ absurd (omega arith)
-          | retried e δ t i ↦ sym
-              (retry_reply w.holds p f.number f.block f.snapshot e δ (rw t at f.there))
+          | ended e δ t i ↦ absurd (differs _ _ (λ z. omega arith) (sym i ∙ sym z ∙ same))
+          | retried e δ t i ↦ rw by (sym
+              (retry_reply w.holds p f.number f.block f.snapshot e δ (rw t at f.there)))
           | more a b c ↦ absurd (c (sym z ∙ same))
         ];
   }
 
-  pub look_end : (k : ℕ) (r : code.Reply) → LeafKindRead d s (at + transaction_head) k → k ≡ kind_byte end_k →
+  pub look_end : (k : Option ℕ) (r : Result Move Reason) → LeafKindRead d s (at + transaction_head) k → k ≡ Some (kind_byte end_k) →
       CommitLooked s (at + transaction_head) n r → EndLooked d s n at r
   look_end k r q same looked = record {
     found = λ ts h starts p w. by_end w _ k q same (λ m M σ e δ f.
         looked.found h.counts δ (log_there w m M σ (end_t e) δ f) ∙ sym (end_reply w.holds p m M σ e δ f));
   }
 
-  pub look_more : (k : ℕ) → LeafKindRead d s (at + transaction_head) k → (k ≡ kind_byte end_k → ⊥) →
-      (k ≡ kind_byte retry_k → ⊥) →
-      EndLooked d s n at (Refused 15)
-  unfolding reply_of
+  pub look_more : (k : Option ℕ) → LeafKindRead d s (at + transaction_head) k → (k ≡ Some (kind_byte end_k) → ⊥) →
+      (k ≡ Some (kind_byte retry_k) → ⊥) →
+      EndLooked d s n at (Err WrongComponent)
+  unfolding reply_of reason_number
   look_more k q no_end no_retry_holds = record {
     found = λ ts h starts p w.
         let f = transaction_parts w in

@@ -3,7 +3,7 @@
 -- d is a decoded table; s has the bytes, starts the index, n the number of components (stations), p a position. Where a
 -- function is lent no decoded table, its contract speaks of some table or of every one.
 -- Assumes nothing.
-use Rattle.std.specs.Prelude.{ℕ, ◌+◌, ◌-◌, ◌≤◌, ◌<◌, ◌≡◌, ◌⊎◌, cond, List, length, get_or, leb}
+use Rattle.std.specs.Prelude.{ℕ, ◌+◌, ◌-◌, ◌≤◌, ◌<◌, ◌≡◌, ◌⊎◌, cond, Result, List, length, get_or, leb}
 use Rattle.calculus.specs.Syntax.{Log, State}
 use Rattle.calculus.specs.Log.{WT}
 use Rattle.semantics.specs.Definitions.Shortage.{enough}
@@ -14,7 +14,8 @@ use Rattle.semantics.specs.Definitions.Moves as moves
 use Rattle.semantics.specs.Definitions.Moves.{act, entry_answer, as_reply}
 use Rattle.hall_layout.specs.Layout.{max_components, leaf_log_length, leaf_log}
 use Rattle.move_logs.specs.LogOffsets.{LogAt, CountsAt}
-use Rattle.answers.specs.declared.replies.Reply.{Reply}
+use Rattle.answers.specs.declared.refusals.Reason.{Reason}
+use Rattle.answers.specs.declared.replies.Move.{Move}
 use Rattle.answers.specs.Answers.{reply_of}
 use Rattle.hall_held.specs.Choices.{CanApply, Applied}
 use Rattle.move_leaves.specs.Leaves.{TransactionAt}
@@ -30,7 +31,7 @@ pub record CanLookEnd (d s : List ℕ) (n at : ℕ) : Type 0 where
   pub there : TransactionAt terms configuration d s starts n position at
 
 -- r is what an act is answered there, whichever transaction it is
-pub record EndLooked (d s : List ℕ) (n at : ℕ) (r : Reply) : Type 0 where
+pub record EndLooked (d s : List ℕ) (n at : ℕ) (r : Result Move Reason) : Type 0 where
   pub found : (ts : List Term) (h : Configuration) (starts : List ℕ) (p : ℕ) →
       TransactionAt ts h d s starts n p at → reply_of r ≡ as_reply (entry_answer h (act p))
 
@@ -58,7 +59,7 @@ commit_reply σ δ n =
     (moves.moved_by 6 (shortage σ δ))
 
 -- r is the reply to a commit, whichever log and counts stand there
-pub record CommitLooked (s : List ℕ) (leaf n : ℕ) (r : Reply) : Type 0 where
+pub record CommitLooked (s : List ℕ) (leaf n : ℕ) (r : Result Move Reason) : Type 0 where
   pub found : (σ : State) (δ : Log) → EndLogAt s leaf σ δ → reply_of r ≡ commit_reply σ δ n
 
 -- ---- the block comes back: ATRE (5) and ATFAIL (6)

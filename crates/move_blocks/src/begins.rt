@@ -5,7 +5,7 @@ ghost use Rattle.hall_layout.specs.Layout.{channels};
 ghost use Rattle.hall_held.specs.Choices.{CanApply, Applied};
 ghost use Rattle.move_blocks.specs.TransactionBegin.{first_leaf, begun_bytes};
 
-use buffer::{wide, write_at};
+use buffer::write_at;
 use hall_held::replace_component;
 use hall_layout::{
     CHANNELS, COMPONENT_BODY, IDLE_SIZE, INDEX_SIZE, KIND_LEAF, KIND_TRANSACTION, LEAF_LOG,
@@ -22,12 +22,11 @@ fn first_leaf(expression: u8) -> [u8; LEAF_SIZE]
     ensures { result ≡ first_leaf expression }
 {
     let log = Log::empty();
-    let actions = log.actions;
     let mut leaf = [0u8; LEAF_SIZE];
     leaf[0] = KIND_LEAF;
     leaf[LEAF_TERM] = expression;
     leaf[LEAF_LOG_LENGTH] = log.length;
-    write_at(&mut leaf, LEAF_LOG, &actions);
+    write_at(&mut leaf, LEAF_LOG, &log.actions);
     leaf
 }
 
@@ -60,7 +59,7 @@ pub fn begin(
 {
     let at = starts[position];
     let block = hall[at + COMPONENT_BODY];
-    let expression = table_terms::first_at(decoded, wide(block));
+    let expression = table_terms::first_at(decoded, usize::from(block));
     let new = begun(hall, block, expression);
     replace_component(hall, starts, components, position, &new, 1);
 }

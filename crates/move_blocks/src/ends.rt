@@ -2,8 +2,7 @@
 ghost use Rattle.move_blocks.specs.TransactionEnd.{CanLookCommit, CommitLooked, CanLookEnd, EndLooked};
 ghost use Rattle.move_blocks.specs.TransactionEnd.{CanRestart, Restarted, CanCommit, Committed};
 
-use answers::{ATFAIL, ATOK, ATRE, Reply, Shortage, TOO_MANY_COMPONENTS, WRONG_COMPONENT};
-use buffer::wide;
+use answers::{Move, Reason, Rule};
 use hall_held::replace_component;
 use hall_layout::{
     COMPONENT_BODY, IDLE_SIZE, INDEX_SIZE, KIND_WAITING, LEAF_LOG, LEAF_LOG_LENGTH, MAX_COMPONENTS,
@@ -14,22 +13,24 @@ use table_terms::DECODED;
 
 // What ends the transaction whose only leaf is the end leaf at an offset: ATOK where the counts of now are enough for the
 // log, else ATFAIL with what is short. Only a commit that succeeds is refused for its components.
-fn look_commit(hall: &[u8], leaf: usize, components: usize) -> Reply
+fn look_commit(hall: &[u8], leaf: usize, components: usize) -> Result<Move, Reason>
     requires { CanLookCommit hall.now leaf components }
     ensures { CommitLooked hall.now leaf components result }
 {
-    let size = wide(hall[leaf + LEAF_LOG_LENGTH]);
-    match move_logs::shortage(hall, leaf + LEAF_LOG, size, 0) {
-        Shortage::Short { channel, by } => Reply::Moved(ATFAIL, Shortage::Short { channel, by }),
-        Shortage::Enough => {
-            let outputs = move_logs::outputs_of(hall, leaf + LEAF_LOG, size);
-            let after = components - 1 + outputs.count;
-            if MAX_COMPONENTS < after {
-                return Reply::Refused(TOO_MANY_COMPONENTS);
-            }
-            Reply::Moved(ATOK, Shortage::Enough)
-        }
+    let size = usize::from(hall[leaf + LEAF_LOG_LENGTH]);
+    let short = move_logs::shortage(hall, leaf + LEAF_LOG, size, 0);
+    if short.is_some() {
+        return Ok(Move {
+            rule: Rule::Atfail,
+            short,
+        });
     }
+    let outputs = move_logs::outputs_of(hall, leaf + LEAF_LOG, size);
+    let after = components - 1 + outputs.count;
+    if MAX_COMPONENTS < after {
+        return Err(Reason::TooManyComponents);
+    }
+    Ok(Move::by(Rule::Atok))
 }
 
 // What ends the transaction that begins at an offset: ATRE, ATFAIL or ATOK; refused while it has more to do, and where
@@ -39,15 +40,15 @@ pub fn look_end(
     hall: &[u8],
     transaction: usize,
     components: usize,
-) -> Reply
+) -> Result<Move, Reason>
     requires { CanLookEnd decoded.now hall.now components transaction }
     ensures { EndLooked decoded.now hall.now components transaction result }
 {
     let leaf = transaction + TRANSACTION_HEAD;
     match move_leaves::leaf_kind_at(decoded, hall, leaf) {
-        RETRY => Reply::Moved(ATRE, Shortage::Enough),
-        END => look_commit(hall, leaf, components),
-        _ => Reply::Refused(WRONG_COMPONENT),
+        Some(RETRY) => Ok(Move::by(Rule::Atre)),
+        Some(END) => look_commit(hall, leaf, components),
+        _ => Err(Reason::WrongComponent),
     }
 }
 
@@ -80,12 +81,11 @@ pub fn commit(
         hall.new starts.new result }
 {
     let leaf = starts[position] + TRANSACTION_HEAD;
-    let size = wide(hall[leaf + LEAF_LOG_LENGTH]);
+    let size = usize::from(hall[leaf + LEAF_LOG_LENGTH]);
     let need = move_logs::needs_of(hall, leaf + LEAF_LOG, size);
     let outputs = move_logs::outputs_of(hall, leaf + LEAF_LOG, size);
     move_logs::take_needs(hall, need);
-    let bytes = outputs.bytes;
     let count = outputs.count;
-    let end = count * IDLE_SIZE;
-    replace_component(hall, starts, components, position, &bytes[..end], count)
+    let bytes = &outputs.bytes[..count * IDLE_SIZE];
+    replace_component(hall, starts, components, position, bytes, count)
 }

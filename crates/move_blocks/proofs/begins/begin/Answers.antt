@@ -22,7 +22,7 @@ pub begun-new-requires : goal.begun-new-requires
 begun-new-requires c = search begin_counts
 
 pub replace_component-requires : goal.replace_component-requires
-replace_component-requires c = begin_can _ _ _ _ _ _ _ _ c.wide.ensures c.first_at-expression.ensures c.begun-new.ensures
+replace_component-requires c = begin_can _ _ _ _ _ _ _ _ c.from.ensures c.first_at-expression.ensures c.begun-new.ensures
     c.requires
 
 pub returns : goal.returns

@@ -27,27 +27,27 @@ overflow_add-leaf-3 c = let l =
 
 pub needs_of-need-requires : goal.needs_of-need-requires
 needs_of-need-requires c = let log = commit_looks _ _ _ _ c.requires in
-    (log_few _ _ _ log _ c.wide-size.ensures, log_inside _ _ _ log _ c.wide-size.ensures)
+    (log_few _ _ _ log _ c.from-size.ensures, log_inside _ _ _ log _ c.from-size.ensures)
 
 pub overflow_add-leaf-4 : goal.overflow_add-leaf-4
 overflow_add-leaf-4 c = let l = leaf_inside _ _ _ (commit_looks _ _ _ _ c.requires) in search rules
 
 pub outputs_of-outputs-requires : goal.outputs_of-outputs-requires
 outputs_of-outputs-requires c = let log = commit_looks _ _ _ _ c.requires in
-    (log_few _ _ _ log _ c.wide-size.ensures, log_inside _ _ _ log _ c.wide-size.ensures)
+    (log_few _ _ _ log _ c.from-size.ensures, log_inside _ _ _ log _ c.from-size.ensures)
 
 pub take_needs-requires : goal.take_needs-requires
 take_needs-requires c = (search (counts_inside, commit_looks), search commit_within)
 
-pub overflow_mul-end : goal.overflow_mul-end
-overflow_mul-end c = let log = commit_looks _ _ _ _ c.requires in
-    let l = outputs_few _ _ _ log _ c.wide-size.ensures _ c.outputs_of-outputs.ensures in search rules
+pub overflow_mul-bytes : goal.overflow_mul-bytes
+overflow_mul-bytes c = let log = commit_looks _ _ _ _ c.requires in
+    let l = outputs_few _ _ _ log _ c.from-size.ensures _ c.outputs_of-outputs.ensures in search rules
 
 pub slice_bounds-bytes-end : goal.slice_bounds-bytes-end
 slice_bounds-bytes-end c = search (rules, outputs_inside)
 
-pub slice_bounds-replace_component-end : goal.slice_bounds-replace_component-end
-slice_bounds-replace_component-end c = search (rules, length-take-le, outputs_inside)
+pub shared_ref_as_front-bytes : goal.shared_ref_as_front-bytes
+shared_ref_as_front-bytes c = search (rules, length-take-le, outputs_inside)
 
 pub replace_component-requires : goal.replace_component-requires
 replace_component-requires c = search commit_can
