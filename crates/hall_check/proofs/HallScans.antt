@@ -2,10 +2,13 @@
 -- Assumes nothing.
 use Prim.Native.Nat.{ℕ, suc, ◌+◌, ◌-◌, ◌≤◌, ◌<◌}
 use native.Mathlib.Omega.{arith}
-use mathlib.Core.Path.{◌≡◌, refl, sym, ap, ap₂, subst, ◌∙◌}
+use mathlib.Core.Path.{◌≡◌, refl, sym, ap, ap₂, ◌∙◌}
 use mathlib.Core.Bool.{Bool, true, false}
-use mathlib.Core.Option.{Option, none, some}
+use mathlib.Core.Option as math
+use mathlib.Core.Option.{none, some}
 use mathlib.Core.List.{List, [], ◌∷◌, ◌++◌}
+use Rattle.std.specs.Prelude.{Option, None, Some}
+use Rattle.std.specs.Bool.{then_some}
 use lib.ListN.{length, get_or, take, drop, set, length-append, length-drop, length-set}
 use lib.Dec.{ltb}
 use borrow.Author.Tests.{ltb-true, ltb-false}
@@ -23,10 +26,7 @@ use Rattle.hall_laws.specs.ReadParts.{first_component, configured}
 use Rattle.hall_laws.proofs.Configurations.{used_more, start_all}
 use Rattle.hall_laws.proofs.ReadComponents.{first_bytes, components_end, components_zeros, components_first, configured_all, configured_next, configured_many, configuration_short, configuration_start}
 use Rattle.hall_nodes.specs.NodeTests.{EachTable}
-use Rattle.hall_check.specs.declared.Scan.{Scan}
-use Rattle.hall_check.specs.declared.Scan.TheVariants as scan
-use Rattle.hall_check.specs.declared.HallScan.TheVariants.{WellFormed, Malformed}
-use Rattle.hall_check.specs.Scans.{EndsFrom, ComponentIs, ComponentRead, HallRead}
+use Rattle.hall_check.specs.Scans.{ComponentIs, ComponentRead, HallRead}
 
 -- ---- positions
 
@@ -67,7 +67,7 @@ module _ (d : List ℕ) (n : ℕ) (s : List ℕ) where
     pub sized : length starts ≡ index_size
     found : EachTable d n (ReadBefore s starts components at)
 
-  pub hall_short : (starts : List ℕ) → length starts ≡ index_size → length s < channels → HallRead d n s starts Malformed
+  pub hall_short : (starts : List ℕ) → length starts ≡ index_size → length s < channels → HallRead d n s starts None
   hall_short starts l h = record { sized = l; found = λ ts x c. rw (configuration_short ts s h) tt }
 
   pub hall_begun : (starts : List ℕ) → length starts ≡ index_size → channels ≤ length s → HallSoFar (set starts 0 channels) 0 channels
@@ -88,99 +88,102 @@ module _ (d : List ℕ) (n : ℕ) (s : List ℕ) where
   }
 
   module _ (starts : List ℕ) (k at : ℕ) (x : HallSoFar starts k at) where
+    -- the index says where the last component ends
+    ends_there : (ts : List Term) (w : ReadBefore s starts k at ts) → get_or starts k 0 ≡ used_of w.read
+    ends_there ts w = let l = w.counted in
+        w.index k (omega arith) ∙ ap (start_of w.read) (sym l) ∙ start_all w.read
+
     -- no component follows: the hall is what was read
-    hall_is : EachTable d n (λ ts. (f : ℕ) → components_from (suc f) ts (drop at s) ≡ some []) → HallRead d n s starts (WellFormed at k)
+    hall_is : EachTable d n (λ ts. (f : ℕ) → components_from (suc f) ts (drop at s) ≡ some []) → HallRead d n s starts (Some k)
     hall_is e = record {
       sized = x.sized;
       found = λ ts y c.
           let w = x.found ts y c in
           let l = w.counted in
           let m = x.few in
-          rw (w.rest, e ts y c w.bound, configured_all (take channels s) w.read (omega arith)) (sym w.counted, w.ends, w.index);
+          rw (w.rest, e ts y c w.bound, configured_all (take channels s) w.read (omega arith)) (sym l, ends_there ts w, w.index);
     }
 
     -- what follows is malformed, and so is the hall
     hall_none : EachTable d n (λ ts. (read : List Component) (f : ℕ) → length read ≡ k →
-        configured (take channels s) read (components_from (suc f) ts (drop at s)) ≡ none) → HallRead d n s starts Malformed
+        configured (take channels s) read (components_from (suc f) ts (drop at s)) ≡ none) → HallRead d n s starts None
     hall_none e = record { sized = x.sized; found = λ ts y c. let w = x.found ts y c in rw (w.rest, e ts y c w.read w.bound w.counted) tt }
 
     -- the bytes are over
-    pub hall_over : length s ≤ at → HallRead d n s starts (WellFormed at k)
+    pub hall_over : length s ≤ at → HallRead d n s starts (Some k)
     hall_over h = hall_is (λ ts y c f. components_end ts s at f h)
 
     module _ (h : at < length s) where
       -- a zero byte
-      module _ (e : get_or s at 0 ≡ 0) (b : Bool) (z : b ≡ zeros (drop at s)) where
-        pub hall_zeros : b ≡ true → HallRead d n s starts (WellFormed at k)
-        unfolding only_if
-        hall_zeros g = hall_is (λ ts y c f. components_zeros ts s at f h e ∙ rw (← z, g))
-
-        pub hall_no_zeros : b ≡ false → HallRead d n s starts Malformed
-        unfolding only_if configured bind
-        hall_no_zeros g = hall_none (λ ts y c read f l. rw (components_zeros ts s at f h e, ← z, g))
+      pub hall_zeros : get_or s at 0 ≡ 0 → (b : Bool) → b ≡ zeros (drop at s) → (r : Option ℕ) → r ≡ then_some b k → HallRead d n s starts r
+      unfolding only_if configured bind
+      hall_zeros e b z r p = rw p (go b z)
+        where
+          go : (b : Bool) → b ≡ zeros (drop at s) → HallRead d n s starts (then_some b k)
+          go true z = hall_is (λ ts y c f. components_zeros ts s at f h e ∙ rw (← z))
+          go false z = hall_none (λ ts y c read f l. rw (components_zeros ts s at f h e, ← z))
 
       -- another component
       module _ (e : get_or s at 0 ≡ 0 → ⊥) where
         -- by the component that is read
-        Behind : List Component → ℕ → List Term → Option (Component × List ℕ) → Option Configuration
+        Behind : List Component → ℕ → List Term → math.Option (Component × List ℕ) → math.Option Configuration
         Behind read f ts o = configured (take channels s) read (bind o (λ c. bind (components_from f ts c.1) (λ cs. some (c.0 ∷ cs))))
 
-        pub hall_full : k ≡ max_components → HallRead d n s starts Malformed
+        pub hall_full : k ≡ max_components → HallRead d n s starts None
         unfolding Behind bind configured
         hall_full g = hall_none (λ ts y c read f l. rw (components_first ts s at f h e) (go ts read f (omega arith) (first_component ts (drop at s))))
           where
-            go : (ts : List Term) (read : List Component) (f : ℕ) → length read ≡ max_components → (o : Option (Component × List ℕ)) → Behind read f ts o ≡ none
+            go : (ts : List Term) (read : List Component) (f : ℕ) → length read ≡ max_components → (o : math.Option (Component × List ℕ)) → Behind read f ts o ≡ none
             go ts read f l none = refl
             go ts read f l (some c) = configured_many (take channels s) read c.0 l (components_from f ts c.1)
 
-        module _ (r : Scan) (w : ComponentRead d n s at r) where
-          pub hall_broken : r ≡ scan.Malformed → HallRead d n s starts Malformed
-          unfolding Behind bind configured
-          hall_broken g =
-              hall_none (λ ts y c read f l. rw (components_first ts s at f h e) (go ts read f (first_component ts (drop at s)) (rw g at (w.found ts y c))))
+        pub hall_broken : ComponentRead d n s at None → HallRead d n s starts None
+        unfolding Behind bind configured
+        hall_broken w =
+            hall_none (λ ts y c read f l. rw (components_first ts s at f h e) (go ts read f (first_component ts (drop at s)) (w.found ts y c)))
+          where
+            go : (ts : List Term) (read : List Component) (f : ℕ) (o : math.Option (Component × List ℕ)) → ComponentIs s None o → Behind read f ts o ≡ none
+            go ts read f none p = refl
+            go ts read f (some c) p = absurd p
+
+        module _ (i : ℕ) (w : ComponentRead d n s at (Some i)) where
+          next_inside : (suc at ≤ i) × (i ≤ length s)
+          next_inside = w.ends
+
+          pub hall_next : (k ≡ max_components → ⊥) → HallSoFar (set starts (k + 1) i) (k + 1) i
+          unfolding bind
+          hall_next m = record {
+            inside = next_inside.1;
+            few = let o = x.few in omega arith;
+            sized = length-set starts (k + 1) i ∙ x.sized;
+            found = λ ts y c. let v = x.found ts y c in go ts y v (first_component ts (drop at s)) refl (w.found ts y c);
+          }
             where
-              go : (ts : List Term) (read : List Component) (f : ℕ) (o : Option (Component × List ℕ)) → ComponentIs s scan.Malformed o → Behind read f ts o ≡ none
-              go ts read f none p = refl
-              go ts read f (some c) p = absurd p
+              go : (ts : List Term) → Decoded ts d → (v : ReadBefore s starts k at ts) → (o : math.Option (Component × List ℕ)) → first_component ts (drop at s) ≡ o →
+                  ComponentIs s (Some i) o → ReadBefore s (set starts (k + 1) i) (k + 1) i ts
+              go ts y v none p q = absurd q
+              go ts y v (some c) p q =
+                  let o = next_inside in
+                  let b = first_bytes ts y.good (drop at s) c p in
+                  let l = length-drop at s in
+                  let j = ap length q ∙ length-drop i s in
+                  let u = used_more v.read c.0 in
+                  let a = v.ends in
+                  let z = v.counted in
+                  let ends : i ≡ used_of (v.read ++ (c.0 ∷ [])) = omega arith in
+                  let f = v.enough in
+                  let bound : v.bound ≡ suc (v.bound - 1) = omega arith in
+                  record {
+                    read = v.read ++ (c.0 ∷ []);
+                    counted = length-append v.read (c.0 ∷ []) ∙ omega arith;
+                    ends = ends;
+                    index = let few = x.few in let size = x.sized in index_more starts v.read c.0 k i v.index z (omega arith) ends;
+                    bound = v.bound - 1;
+                    enough = omega arith;
+                    rest = v.rest ∙ rw (components_first ts s at v.bound h e, p)
+                        (configured_next (take channels s) v.read c.0 (components_from v.bound ts c.1)
+                        ∙ ap₂ (λ b bs. configured (take channels s) (v.read ++ (c.0 ∷ [])) (components_from b ts bs)) bound q);
+                  }
 
-          module _ (i : ℕ) (g : r ≡ scan.Next i) where
-            next_inside : (suc at ≤ i) × (i ≤ length s)
-            next_inside = subst (EndsFrom s (suc at)) g w.ends
-
-            pub hall_next : (k ≡ max_components → ⊥) → HallSoFar (set starts (k + 1) i) (k + 1) i
-            unfolding bind
-            hall_next m = record {
-              inside = next_inside.1;
-              few = let o = x.few in omega arith;
-              sized = length-set starts (k + 1) i ∙ x.sized;
-              found = λ ts y c. let v = x.found ts y c in go ts y v (first_component ts (drop at s)) refl (rw g at (w.found ts y c));
-            }
-              where
-                go : (ts : List Term) → Decoded ts d → (v : ReadBefore s starts k at ts) → (o : Option (Component × List ℕ)) → first_component ts (drop at s) ≡ o →
-                    ComponentIs s (scan.Next i) o → ReadBefore s (set starts (k + 1) i) (k + 1) i ts
-                go ts y v none p q = absurd q
-                go ts y v (some c) p q =
-                    let o = next_inside in
-                    let b = first_bytes ts y.good (drop at s) c p in
-                    let l = length-drop at s in
-                    let j = ap length q ∙ length-drop i s in
-                    let u = used_more v.read c.0 in
-                    let a = v.ends in
-                    let z = v.counted in
-                    let ends : i ≡ used_of (v.read ++ (c.0 ∷ [])) = omega arith in
-                    let f = v.enough in
-                    let bound : v.bound ≡ suc (v.bound - 1) = omega arith in
-                    record {
-                      read = v.read ++ (c.0 ∷ []);
-                      counted = length-append v.read (c.0 ∷ []) ∙ omega arith;
-                      ends = ends;
-                      index = let few = x.few in let size = x.sized in index_more starts v.read c.0 k i v.index z (omega arith) ends;
-                      bound = v.bound - 1;
-                      enough = omega arith;
-                      rest = v.rest ∙ rw (components_first ts s at v.bound h e, p)
-                          (configured_next (take channels s) v.read c.0 (components_from v.bound ts c.1)
-                          ∙ ap₂ (λ b bs. configured (take channels s) (v.read ++ (c.0 ∷ [])) (components_from b ts bs)) bound q);
-                    }
-
-            pub hall_falls : length s - i < length s - at
-            hall_falls = let o = next_inside in omega arith
+          pub hall_falls : length s - i < length s - at
+          hall_falls = let o = next_inside in omega arith

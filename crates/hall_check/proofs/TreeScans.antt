@@ -2,12 +2,16 @@
 -- Assumes nothing.
 use Prim.Native.Nat.{ℕ, zero, suc, ◌+◌, ◌-◌, ◌≤◌, ◌<◌}
 use native.Mathlib.Omega.{arith}
-use mathlib.Core.Path.{◌≡◌, refl, sym, ap, subst, ◌∙◌}
+use mathlib.Core.Path.{◌≡◌, refl, sym, ap, ◌∙◌}
 use mathlib.Core.Bool.{Bool, true, false, cond}
-use mathlib.Core.Option.{Option, none, some}
+use mathlib.Core.Option as math
+use mathlib.Core.Option.{none, some}
 use mathlib.Core.List.{List, [], ◌∷◌}
+use Rattle.std.specs.Prelude.{Option, None, Some}
+use Rattle.std.specs.Bool.{then_some}
 use lib.ListN.{length, get_or, drop}
-use lib.Dec.{eqb}
+use lib.Dec.{leb, eqb}
+use borrow.Author.Tests.{leb-true, leb-false}
 use Rattle.semantics.specs.Definitions.Basics.{All}
 use mathlib.Core.Option.{bind}
 use Rattle.semantics.specs.Definitions.Terms.{Term}
@@ -19,11 +23,7 @@ use Rattle.hall_layout.specs.Nodes.{node_size, pending_behind}
 use Rattle.hall_layout.proofs.Nodes.{size_bounds, fork_behind}
 use Rattle.hall_laws.specs.ReadParts.{trees_from, bounds_behind}
 use Rattle.hall_laws.proofs.ReadTrees.{trees_branches}
-use Rattle.hall_nodes.specs.declared.NodeTest.{NodeTest}
-use Rattle.hall_nodes.specs.declared.NodeTest.TheVariants as node
-use Rattle.hall_nodes.specs.NodeTests.{EachTable, NodeInside, NodeIs, NodeRead}
-use Rattle.hall_check.specs.declared.Scan.{Scan}
-use Rattle.hall_check.specs.declared.Scan.TheVariants.{Next, Malformed}
+use Rattle.hall_nodes.specs.NodeTests.{EachTable, NodeRead}
 use Rattle.hall_check.specs.Scans.{EndsFrom, TreeIs, TreeRead}
 
 -- ---- bounds on depth
@@ -50,9 +50,9 @@ bounds_enough m n k f fs l h a = go (eqb k fork_kind)
     go false = later fs a
 
 -- a node's first byte is inside
-pub node_there : (d : List ℕ) (n : ℕ) (s : List ℕ) (at : ℕ) (m : NodeTest) (w : ℕ) → NodeRead d n s at m → m ≡ node.Branches w → at < length s
-node_there d n s at m w r h =
-    let i = subst (NodeInside s at) h r.inside in
+pub node_there : (d : List ℕ) (n : ℕ) (s : List ℕ) (at : ℕ) (w : ℕ) → NodeRead d n s at (Some w) → at < length s
+node_there d n s at w r =
+    let i = r.inside in
     let z = size_bounds (get_or s at 0) _ refl in omega arith
 
 -- ---- how far a scan came
@@ -80,8 +80,8 @@ module _ (d : List ℕ) (n : ℕ) (s : List ℕ) (tree : ℕ) where
 
   module _ (p b at : ℕ) (x : TreeSoFar p b at) where
     -- by what is read at the start
-    tree_by : (r : Scan) → EndsFrom s tree r →
-        ((ts : List Term) → Decoded ts d → length ts ≡ n → (f : ℕ) (o : Option (Tree × List ℕ)) (w : TreesFollow s tree p b at ts f) →
+    tree_by : (r : Option ℕ) → EndsFrom s tree r →
+        ((ts : List Term) → Decoded ts d → length ts ≡ n → (f : ℕ) (o : math.Option (Tree × List ℕ)) (w : TreesFollow s tree p b at ts f) →
         bind o (λ t. some (0 + branches_of t.0, t.1)) ≡ trees_from w.bounds b ts (drop at s) → TreeIs s r o) →
         TreeRead d n s tree r
     unfolding trees_from bind
@@ -91,47 +91,47 @@ module _ (d : List ℕ) (n : ℕ) (s : List ℕ) (tree : ℕ) where
     }
 
     -- too many branches
-    pub tree_crowded : max_branches < b + p → TreeRead d n s tree Malformed
+    pub tree_crowded : (limit : ℕ) → limit ≡ max_branches → limit < b + p → TreeRead d n s tree None
     unfolding bind
-    tree_crowded h = tree_by Malformed tt (λ ts y c f o w e. go ts o w.bounds w.counted e)
+    tree_crowded limit same h = tree_by None tt (λ ts y c f o w e. go ts o w.bounds w.counted e)
       where
-        go : (ts : List Term) (o : Option (Tree × List ℕ)) (fs : List ℕ) → length fs ≡ p →
-            bind o (λ t. some (0 + branches_of t.0, t.1)) ≡ trees_from fs b ts (drop at s) → TreeIs s Malformed o
+        go : (ts : List Term) (o : math.Option (Tree × List ℕ)) (fs : List ℕ) → length fs ≡ p →
+            bind o (λ t. some (0 + branches_of t.0, t.1)) ≡ trees_from fs b ts (drop at s) → TreeIs s None o
         go ts none fs l e = tt
         go ts (some t) fs l e = let m = trees_branches fs b ts (drop at s) _ (sym e) in omega arith
 
     -- no subtree is to come
-    pub tree_done : b + p ≤ max_branches → p ≡ 0 → TreeRead d n s tree (Next at)
+    pub tree_done : b + p ≤ max_branches → p ≡ 0 → TreeRead d n s tree (Some at)
     unfolding bind trees_from
-    tree_done h z = tree_by (Next at) (x.ordered, x.inside) (λ ts y c f o w e. go ts o w.bounds w.counted e)
+    tree_done h z = tree_by (Some at) (x.ordered, x.inside) (λ ts y c f o w e. go ts o w.bounds w.counted e)
       where
-        go : (ts : List Term) (o : Option (Tree × List ℕ)) (fs : List ℕ) → length fs ≡ p →
-            bind o (λ t. some (0 + branches_of t.0, t.1)) ≡ trees_from fs b ts (drop at s) → TreeIs s (Next at) o
+        go : (ts : List Term) (o : math.Option (Tree × List ℕ)) (fs : List ℕ) → length fs ≡ p →
+            bind o (λ t. some (0 + branches_of t.0, t.1)) ≡ trees_from fs b ts (drop at s) → TreeIs s (Some at) o
         go ts o (f ∷ fs) l e = absurd (omega arith)
         go ts none [] l e = let z : ◌≡◌ {A = ℕ} 0 1 = cc in absurd (omega arith)
         go ts (some t) [] l e =
             let y : ◌≡◌ {A = ℕ × List ℕ} (0 + branches_of t.0, t.1) (b, drop at s) = cc in
             let v = ap (λ y. y.0) y in (omega arith, ap (λ y. y.1) y)
 
-    module _ (m : NodeTest) (r : NodeRead d n s at m) (q : p ≡ 0 → ⊥) where
+    module _ (q : p ≡ 0 → ⊥) where
       -- no node stands here
-      pub tree_broken : m ≡ node.Malformed → TreeRead d n s tree Malformed
+      pub tree_broken : NodeRead d n s at None → TreeRead d n s tree None
       unfolding bind
-      tree_broken h = tree_by Malformed tt (λ ts y c f o w e. go ts y c o w.bounds w.counted w.enough e)
+      tree_broken r = tree_by None tt (λ ts y c f o w e. go ts y c o w.bounds w.counted w.enough e)
         where
-          go : (ts : List Term) → Decoded ts d → length ts ≡ n → (o : Option (Tree × List ℕ)) (fs : List ℕ) → length fs ≡ p → All (λ g. length s - at < g) fs →
-              bind o (λ t. some (0 + branches_of t.0, t.1)) ≡ trees_from fs b ts (drop at s) → TreeIs s Malformed o
+          go : (ts : List Term) → Decoded ts d → length ts ≡ n → (o : math.Option (Tree × List ℕ)) (fs : List ℕ) → length fs ≡ p → All (λ g. length s - at < g) fs →
+              bind o (λ t. some (0 + branches_of t.0, t.1)) ≡ trees_from fs b ts (drop at s) → TreeIs s None o
           go ts y c none fs l a e = tt
           go ts y c (some t) [] l a e = absurd (q (sym l))
           go ts y c (some t) (zero ∷ fs) l a e = absurd (let z = a.0 in omega arith)
           go ts y c (some t) (suc f ∷ fs) l a e =
-              let i : trees_from (suc f ∷ fs) b ts (drop at s) ≡ none = subst (λ m. NodeIs s at m ts f fs b) h (r.found ts y c f fs b) in
+              let i : trees_from (suc f ∷ fs) b ts (drop at s) ≡ none = r.found ts y c f fs b in
               let z : ◌≡◌ {A = ℕ} 0 1 = cc in absurd (omega arith)
 
       -- past a node
-      module _ (w w' : ℕ) (h : m ≡ node.Branches w) (v : w' ≡ w) (k : ℕ) (j : k ≡ get_or s at 0) (z : ℕ) (u : z ≡ node_size k) where
+      module _ (w w' : ℕ) (r : NodeRead d n s at (Some w)) (v : w' ≡ w) (k : ℕ) (j : k ≡ get_or s at 0) (z : ℕ) (u : z ≡ node_size k) where
         node_inside : at + z ≤ length s
-        node_inside = rw (u, j) (subst (NodeInside s at) h r.inside)
+        node_inside = rw (u, j) r.inside
 
         pub tree_turn : (p' : ℕ) → p' ≡ pending_behind k p → TreeSoFar p' (b + w') (at + z)
         tree_turn p' e = record {
@@ -150,7 +150,7 @@ module _ (d : List ℕ) (n : ℕ) (s : List ℕ) (tree : ℕ) where
               enough =
                   let o = node_inside in
                   let c = size_bounds k z u in bounds_enough (length s - at) (length s - (at + z)) k g fs (omega arith) a.0 a.1;
-              same = i ∙ rw (v, u, j) (subst (λ m. NodeIs s at m ts g fs b) h (r.found ts y c g fs b));
+              same = i ∙ rw (v, u, j) (r.found ts y c g fs b);
             }
 
         -- the rest of the bytes is shorter
@@ -158,14 +158,16 @@ module _ (d : List ℕ) (n : ℕ) (s : List ℕ) (tree : ℕ) where
         tree_falls = let o = node_inside in let c = size_bounds k z u in omega arith
 
   -- past the last leaf
-  module _ (p b at : ℕ) (x : TreeSoFar p b at) (m : NodeTest) (r : NodeRead d n s at m) (q : p ≡ 0 → ⊥) (w w' : ℕ)
-      (h : m ≡ node.Branches w) (v : w' ≡ w) (k : ℕ) (j : k ≡ get_or s at 0) (z : ℕ) (u : z ≡ node_size k) (p' : ℕ)
-      (e : p' ≡ pending_behind k p) (last : p' ≡ 0) where
-    pub tree_ended : b + w' ≤ max_branches → TreeRead d n s tree (Next (at + z))
-    tree_ended few = tree_done p' (b + w') (at + z) (tree_turn p b at x m r q w w' h v k j z u p' e) (omega arith) last
-
-    pub tree_overfull : max_branches < b + w' → TreeRead d n s tree Malformed
-    tree_overfull many = tree_crowded p' (b + w') (at + z) (tree_turn p b at x m r q w w' h v k j z u p' e) (omega arith)
+  module _ (p b at : ℕ) (x : TreeSoFar p b at) (q : p ≡ 0 → ⊥) (w w' : ℕ) (r : NodeRead d n s at (Some w)) (v : w' ≡ w)
+      (k : ℕ) (j : k ≡ get_or s at 0) (z : ℕ) (u : z ≡ node_size k) (p' : ℕ) (e : p' ≡ pending_behind k p) (last : p' ≡ 0) where
+    pub tree_ended : (limit : ℕ) → limit ≡ max_branches → (o : Option ℕ) → o ≡ then_some (leb (b + w') limit) (at + z) → TreeRead d n s tree o
+    tree_ended limit same o i = rw i (go (leb (b + w') limit) refl)
+      where
+        go : (t : Bool) → leb (b + w') limit ≡ t → TreeRead d n s tree (then_some t (at + z))
+        go true f = let few = leb-true (b + w') limit f in
+            tree_done p' (b + w') (at + z) (tree_turn p b at x q w w' r v k j z u p' e) (omega arith) last
+        go false f = let many = leb-false (b + w') limit f in
+            tree_crowded p' (b + w') (at + z) (tree_turn p b at x q w w' r v k j z u p' e) limit same (omega arith)
 
 -- behind a fork more is to come
 pub fork_goes_on : (k p p' : ℕ) → k ≡ fork_kind → p' ≡ pending_behind k p → p' ≡ 0 → ⊥

@@ -1,12 +1,16 @@
 -- `waits` meets its contract. Assumes nothing.
-use Rattle.hall_check.proofs.ComponentScans.{waits_take, waits_repeated, waits_block}
+use native.Mathlib.Omega.{arith}
+use Rattle.hall_check.proofs.ComponentScans.{waits_takes, waits_block, waits_no_other}
 use Rattle.hall_check.proofs.waits.Goals as goal
 
-pub returns-then-kind-eq-TAKE : goal.returns-then-kind-eq-TAKE
-returns-then-kind-eq-TAKE c = search waits_take
+pub returns-in_default : goal.returns-in_default
+returns-in_default c = waits_no_other _ (λ z. omega arith) (λ z. omega arith) (λ z. omega arith)
 
-pub returns-then-kind-eq-REPEATED_TAKE : goal.returns-then-kind-eq-REPEATED_TAKE
-returns-then-kind-eq-REPEATED_TAKE c = search waits_repeated
+pub returns-in_default-2 : goal.returns-in_default-2
+returns-in_default-2 c = waits_no_other _ (λ z. omega arith) (λ z. omega arith) (λ z. omega arith)
 
-pub returns : goal.returns
-returns c = search waits_block
+pub returns-in-3 : goal.returns-in-3
+returns-in-3 c = waits_block _ c.in-3.is
+
+pub returns-in-3-2 : goal.returns-in-3-2
+returns-in-3-2 c = waits_takes _ (omega arith) (omega arith)

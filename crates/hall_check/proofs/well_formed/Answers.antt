@@ -1,5 +1,5 @@
 -- `well_formed` meets its contract: the components so far lead to what the bytes store. Assumes nothing.
-use Rattle.hall_check.proofs.HallScans.{hall_short, hall_begun, hall_over, hall_zeros, hall_no_zeros, hall_full, hall_broken, hall_next}
+use Rattle.hall_check.proofs.HallScans.{hall_short, hall_begun, hall_over, hall_zeros, hall_full, hall_broken, hall_next}
 use Rattle.hall_check.proofs.well_formed.Goals as goal
 
 pub returns-then-s-lt-CHANNELS : goal.returns-then-s-lt-CHANNELS
@@ -8,20 +8,17 @@ returns-then-s-lt-CHANNELS c = search hall_short
 pub loop-at-init : goal.loop-at-init
 loop-at-init c = search hall_begun
 
-pub returns-then-zeros_from : goal.returns-then-zeros_from
-returns-then-zeros_from c = search hall_zeros
-
 pub returns-then-s-at-eq0 : goal.returns-then-s-at-eq0
-returns-then-s-at-eq0 c = search hall_no_zeros
+returns-then-s-at-eq0 c = search hall_zeros
 
 pub returns-then-components-eq-MAX_COMPONENTS : goal.returns-then-components-eq-MAX_COMPONENTS
 returns-then-components-eq-MAX_COMPONENTS c = search hall_full
 
-pub returns-in_default : goal.returns-in_default
-returns-in_default c = search hall_broken
+pub returns-in_err-at : goal.returns-in_err-at
+returns-in_err-at c = rw c.from_residual.ensures (search (hall_broken, c.in_err-at.ensures))
 
 pub loop-at-preserved : goal.loop-at-preserved
-loop-at-preserved c = search hall_next
+loop-at-preserved c = search (hall_next, c.in_ok-at.ensures)
 
 pub returns : goal.returns
 returns c = search hall_over
