@@ -2,7 +2,7 @@
 -- Assumes nothing.
 use Prim.Native.Nat.{ℕ, ◌+◌, ◌≤◌, ◌<◌}
 use native.Mathlib.Omega.{arith}
-use mathlib.Core.Path.{◌≡◌, refl, ◌∙◌}
+use mathlib.Core.Path.{◌≡◌, refl, ap, ◌∙◌}
 use mathlib.Core.Bool.{Bool, true, false, cond}
 use mathlib.Core.Option as math
 use mathlib.Core.Option.{none, some}
@@ -13,11 +13,12 @@ use lib.ListN.{get_or, take, drop, get_elem?}
 use borrow.Author.Tests.{eq-eqb, ne_eqb}
 use Rattle.semantics.specs.Definitions.Layout.{max_terms}
 use Rattle.semantics.specs.Definitions.Terms.{Expression, retry_t, Program, Term, process, expression, branches, path_length}
-use Rattle.semantics.specs.Definitions.Table.{expression_f}
 use Rattle.semantics.specs.Definitions.Configuration.{branches_of}
 use Rattle.semantics.specs.Definitions.Stored.{leaf_expression, leaf_from}
 use Rattle.theorems.proofs.Lists.{found_below, none_past}
-use Rattle.table_records.specs.Shapes.{field_number, term_class, class_of}
+use Rattle.table_records.specs.declared.Class.{Class}
+use Rattle.table_records.specs.declared.Class.TheVariants as classes
+use Rattle.table_records.specs.Shapes.{term_class, class_of}
 use Rattle.table_terms.specs.Decoded.{kind_at, breadth_at, length_at, breadth, term_length, Decoded}
 use Rattle.table_terms.proofs.TermKinds.{record_class}
 use Rattle.hall_layout.specs.Layout.{no_record, log_size, leaf_term, leaf_log_length, leaf_log}
@@ -40,6 +41,12 @@ by_term ts byte P other none_there a_process an_expression = rw (ne_eqb byte no_
     go (some (process Q)) e = a_process Q e
     go (some (expression M)) e = an_expression M e
 
+-- an expression's class is no other
+abbrev number_of : Option Class → ℕ
+number_of None = 0
+number_of (Some classes.Process) = 1
+number_of (Some classes.Expression) = 2
+
 module _ (d : List ℕ) (n byte : ℕ) where
   pub retry_remains : byte ≡ no_record → RemainingRead d n byte (Some (record { breadth = 1; length = 0 }))
   unfolding leaf_expression branches path_length
@@ -52,23 +59,29 @@ module _ (d : List ℕ) (n byte : ℕ) where
     }
 
     -- the byte names a term
-    module _ (few : n ≤ max_terms) (h : i < n) (k : ℕ) (q : k ≡ kind_at d i) (c : ℕ) (class : c ≡ class_of k) where
-      class_of_byte : (ts : List Term) → Decoded ts d → (t : Term) → get_elem? ts byte ≡ some t → c ≡ field_number (term_class t)
-      class_of_byte ts x t p = rw (class, q, e) (record_class byte _ _ _ t (x.records byte t p))
+    module _ (few : n ≤ max_terms) (h : i < n) (k : ℕ) (q : k ≡ kind_at d i) where
+      class_of_byte : (c : Option Class) → c ≡ class_of k → (ts : List Term) → Decoded ts d → (t : Term) → get_elem? ts byte ≡ some t → c ≡ Some (term_class t)
+      class_of_byte c class ts x t p = rw (class, q, e) (record_class byte _ _ _ t (x.records byte t p))
 
-      pub no_expression : (c ≡ field_number expression_f → ⊥) → RemainingRead d n byte None
-      no_expression m = record {
+      no_expression : (c : Option Class) → c ≡ class_of k → number_of c ≤ 1 → RemainingRead d n byte None
+      no_expression c class other = record {
         found = λ ts x count. by_term ts byte (RemainingIs None) (λ z. omega arith) (λ p. tt) (λ Q p. tt)
-            (λ M p. absurd (m (class_of_byte ts x (expression M) p)));
+            (λ M p. let z = ap number_of (class_of_byte c class ts x (expression M) p) in absurd (omega arith));
       }
 
-      pub term_remains : c ≡ field_number expression_f → (b l : ℕ) → b ≡ breadth_at d i → l ≡ length_at d i →
+      pub process_remains : Some classes.Process ≡ class_of k → RemainingRead d n byte None
+      process_remains class = no_expression (Some classes.Process) class (omega arith)
+
+      pub nothing_remains : ◌≡◌ {A = Option Class} None (class_of k) → RemainingRead d n byte None
+      nothing_remains class = no_expression None class (omega arith)
+
+      pub term_remains : Some classes.Expression ≡ class_of k → (b l : ℕ) → b ≡ breadth_at d i → l ≡ length_at d i →
           RemainingRead d n byte (Some (record { breadth = b; length = l }))
       unfolding breadth term_length
-      term_remains m b l u v = record {
+      term_remains class b l u v = record {
         found = λ ts x count. by_term ts byte (RemainingIs (Some (record { breadth = b; length = l }))) (λ z. omega arith)
             (λ p. let z = none_past ts byte p in absurd (omega arith))
-            (λ Q p. let w = class_of_byte ts x (process Q) p in absurd (omega arith))
+            (λ Q p. let z = ap number_of (class_of_byte (Some classes.Expression) class ts x (process Q) p) in absurd (omega arith))
             (λ M o. let z = x.measures byte _ o in (rw e at u ∙ z.0, rw e at v ∙ z.1));
       }
 

@@ -14,7 +14,7 @@ use hall_layout::{
     ACTIONS, KIND_FORK, KIND_LEAF, LEAF_LOG, LEAF_LOG_LENGTH, LEAF_SIZE, LEAF_TERM, LOG_SIZE,
     NO_TERM,
 };
-use table_records::EXPRESSION;
+use table_records::Class;
 use table_terms::{DECODED, Measures};
 
 // A log's actions have the places below this one, however many they are; the zeros behind it have those from here on.
@@ -27,13 +27,14 @@ pub fn remaining_at(decoded: &[u8; DECODED], n: usize, byte: u8) -> Option<Measu
 {
     let i = usize::from(byte);
     if i < n {
-        if table_records::class_of(table_terms::kind_at(decoded, i)) != EXPRESSION {
-            return None;
-        }
-        return Some(Measures {
-            breadth: table_terms::breadth_at(decoded, i),
-            length: table_terms::length_at(decoded, i),
-        });
+        return match table_records::class_of(table_terms::kind_at(decoded, i)) {
+            Some(Class::Expression) => Some(Measures {
+                breadth: table_terms::breadth_at(decoded, i),
+                length: table_terms::length_at(decoded, i),
+            }),
+            Some(Class::Process) => None,
+            None => None,
+        };
     }
     if byte == NO_TERM {
         return Some(Measures {
