@@ -6,16 +6,17 @@ use mathlib.Core.Path.{◌≡◌, refl, sym, ap, ◌∙◌}
 use mathlib.Core.Option.{some}
 use mathlib.Core.List.{List, [], ◌∷◌}
 use lib.ListN.{length, get_or, get_elem?}
+use Rattle.std.specs.Prelude.{Result, Ok, Err}
 use Rattle.calculus.specs.Syntax.{State}
 use Rattle.semantics.specs.Definitions.Terms.{Expression, Term}
 use Rattle.semantics.specs.Definitions.Configuration.{Tree, transaction, Configuration}
 use Rattle.semantics.specs.Definitions.Moves.{NodeAnswer, evolves, no_rule, out_of_range, move_at, inside_answer, acts_inside, inside, apply_at, entry_answer, as_reply}
 use Rattle.theorems.proofs.Lists.{found_below, length_replace_at}
 use Rattle.theorems.proofs.Moves.{position_of, component_answer, chosen_at, entry_answer_made}
-use Rattle.answers.specs.declared.replies.Reply.{Reply}
-use Rattle.answers.specs.declared.replies.Shortage.{Shortage}
-use Rattle.answers.specs.declared.replies.Reply.TheVariants.{Moved, Refused}
-use Rattle.answers.specs.Answers.{shortage_of, reply_of}
+use Rattle.answers.specs.declared.refusals.Reason.{Reason}
+use Rattle.answers.specs.declared.refusals.Reason.TheVariants.{NoNode}
+use Rattle.answers.specs.declared.replies.Move.{Move}
+use Rattle.answers.specs.Answers.{number_of_rule, reason_number, shortage_of, reply_of}
 use Rattle.hall_layout.specs.declared.NodeStart.{NodeStart}
 use Rattle.hall_layout.specs.declared.NodeStart.TheVariants.{At, Nowhere}
 use Rattle.hall_layout.specs.Layout.{idle_size, transaction_head}
@@ -119,7 +120,7 @@ pub record SomeTransactionAt (d s : List ℕ) (transaction : ℕ) : Type 0 where
   pub there : TransactionAt terms configuration d s starts components position transaction
 
 -- r is what the entry for this node is answered, whichever configuration is held
-pub record NodeReplied (d s : List ℕ) (transaction k : ℕ) (r : Reply) : Type 0 where
+pub record NodeReplied (d s : List ℕ) (transaction k : ℕ) (r : Result Move Reason) : Type 0 where
   pub found : (ts : List Term) (h : Configuration) (starts : List ℕ) (n p : ℕ) →
       TransactionAt ts h d s starts n p transaction →
       reply_of r ≡ as_reply (entry_answer h (inside p k))
@@ -143,7 +144,7 @@ module _ (d s : List ℕ) (transaction : ℕ) (x : SomeTransactionAt d s transac
 module _ (d s : List ℕ) (transaction k : ℕ) (r : NodeStart)
     (found : r ≡ node_start s (transaction + transaction_head) k) where
   -- what was read at the node
-  pub search_read : {at : ℕ} {a : Reply} → r ≡ At at → RuleFound d s (transaction + idle_size) at a →
+  pub search_read : {at : ℕ} {a : Result Move Reason} → r ≡ At at → RuleFound d s (transaction + idle_size) at a →
       NodeReplied d s transaction k a
   search_read {at} g read = record {
     found = λ ts h starts n p x.
@@ -157,8 +158,8 @@ module _ (d s : List ℕ) (transaction k : ℕ) (r : NodeStart)
 
 module _ (d s : List ℕ) (transaction k : ℕ) (r : NodeStart)
     (found : r ≡ node_start s (transaction + transaction_head) k) where
-  pub search_missing : r ≡ Nowhere → NodeReplied d s transaction k (Refused 16)
-  unfolding reply_of node_reply
+  pub search_missing : r ≡ Nowhere → NodeReplied d s transaction k (Err NoNode)
+  unfolding reply_of reason_number node_reply
   search_missing g = record {
     found = λ ts h starts n p x.
         let o = transaction_parts x in
@@ -168,13 +169,13 @@ module _ (d s : List ℕ) (transaction k : ℕ) (r : NodeStart)
 
 -- ---- what was found can be made
 
-pub found_moves : {ts : List Term} {h : Configuration} {d s starts : List ℕ} {n p transaction : ℕ} {w : Shortage} (k rule at : ℕ) →
+pub found_moves : {ts : List Term} {h : Configuration} {d s starts : List ℕ} {n p transaction : ℕ} {m : Move} (k at : ℕ) →
     TransactionAt ts h d s starts n p transaction → node_start s (transaction + transaction_head) k ≡ At at →
-    NodeReplied d s transaction k (Moved rule w) → NodeMovesBy ts h d s starts n p k rule at
+    NodeReplied d s transaction k (Ok m) → NodeMovesBy ts h d s starts n p k (number_of_rule m.rule) at
 unfolding reply_of
-found_moves {ts} {h} {starts = starts} {n = n} {p = p} {w = w} k rule at x place found = record {
+found_moves {ts} {h} {starts = starts} {n = n} {p = p} {m = m} k at x place found = record {
   decoded = x.decoded;
   holds = x.holds;
   place = rw x.begins at place;
-  by = by_number h (inside p k) rule (shortage_of w) (sym (found.found ts h starts n p x));
+  by = by_number h (inside p k) (number_of_rule m.rule) (shortage_of m.short) (sym (found.found ts h starts n p x));
 }

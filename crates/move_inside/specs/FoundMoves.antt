@@ -2,20 +2,21 @@
 --
 -- d is a decoded table; s has a hall's bytes; a snapshot and a node stand at offsets of s.
 -- Assumes nothing.
-use Rattle.std.specs.Prelude.{ℕ, ◌+◌, ◌≤◌, ◌<◌, ◌≡◌, List, [], ◌∷◌, ◌++◌, length}
+use Rattle.std.specs.Prelude.{ℕ, ◌+◌, ◌≤◌, ◌<◌, ◌≡◌, Option, Some, None, Result, Ok, List, [], ◌∷◌, ◌++◌, length}
 use Rattle.calculus.specs.Syntax.{rd, Log, State}
 use Rattle.semantics.specs.Definitions.Terms.{Expression, end_t, retry_t, rd_t, wt_t, or_else_t, Term}
 use Rattle.semantics.specs.Definitions.Logs.{shortage}
 use Rattle.semantics.specs.Definitions.Configuration.{Tree, leaf, fork}
 use Rattle.semantics.specs.Definitions.Moves.{NodeAnswer, evolves, no_rule, out_of_range, reads, move_at, rule_number, Reply, moved_by, refused_by}
-use Rattle.answers.specs.declared.replies.Reply as code
-use Rattle.answers.specs.declared.replies.Shortage.{Shortage}
+use Rattle.answers.specs.declared.refusals.Reason.{Reason}
+use Rattle.answers.specs.declared.replies.Short.{Short}
+use Rattle.answers.specs.declared.replies.Move.{Move}
 use Rattle.answers.specs.Answers.{shortage_of, reply_of}
 use Rattle.hall_layout.specs.Layout.{channels, leaf_size, leaf_log, log_size}
 use Rattle.move_logs.specs.LogOffsets.{LogAt, CountsAt}
 use Rattle.move_leaves.specs.Leaves.{TreeAt}
 use Rattle.move_inside.specs.declared.redexes.Redex.{Redex}
-use Rattle.move_inside.specs.declared.redexes.Redex.TheVariants.{Read, Write, OrElse, LeftEnds, LeftRetries, Nothing}
+use Rattle.move_inside.specs.declared.redexes.Redex.TheVariants.{Read, Write, OrElse, LeftEnds, LeftRetries}
 use Rattle.move_inside.specs.LeafBytes.{size_at}
 
 -- ---- replies
@@ -45,32 +46,32 @@ pub record CanTestRead (s : List ℕ) (snapshot at : ℕ) : Type 0 where
   pub counted : snapshot + channels ≤ length s
 
 -- r tells what the log with a read of channel a is short of at the counts, whatever they are
-pub record ReadShortageFound (s : List ℕ) (snapshot at a : ℕ) (r : Shortage) : Type 0 where
+pub record ReadShortageFound (s : List ℕ) (snapshot at a : ℕ) (r : Option Short) : Type 0 where
   pub found : (δ : Log) (σ : State) → LogAndCountsAt s snapshot at δ σ → shortage_of r ≡ shortage σ (δ ++ (rd a ∷ []))
 
 -- r tells the rule by which a read of channel a moves, and what was short, whatever the log, the counts and what follows are
-pub record ReadRuleFound (s : List ℕ) (snapshot at a : ℕ) (r : code.Reply) : Type 0 where
+pub record ReadRuleFound (s : List ℕ) (snapshot at a : ℕ) (r : Move) : Type 0 where
   pub found : (δ : Log) (σ : State) (M : Expression) → LogAndCountsAt s snapshot at δ σ →
-      reply_of r ≡ node_reply (reads σ a M δ)
+      reply_of (Ok r) ≡ node_reply (reads σ a M δ)
 
 -- ---- a redex
 
--- what can move at the first node of a tree
-unfoldable pub redex_of : Tree → Redex
-redex_of (leaf (end_t n) δ) = Nothing
-redex_of (leaf (retry_t n) δ) = Nothing
-redex_of (leaf (rd_t n a M) δ) = Read a
-redex_of (leaf (wt_t n a M) δ) = Write a
-redex_of (leaf (or_else_t n M N) δ) = OrElse
-redex_of (fork (leaf (end_t n) δ) r) = LeftEnds
-redex_of (fork (leaf (retry_t n) δ) r) = LeftRetries
-redex_of (fork (leaf (rd_t n a M) δ) r) = Nothing
-redex_of (fork (leaf (wt_t n a M) δ) r) = Nothing
-redex_of (fork (leaf (or_else_t n M N) δ) r) = Nothing
-redex_of (fork (fork l m) r) = Nothing
+-- what can move at the first node of a tree, if anything can
+unfoldable pub redex_of : Tree → Option Redex
+redex_of (leaf (end_t n) δ) = None
+redex_of (leaf (retry_t n) δ) = None
+redex_of (leaf (rd_t n a M) δ) = Some (Read a)
+redex_of (leaf (wt_t n a M) δ) = Some (Write a)
+redex_of (leaf (or_else_t n M N) δ) = Some OrElse
+redex_of (fork (leaf (end_t n) δ) r) = Some LeftEnds
+redex_of (fork (leaf (retry_t n) δ) r) = Some LeftRetries
+redex_of (fork (leaf (rd_t n a M) δ) r) = None
+redex_of (fork (leaf (wt_t n a M) δ) r) = None
+redex_of (fork (leaf (or_else_t n M N) δ) r) = None
+redex_of (fork (fork l m) r) = None
 
 -- r is the redex of the tree at an offset, whichever table and tree it is
-pub record RedexFound (d s : List ℕ) (at : ℕ) (r : Redex) : Type 0 where
+pub record RedexFound (d s : List ℕ) (at : ℕ) (r : Option Redex) : Type 0 where
   pub found : (ts : List Term) (u : Tree) → TreeAt ts u d s at → r ≡ redex_of u
 
 -- ---- a node
@@ -89,6 +90,6 @@ pub record CanReadRule (d s : List ℕ) (snapshot at : ℕ) : Type 0 where
   pub inside : at < length s
 
 -- r is what a move of the tree at its first node is answered, whatever the tree and the counts are
-pub record RuleFound (d s : List ℕ) (snapshot at : ℕ) (r : code.Reply) : Type 0 where
+pub record RuleFound (d s : List ℕ) (snapshot at : ℕ) (r : Result Move Reason) : Type 0 where
   pub found : (ts : List Term) (u : Tree) (σ : State) → TreeAndCountsAt ts u σ d s snapshot at →
       reply_of r ≡ node_reply (move_at σ u 0)

@@ -2,7 +2,6 @@
 ghost use Rattle.std.specs.Prelude.{◌≡◌};
 ghost use Rattle.move_inside.specs.LeafBytes.{CanLogAction, logged};
 
-use buffer::wide;
 use hall_layout::{LEAF_LOG, LEAF_LOG_LENGTH, LEAF_TERM};
 use table_terms::DECODED;
 
@@ -12,9 +11,9 @@ pub fn log_action(decoded: &[u8; DECODED], hall: &mut [u8], at: usize, action: u
     requires { CanLogAction hall.old at }
     ensures { hall.new ≡ logged decoded.now hall.old at action }
 {
-    let next = table_terms::second_at(decoded, wide(hall[at + LEAF_TERM]));
+    let next = table_terms::second_at(decoded, usize::from(hall[at + LEAF_TERM]));
     let length = hall[at + LEAF_LOG_LENGTH];
     hall[at + LEAF_TERM] = next;
     hall[at + LEAF_LOG_LENGTH] = length + 1;
-    hall[at + LEAF_LOG + wide(length)] = action;
+    hall[at + LEAF_LOG + usize::from(length)] = action;
 }

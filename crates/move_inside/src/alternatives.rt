@@ -5,7 +5,7 @@ ghost use Rattle.hall_layout.specs.Nodes.{tree_end};
 ghost use Rattle.hall_held.specs.Holds.{CanReplacePart, ReplacedPart};
 ghost use Rattle.move_inside.specs.LeafBytes.{left_size, fork_bytes, left_bytes, CanSplit};
 
-use buffer::{wide, write_at};
+use buffer::write_at;
 use hall_held::replace_part;
 use hall_layout::{FORK_SIZE, INDEX_SIZE, KIND_FORK, LEAF_SIZE, LEAF_TERM};
 use table_terms::DECODED;
@@ -32,7 +32,7 @@ fn fork_bytes(decoded: &[u8; DECODED], hall: &[u8], at: usize) -> [u8; SPLIT_SIZ
     requires { CanSplit hall.now at }
     ensures { result ≡ fork_bytes decoded.now hall.now at }
 {
-    let term = wide(hall[at + LEAF_TERM]);
+    let term = usize::from(hall[at + LEAF_TERM]);
     let end = at + LEAF_SIZE;
     let leaf = &hall[at..end];
     let mut new = [0u8; SPLIT_SIZE];

@@ -13,24 +13,29 @@ mod redexes;
 ghost use Rattle.move_inside.specs.FoundMoves.{CanReadRule, RuleFound};
 ghost use Rattle.move_inside.specs.MadeMoves.{CanMoveNode, NodeMoved};
 
-use answers::{AOE, AOF, AOI, AWR, NO_RULE, Reply, Shortage};
+use answers::{Move, Reason, Rule};
 use hall_layout::{IDLE_SIZE, INDEX_SIZE, WRITE_OFFSET};
 use redexes::{Redex, redex_at};
 use table_terms::DECODED;
 
 // The rule for the node that begins at an offset, of a transaction with its snapshot at another, and what is short; or
 // that there is none.
-pub fn rule_at(decoded: &[u8; DECODED], hall: &[u8], snapshot: usize, at: usize) -> Reply
+pub fn rule_at(
+    decoded: &[u8; DECODED],
+    hall: &[u8],
+    snapshot: usize,
+    at: usize,
+) -> Result<Move, Reason>
     requires { CanReadRule decoded.now hall.now snapshot at }
     ensures { RuleFound decoded.now hall.now snapshot at result }
 {
     match redex_at(decoded, hall, at) {
-        Redex::Read { channel } => reads::read_rule(hall, snapshot, at, channel),
-        Redex::Write { channel: _ } => Reply::Moved(AWR, Shortage::Enough),
-        Redex::OrElse => Reply::Moved(AOI, Shortage::Enough),
-        Redex::LeftEnds => Reply::Moved(AOE, Shortage::Enough),
-        Redex::LeftRetries => Reply::Moved(AOF, Shortage::Enough),
-        Redex::Nothing => Reply::Refused(NO_RULE),
+        Some(Redex::Read { channel }) => Ok(reads::read_rule(hall, snapshot, at, channel)),
+        Some(Redex::Write { channel: _ }) => Ok(Move::by(Rule::Awr)),
+        Some(Redex::OrElse) => Ok(Move::by(Rule::Aoi)),
+        Some(Redex::LeftEnds) => Ok(Move::by(Rule::Aoe)),
+        Some(Redex::LeftRetries) => Ok(Move::by(Rule::Aof)),
+        None => Err(Reason::NoRule),
     }
 }
 
@@ -42,31 +47,32 @@ pub fn move_at(
     components: usize,
     position: usize,
     at: usize,
-) -> Reply
+) -> Result<Move, Reason>
     requires { CanMoveNode decoded.now hall.old starts.old components position at }
     ensures { NodeMoved decoded.now hall.old starts.old components position at result
         hall.new starts.new }
 {
     match redex_at(decoded, hall, at) {
-        Redex::Read { channel } => {
-            reads::make_read(decoded, hall, starts[position] + IDLE_SIZE, at, channel)
+        Some(Redex::Read { channel }) => {
+            let snapshot = starts[position] + IDLE_SIZE;
+            Ok(reads::make_read(decoded, hall, snapshot, at, channel))
         }
-        Redex::Write { channel } => {
+        Some(Redex::Write { channel }) => {
             actions::log_action(decoded, hall, at, WRITE_OFFSET + channel);
-            Reply::Moved(AWR, Shortage::Enough)
+            Ok(Move::by(Rule::Awr))
         }
-        Redex::OrElse => {
+        Some(Redex::OrElse) => {
             alternatives::split(decoded, hall, starts, components, position, at);
-            Reply::Moved(AOI, Shortage::Enough)
+            Ok(Move::by(Rule::Aoi))
         }
-        Redex::LeftEnds => {
+        Some(Redex::LeftEnds) => {
             alternatives::keep_left(hall, starts, components, position, at);
-            Reply::Moved(AOE, Shortage::Enough)
+            Ok(Move::by(Rule::Aoe))
         }
-        Redex::LeftRetries => {
+        Some(Redex::LeftRetries) => {
             alternatives::drop_left(hall, starts, components, position, at);
-            Reply::Moved(AOF, Shortage::Enough)
+            Ok(Move::by(Rule::Aof))
         }
-        Redex::Nothing => Reply::Refused(NO_RULE),
+        None => Err(Reason::NoRule),
     }
 }

@@ -2,7 +2,6 @@
 ghost use Rattle.move_leaves.specs.Leaves.{CanReadNode};
 ghost use Rattle.move_inside.specs.FoundMoves.{RedexFound};
 
-use buffer::wide;
 use hall_layout::{FORK_SIZE, KIND_FORK, LEAF_TERM};
 use move_leaves::{expression_kind, leaf_kind_at};
 use table_records::{END, OR_ELSE, RD, RETRY, WT};
@@ -17,31 +16,30 @@ pub enum Redex {
     OrElse,
     LeftEnds,
     LeftRetries,
-    Nothing,
 }
 
-// The redex at the node that begins at an offset.
-pub fn redex_at(decoded: &[u8; DECODED], hall: &[u8], at: usize) -> Redex
+// The redex at the node that begins at an offset, if it has one.
+pub fn redex_at(decoded: &[u8; DECODED], hall: &[u8], at: usize) -> Option<Redex>
     requires { CanReadNode decoded.now hall.now at }
     ensures { RedexFound decoded.now hall.now at result }
 {
     if hall[at] == KIND_FORK {
         return match leaf_kind_at(decoded, hall, at + FORK_SIZE) {
-            END => Redex::LeftEnds,
-            RETRY => Redex::LeftRetries,
-            _ => Redex::Nothing,
+            Some(END) => Some(Redex::LeftEnds),
+            Some(RETRY) => Some(Redex::LeftRetries),
+            _ => None,
         };
     }
     let byte = hall[at + LEAF_TERM];
-    let term = wide(byte);
+    let term = usize::from(byte);
     match expression_kind(decoded, byte) {
-        RD => Redex::Read {
+        RD => Some(Redex::Read {
             channel: table_terms::first_at(decoded, term),
-        },
-        WT => Redex::Write {
+        }),
+        WT => Some(Redex::Write {
             channel: table_terms::first_at(decoded, term),
-        },
-        OR_ELSE => Redex::OrElse,
-        _ => Redex::Nothing,
+        }),
+        OR_ELSE => Some(Redex::OrElse),
+        _ => None,
     }
 }

@@ -1,7 +1,7 @@
 -- `redex_at` meets its contract. Assumes nothing.
 use native.Mathlib.Omega.{arith}
 use Rattle.move_leaves.proofs.Leaves.{node_inside, term_inside, leaf_names}
-use Rattle.move_inside.proofs.NodeRedexes.{left_present, left_ends, left_retries, fork_waits, action_term, read_redex, write_redex, or_else_redex, leaf_waits}
+use Rattle.move_inside.proofs.NodeRedexes.{left_present, left_ends, left_retries, fork_waits, left_nothing, action_term, read_redex, write_redex, or_else_redex, leaf_waits}
 use borrow.Author.Rules.{rules}
 use Rattle.move_inside.proofs.redexes.redex_at.Goals as goal
 
@@ -11,14 +11,17 @@ bounds-hall-at c = search node_inside
 pub leaf_kind_at-requires : goal.leaf_kind_at-requires
 leaf_kind_at-requires c = search left_present
 
-pub returns-in-7 : goal.returns-in-7
-returns-in-7 c = search left_ends
+pub returns-in-Some-eq7 : goal.returns-in-Some-eq7
+returns-in-Some-eq7 c = search left_ends
 
-pub returns-in-8 : goal.returns-in-8
-returns-in-8 c = search left_retries
+pub returns-in-Some-eq8 : goal.returns-in-Some-eq8
+returns-in-Some-eq8 c = search left_retries
 
 pub returns-in_default : goal.returns-in_default
 returns-in_default c = search fork_waits
+
+pub returns-in_default-2 : goal.returns-in_default-2
+returns-in_default-2 c = search left_nothing
 
 pub overflow_add-byte : goal.overflow_add-byte
 overflow_add-byte c = omega (arith, node_inside)
