@@ -5,15 +5,17 @@ use native.Mathlib.Omega.{arith}
 use mathlib.Core.Path.{◌≡◌, sym, ap}
 use mathlib.Core.List.{List, []}
 use lib.ListN.{length, get_or, set}
+use Rattle.std.specs.Prelude.{None, Ok, Err}
 use Rattle.semantics.specs.Definitions.Layout.{max_count}
 use Rattle.semantics.specs.Definitions.Configuration.{output, idle}
 use Rattle.semantics.specs.Definitions.Stored.{ComponentOk}
 use Rattle.semantics.specs.Definitions.Moves.{as_reply, rule_number}
 use Rattle.theorems.proofs.WellFormedKept.{count_byte}
 use Rattle.hall_layout.specs.Layout.{channels, max_components, component_body}
-use Rattle.answers.specs.declared.replies.Shortage.TheVariants.{Enough}
-use Rattle.answers.specs.declared.replies.Reply.TheVariants.{Moved, Refused}
-use Rattle.answers.specs.Answers.{reply_of}
+use Rattle.answers.specs.declared.refusals.Reason.TheVariants.{FullChannel}
+use Rattle.answers.specs.declared.rules.Rule.TheVariants.{Out}
+use Rattle.answers.specs.declared.replies.Move.{Move}
+use Rattle.answers.specs.Answers.{number_of_rule, reason_number, reply_of}
 use Rattle.hall_held.specs.Holds.{CanReplace, Replaced}
 use Rattle.hall_held.proofs.Holds.{hall_length, count_here, component_ok}
 use Rattle.move_tokens.specs.Tokens.{CanLookOutput, OutputLooked, CanPut, TokenPut}
@@ -31,23 +33,24 @@ module _ (s : List ℕ) (a : ℕ) where
       let z = hall_length x.holds in omega arith
 
   module _ (i : ℕ) (e : i ≡ a) where
-    pub full_looked : get_or s i 0 ≡ max_count → OutputLooked s a (Refused 20)
-    unfolding ComponentOk reply_of
+    pub full_looked : get_or s i 0 ≡ max_count → OutputLooked s a (Err FullChannel)
+    unfolding ComponentOk reply_of reason_number
     full_looked q = record {
       found = λ ts h starts n p x f.
           let c = count_here x a (component_ok x p (idle (output a)) f) in
           let k : get_or s a 0 ≡ max_count = rw e at q in sym (full_refused h p a f (omega arith));
     }
 
-    pub put_looked : (get_or s i 0 ≡ max_count → ⊥) → OutputLooked s a (Moved 1 Enough)
-    unfolding ComponentOk reply_of as_reply rule_number
-    put_looked q = record {
+    pub put_looked : (get_or s i 0 ≡ max_count → ⊥) → (m : Move) → m ≡ record { rule = Out; short = None } →
+        OutputLooked s a (Ok m)
+    unfolding ComponentOk reply_of number_of_rule as_reply rule_number
+    put_looked q m by = record {
       found = λ ts h starts n p x f.
           let c = count_here x a (component_ok x p (idle (output a)) f) in
           let b = count_byte h.counts a x.form.channel_counts in
           let k : get_or s a 0 ≡ max_count → ⊥ = rw e at q in
           let l = below (get_or s a 0) (omega arith) k in
-          sym (ap as_reply (put_accepted h p a f x.form.few (omega arith)));
+          rw by (sym (ap as_reply (put_accepted h p a f x.form.few (omega arith))));
     }
       where
         below : (n : ℕ) → n ≤ max_count → (n ≡ max_count → ⊥) → n < max_count

@@ -10,6 +10,8 @@ use lib.ListN.{length, get_or, take, set, get_elem?, length-append, length-take}
 use lib.Seq.{take_at, take-length}
 use lib.Dec.{ltb}
 use borrow.Author.Tests.{ltb-true, ltb-false, le-ltb}
+use Rattle.std.specs.Prelude.{Result, None, Ok, Err}
+use Rattle.std.specs.Int.{from_bool}
 use Rattle.calculus.specs.Syntax.{Name}
 use Rattle.semantics.specs.Definitions.Layout.{max_terms, max_components}
 use Rattle.semantics.specs.Definitions.Terms.{Program, nil_t, put_t, take_t, repeat_t, par_t, atom_t, Term, process, width}
@@ -30,10 +32,12 @@ use Rattle.hall_laws.specs.Positions.{all_bytes}
 use Rattle.hall_laws.proofs.Configurations.{all_bytes_append}
 use Rattle.hall_open.specs.Opening.{components_bytes, CanWriteComponents, ComponentsWritten, ComponentsCounted}
 use Rattle.hall_open.proofs.Processes.{opened_fits}
-use Rattle.answers.specs.declared.replies.Reply.{Reply}
-use Rattle.answers.specs.declared.replies.Shortage.TheVariants.{Enough}
-use Rattle.answers.specs.declared.replies.Reply.TheVariants.{Moved, Refused}
-use Rattle.answers.specs.Answers.{reply_of}
+use Rattle.answers.specs.declared.refusals.Reason.{Reason}
+use Rattle.answers.specs.declared.refusals.Reason.TheVariants.{EmptyChannel, TooManyComponents}
+use Rattle.answers.specs.declared.rules.Rule.{Rule}
+use Rattle.answers.specs.declared.rules.Rule.TheVariants.{In, Rep}
+use Rattle.answers.specs.declared.replies.Move.{Move}
+use Rattle.answers.specs.Answers.{number_of_rule, reason_number, shortage_of, reply_of}
 use Rattle.hall_held.specs.Holds.{Holds, CanReplace, Replaced}
 use Rattle.hall_held.proofs.Holds.{hall_length, few_components, count_here, position_below}
 use Rattle.move_tokens.specs.Tokens.{take_of, take_term, successors, staying, take_number, repeats, term_of, successors_size, single_size, ATake, CanLookTake, TakeLooked, CanTestCrowded, CrowdedTested, CanWriteSuccessors, SuccessorsWritten, CanTake, TokenTaken}
@@ -76,35 +80,32 @@ module _ (d : List ℕ) (i more n : ℕ) where
 
 -- ---- the look
 
--- by the kind of the term
-module _ (kind : ℕ) where
-  -- as the code tests it
-  module _ {r : Bool} (f : r ≡ repeats kind) where
-    pub rep_rule : r ≡ true → 3 ≡ take_number (repeats kind)
-    rep_rule e = rw (sym f ∙ e)
+-- by whether the take is repeated
+pub rep_is : (b : Bool) → b ≡ true → number_of_rule Rep ≡ take_number b
+unfolding number_of_rule
+rep_is b e = rw e
 
-    pub in_rule : r ≡ false → 2 ≡ take_number (repeats kind)
-    in_rule e = rw (sym f ∙ e)
+pub in_is : (b : Bool) → b ≡ false → number_of_rule In ≡ take_number b
+unfolding number_of_rule
+in_is b e = rw e
 
-    pub one_stays : r ≡ true → 1 ≡ staying (repeats kind)
-    one_stays e = rw (sym f ∙ e)
+stays_is : (b : Bool) → from_bool b ≡ staying b
+stays_is false = refl
+stays_is true = refl
 
-    pub none_stays : r ≡ false → 0 ≡ staying (repeats kind)
-    none_stays e = rw (sym f ∙ e)
-
-  repeats_is : (b : Bool) → kind ≡ take_kind b → b ≡ repeats kind
-  unfolding repeats
-  repeats_is false e = rw e
-  repeats_is true e = rw e
+repeats_is : (kind : ℕ) (b : Bool) → kind ≡ take_kind b → b ≡ repeats kind
+unfolding repeats
+repeats_is kind false e = rw e
+repeats_is kind true e = rw e
 
 staying_few : (b : Bool) → staying b ≤ 1
 staying_few false = omega arith
 staying_few true = omega arith
 
 -- the answer where a token is there, by the room for what opens
-abbrev room_reply : (repeated crowded : Bool) → Reply
-room_reply b true = Refused 19
-room_reply b false = Moved (take_number b) Enough
+abbrev room_reply : (repeated crowded : Bool) → moves.Reply
+room_reply b true = moves.refused_by 19
+room_reply b false = moves.moved_by (take_number b) enough
 
 module _ (d s : List ℕ) (n m i : ℕ) (same : i ≡ m) where
   module _ (x : CanLookTake d s n m) where
@@ -124,10 +125,10 @@ module _ (d s : List ℕ) (n m i : ℕ) (same : i ≡ m) where
         let z = hall_length x.holds in
         let v : a ≡ first_at d m = q ∙ rw same at p in omega arith
 
-    room_asked : (g k more kind : ℕ) → g ≡ second_at d i → k ≡ g → more ≡ staying (repeats kind) →
+    room_asked : (g k more : ℕ) (b : Bool) → g ≡ second_at d i → k ≡ g → more ≡ staying b →
         CanTestCrowded d k more n
-    room_asked g k more kind p q l =
-        let f = staying_few (repeats kind) in
+    room_asked g k more b p q l =
+        let f = staying_few b in
         let v : k ≡ second_at d m = q ∙ rw same at p in
         let b = position_below x.holds x.position _ x.there in
         record {
@@ -151,8 +152,8 @@ module _ (d s : List ℕ) (n m i : ℕ) (same : i ≡ m) where
         let v : a ≡ c = q ∙ (rw same at p) ∙ (take_in y b m c P e).channel in
         rw v (count_here x c (take_in y b m c P e).below)
 
-    pub empty_looked : get_or s a 0 ≡ 0 → TakeLooked d s n m (Refused 18)
-    unfolding reply_of
+    pub empty_looked : get_or s a 0 ≡ 0 → TakeLooked d s n m (Err EmptyChannel)
+    unfolding reply_of reason_number
     empty_looked z = record {
       found = λ ts h starts p b c P y x e.
           let v = counted y x b c P (waits_on x p b m c P e) in sym (empty_refused h p b m c P e (sym v ∙ z));
@@ -161,9 +162,9 @@ module _ (d s : List ℕ) (n m i : ℕ) (same : i ≡ m) where
     module _ (z : get_or s a 0 ≡ 0 → ⊥) (g k : ℕ) (o : g ≡ second_at d i) (t : k ≡ g) (kind : ℕ)
         (u : kind ≡ kind_at d i) where
       room_looked : (b : Bool) → b ≡ repeats kind → (r : Bool) → CrowdedTested d k (staying b) n r →
-          TakeLooked d s n m (room_reply b r)
-      unfolding reply_of as_reply
-      room_looked b w r told = record {
+          (v : Result Move Reason) → reply_of v ≡ room_reply b r → TakeLooked d s n m v
+      unfolding as_reply
+      room_looked b w r told answer is = record {
         found = λ ts h starts p b' c P y x e.
             let l = waits_on x p b' m c P e in
             let v = counted y x b' c P l in
@@ -171,13 +172,13 @@ module _ (d s : List ℕ) (n m i : ℕ) (same : i ≡ m) where
             let like : b' ≡ b = repeats_is kind b' (of_kind ∙ (take_in y b' m c P l).kind) ∙ sym w in
             let at_second : k ≡ second_at d m = t ∙ rw same at o in
             let there : get_elem? ts k ≡ some (process P) = rw at_second (take_in y b' m c P l).continuation in
-            go h p c P (rw like at e) (λ j. z (v ∙ j)) r (rw x.counted at (told.found ts P y there));
+            is ∙ go h p c P (rw like at e) (λ j. z (v ∙ j)) r (rw x.counted at (told.found ts P y there));
       }
         where
           go : (h : Configuration) (p : ℕ) (c : Name) (P : Program) →
               get_elem? h.components p ≡ some (idle (take_of b m c P)) → (get_or h.counts c 0 ≡ 0 → ⊥) → (r : Bool) →
               r ≡ ltb max_components (length h.components - 1 + staying b + length (opens P)) →
-              reply_of (room_reply b r) ≡ as_reply (entry_answer h (act p))
+              room_reply b r ≡ as_reply (entry_answer h (act p))
           go h p c P e j true told =
               let l = ltb-true max_components (length h.components - 1 + staying b + length (opens P)) (sym told) in
               let f = many_after h p b m c P e in
@@ -187,17 +188,23 @@ module _ (d s : List ℕ) (n m i : ℕ) (same : i ≡ m) where
               let f = many_after h p b m c P e in
               sym (ap as_reply (take_accepted h p b m c P e j (omega arith)) ∙ ap (λ k. moves.moved_by k enough) (take_number_holds b c))
 
-      module _ (more : ℕ) (stays : more ≡ staying (repeats kind)) (r : Bool) (told : CrowdedTested d k more n r) where
-        pub crowded_looked : r ≡ true → TakeLooked d s n m (Refused 19)
-        crowded_looked e = room_looked (repeats kind) refl true (rw (e, stays) at told)
+      module _ (b : Bool) (w : b ≡ repeats kind) (more : ℕ) (stays : more ≡ from_bool b) (r : Bool)
+          (told : CrowdedTested d k more n r) where
+        pub crowded_looked : r ≡ true → TakeLooked d s n m (Err TooManyComponents)
+        unfolding reply_of reason_number
+        crowded_looked e = room_looked b w true (rw (e, stays, stays_is b) at told) (Err TooManyComponents) refl
 
-        pub take_looked : r ≡ false → (rule : ℕ) → rule ≡ take_number (repeats kind) → TakeLooked d s n m (Moved rule Enough)
-        take_looked e rule by = rw by (room_looked (repeats kind) refl false (rw (e, stays) at told))
+        pub take_looked : r ≡ false → (rule : Rule) → number_of_rule rule ≡ take_number b → (v : Move) →
+            v ≡ record { rule = rule; short = None } → TakeLooked d s n m (Ok v)
+        unfolding reply_of shortage_of
+        take_looked e rule number v by =
+            room_looked b w false (rw (e, stays, stays_is b) at told) (Ok v)
+            (rw by (ap (λ k. moves.moved_by k enough) number))
 
 -- the room for what opens may be asked for
-pub can_ask_room : (d s : List ℕ) (n m : ℕ) → CanLookTake d s n m → (i g k more kind : ℕ) → k ≡ g → g ≡ second_at d i →
-    i ≡ m → more ≡ staying (repeats kind) → CanTestCrowded d k more n
-can_ask_room d s n m x i g k more kind q p same stays = room_asked d s n m i same x g k more kind p q stays
+pub can_ask_room : (d s : List ℕ) (n m : ℕ) → CanLookTake d s n m → (i g k more : ℕ) → k ≡ g → g ≡ second_at d i →
+    i ≡ m → (b : Bool) → more ≡ from_bool b → CanTestCrowded d k more n
+can_ask_room d s n m x i g k more q p same b stays = room_asked d s n m i same x g k more b p q (stays ∙ stays_is b)
 
 -- ---- what is laid down
 

@@ -3,7 +3,7 @@
 --
 -- d is a decoded table; s has the bytes, starts the index, n the number of components.
 -- Assumes nothing.
-use Rattle.std.specs.Prelude.{ℕ, ◌+◌, ◌*◌, ◌-◌, ◌≤◌, ◌<◌, ◌≡◌, Bool, true, false, List, [], ◌∷◌, ◌++◌, map, length, take, get_or, eqb, ltb}
+use Rattle.std.specs.Prelude.{ℕ, ◌+◌, ◌*◌, ◌-◌, ◌≤◌, ◌<◌, ◌≡◌, Bool, true, false, Result, List, [], ◌∷◌, ◌++◌, map, length, take, get_or, eqb, ltb}
 use Rattle.std.proofs.Math.Option.{some}
 use Rattle.std.proofs.Math.ListN.{get_elem?}
 use Rattle.calculus.specs.Syntax.{Name}
@@ -17,7 +17,8 @@ use Rattle.table_records.specs.Shapes.{kind_byte}
 use Rattle.table_terms.specs.Decoded.{Decoded, AProcess}
 use Rattle.hall_layout.specs.Layout.{idle_size, component_body}
 use Rattle.hall_laws.specs.Positions.{all_bytes}
-use Rattle.answers.specs.declared.replies.Reply.{Reply}
+use Rattle.answers.specs.declared.refusals.Reason.{Reason}
+use Rattle.answers.specs.declared.replies.Move.{Move}
 use Rattle.answers.specs.Answers.{reply_of}
 use Rattle.hall_held.specs.Holds.{Holds}
 use Rattle.hall_held.specs.Choices.{CanApply, Applied}
@@ -35,7 +36,7 @@ pub record CanLookOutput (s : List ℕ) (channel : ℕ) : Type 0 where
   pub there : get_elem? configuration.components position ≡ some (idle (output channel))
 
 -- r is what an entry of kind 1 is answered there, whichever configuration is held and wherever such an output stands
-pub record OutputLooked (s : List ℕ) (channel : ℕ) (r : Reply) : Type 0 where
+pub record OutputLooked (s : List ℕ) (channel : ℕ) (r : Result Move Reason) : Type 0 where
   pub found : (ts : List Term) (h : Configuration) (starts : List ℕ) (n p : ℕ) → Holds ts h s starts n →
       get_elem? h.components p ≡ some (idle (output channel)) → reply_of r ≡ as_reply (entry_answer h (act p))
 
@@ -98,7 +99,7 @@ pub record CanLookTake (d s : List ℕ) (n term : ℕ) : Type 0 where
 
 -- r is what an entry of kind 1 is answered there, whichever configuration of whichever table is held and wherever such
 -- a component stands
-pub record TakeLooked (d s : List ℕ) (n term : ℕ) (r : Reply) : Type 0 where
+pub record TakeLooked (d s : List ℕ) (n term : ℕ) (r : Result Move Reason) : Type 0 where
   pub found : (ts : List Term) (h : Configuration) (starts : List ℕ) (p : ℕ) (b : Bool) (a : Name) (P : Program) →
       Decoded ts d → Holds ts h s starts n → get_elem? h.components p ≡ some (idle (take_of b term a P)) →
       reply_of r ≡ as_reply (entry_answer h (act p))

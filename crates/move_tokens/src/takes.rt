@@ -1,10 +1,10 @@
 // IN and REP: a component (station) takes a token from its channel (tray) and gives way to what its continuation opens
 // into; a repeated take stays behind that.
 ghost use Rattle.std.specs.Prelude.{◌≡◌};
-ghost use Rattle.move_tokens.specs.Tokens.{take_number, staying, repeats, CanLookTake, TakeLooked, CanTestCrowded, CrowdedTested, term_of, CanWriteSuccessors, SuccessorsWritten, CanTake, TokenTaken};
+ghost use Rattle.answers.specs.Answers.{number_of_rule};
+ghost use Rattle.move_tokens.specs.Tokens.{take_number, repeats, CanLookTake, TakeLooked, CanTestCrowded, CrowdedTested, term_of, CanWriteSuccessors, SuccessorsWritten, CanTake, TokenTaken};
 
-use answers::{EMPTY_CHANNEL, IN, REP, Reply, Shortage, TOO_MANY_COMPONENTS};
-use buffer::wide;
+use answers::{Move, Reason, Rule};
 use hall_held::replace_component;
 use hall_layout::{COMPONENT_BODY, IDLE_SIZE, INDEX_SIZE, KIND_WAITING, MAX_COMPONENTS};
 use hall_open::{component_count, write_components, write_idle};
@@ -17,23 +17,17 @@ const SUCCESSORS_SIZE: usize = IDLE_SIZE * (MAX_COMPONENTS + 1);
 // The same where its continuation opens into one component at most.
 const SUCCESSOR_SIZE: usize = IDLE_SIZE * 2;
 
-// By the kind of a take's record: whether it is repeated, its rule, and how many stay of it.
+// Whether the record of a take, by its kind, is a repeated take's.
 fn repeats(kind: u8) -> bool
     ensures { result ≡ repeats kind }
 {
     kind == REPEATED_TAKE
 }
 
-fn take_number(kind: u8) -> u8
-    ensures { result ≡ take_number (repeats kind) }
+fn take_rule(repeated: bool) -> Rule
+    ensures { number_of_rule result ≡ take_number repeated }
 {
-    if repeats(kind) { REP } else { IN }
-}
-
-fn staying_of(kind: u8) -> usize
-    ensures { result ≡ staying (repeats kind) }
-{
-    if repeats(kind) { 1 } else { 0 }
+    if repeated { Rule::Rep } else { Rule::In }
 }
 
 // Whether there are too many components once one has given way to what a process opens into and so many more. The width
@@ -43,7 +37,7 @@ fn is_crowded(decoded: &[u8; DECODED], term: usize, more: usize, components: usi
     ensures { CrowdedTested decoded.now term more components result }
 {
     let others = components - 1 + more;
-    if others + wide(table_terms::breadth_at(decoded, term)) <= MAX_COMPONENTS {
+    if others + usize::from(table_terms::breadth_at(decoded, term)) <= MAX_COMPONENTS {
         return false;
     }
     MAX_COMPONENTS < others + component_count(decoded, term)
@@ -51,23 +45,28 @@ fn is_crowded(decoded: &[u8; DECODED], term: usize, more: usize, components: usi
 
 // What IN or REP is answered at a component that waits on the take or repeated take of this number. An empty channel is
 // told before too many components.
-pub fn look_take(decoded: &[u8; DECODED], hall: &[u8], components: usize, term: u8) -> Reply
+pub fn look_take(
+    decoded: &[u8; DECODED],
+    hall: &[u8],
+    components: usize,
+    term: u8,
+) -> Result<Move, Reason>
     requires { CanLookTake decoded.now hall.now components term }
     ensures { TakeLooked decoded.now hall.now components term result }
 {
-    let i = wide(term);
-    let channel = wide(table_terms::first_at(decoded, i));
-    let continuation = wide(table_terms::second_at(decoded, i));
-    let kind = table_terms::kind_at(decoded, i);
-    let staying = staying_of(kind);
+    let i = usize::from(term);
+    let channel = usize::from(table_terms::first_at(decoded, i));
+    let continuation = usize::from(table_terms::second_at(decoded, i));
+    let repeated = repeats(table_terms::kind_at(decoded, i));
+    let staying = usize::from(repeated);
     let count = hall[channel];
     if count == 0 {
-        return Reply::Refused(EMPTY_CHANNEL);
+        return Err(Reason::EmptyChannel);
     }
     if is_crowded(decoded, continuation, staying, components) {
-        return Reply::Refused(TOO_MANY_COMPONENTS);
+        return Err(Reason::TooManyComponents);
     }
-    Reply::Moved(take_number(kind), Shortage::Enough)
+    Ok(Move::by(take_rule(repeated)))
 }
 
 // The bytes of what stands in the take's place afterwards: the answer is how many they are.
@@ -75,10 +74,10 @@ fn write_successors(decoded: &[u8; DECODED], term: u8, successors: &mut [u8]) ->
     requires { CanWriteSuccessors decoded.now term successors.old }
     ensures { SuccessorsWritten decoded.now term successors.new result }
 {
-    let i = wide(term);
+    let i = usize::from(term);
     let end = write_components(
         decoded,
-        wide(table_terms::second_at(decoded, i)),
+        usize::from(table_terms::second_at(decoded, i)),
         successors,
         0,
     );
@@ -104,8 +103,8 @@ fn take_by(
 {
     let begin = starts[position];
     let term = hall[begin + COMPONENT_BODY];
-    let channel = wide(table_terms::first_at(decoded, wide(term)));
-    hall[channel] = hall[channel] - 1;
+    let channel = usize::from(table_terms::first_at(decoded, usize::from(term)));
+    hall[channel] -= 1;
     let end = write_successors(decoded, term, successors);
     replace_component(
         hall,
@@ -131,8 +130,8 @@ pub fn take(
         hall.new starts.new result }
 {
     let begin = starts[position];
-    let term = wide(hall[begin + COMPONENT_BODY]);
-    let continuation = wide(table_terms::second_at(decoded, term));
+    let term = usize::from(hall[begin + COMPONENT_BODY]);
+    let continuation = usize::from(table_terms::second_at(decoded, term));
     if table_terms::kind_at(decoded, continuation) == PAR {
         let mut successors = [0u8; SUCCESSORS_SIZE];
         return take_by(decoded, hall, starts, components, position, &mut successors);

@@ -19,7 +19,7 @@ pub bounds-hall-channel : goal.bounds-hall-channel
 bounds-hall-channel c = search put_channel
 
 pub overflow_add-hall : goal.overflow_add-hall
-overflow_add-hall c = omega (arith, put_room _ _ _ _ c.requires _ c.wide-channel.ensures)
+overflow_add-hall c = omega (arith, put_room _ _ _ _ c.requires _ c.from-channel.ensures)
 
 pub bounds-hall-channel-2 : goal.bounds-hall-channel-2
 bounds-hall-channel-2 c = search put_channel

@@ -8,8 +8,8 @@ first_at-requires c = search looked_inside
 pub second_at-requires : goal.second_at-requires
 second_at-requires c = search looked_inside
 
-pub kind_at-kind-requires : goal.kind_at-kind-requires
-kind_at-kind-requires c = search looked_inside
+pub kind_at-requires : goal.kind_at-requires
+kind_at-requires c = search looked_inside
 
 pub bounds-hall-channel : goal.bounds-hall-channel
 bounds-hall-channel c = search looked_channel

@@ -24,8 +24,8 @@ kind_at-requires c = search continuation_inside
 
 pub take_by-requires-clause-can_write_successors : goal.take_by-requires-clause-can_write_successors
 take_by-requires-clause-can_write_successors c =
-    can_write_many _ _ _ _ _ c.requires _ _ _ c.wide-term.ensures c.second_at.ensures c.wide-continuation.ensures _ (search rules)
+    can_write_many _ _ _ _ _ c.requires _ _ _ c.from-term.ensures c.second_at.ensures c.from-continuation.ensures _ (search rules)
 
 pub take_by-requires-2-clause-can_write_successors : goal.take_by-requires-2-clause-can_write_successors
 take_by-requires-2-clause-can_write_successors c =
-    can_write_few _ _ _ _ _ c.requires _ _ _ c.wide-term.ensures c.second_at.ensures c.wide-continuation.ensures _ c.kind_at.ensures c.if-kind_at-eq-PAR.false _ (search rules)
+    can_write_few _ _ _ _ _ c.requires _ _ _ c.from-term.ensures c.second_at.ensures c.from-continuation.ensures _ c.kind_at.ensures c.if-kind_at-eq-PAR.false _ (search rules)

@@ -22,7 +22,7 @@ pub bounds-hall-channel : goal.bounds-hall-channel
 bounds-hall-channel c = search take_channel_inside
 
 pub overflow_sub-hall : goal.overflow_sub-hall
-overflow_sub-hall c = let some = take_some _ _ _ _ _ _ _ _ c.wide.ensures c.first_at.ensures c.wide-channel.ensures c.requires.can_take in omega arith
+overflow_sub-hall c = let some = take_some _ _ _ _ _ _ _ _ c.from.ensures c.first_at.ensures c.from-channel.ensures c.requires.can_take in omega arith
 
 pub bounds-hall-channel-2 : goal.bounds-hall-channel-2
 bounds-hall-channel-2 c = search take_channel_inside
@@ -34,7 +34,7 @@ pub slice_bounds-replace_component-end-2 : goal.slice_bounds-replace_component-e
 slice_bounds-replace_component-end-2 c = laid_counted _ _ _ _ _ c.requires.can_take _ _ c.write_successors-end.ensures
 
 pub replace_component-requires : goal.replace_component-requires
-replace_component-requires c = can_replace_take _ _ _ _ _ _ _ _ c.wide.ensures c.first_at.ensures c.wide-channel.ensures c.requires.can_take _ _ c.write_successors-end.ensures
+replace_component-requires c = can_replace_take _ _ _ _ _ _ _ _ c.from.ensures c.first_at.ensures c.from-channel.ensures c.requires.can_take _ _ c.write_successors-end.ensures
 
 pub returns : goal.returns
 returns c = search token_taken
