@@ -1,22 +1,20 @@
--- The digits of a number, from those of its tenth; and bytes written one behind another.
+-- The digits of a number, from those of its tenth.
 -- Assumes nothing.
 use Prim.Native.Nat.{ℕ, zero, suc, ◌+◌, ◌*◌, ◌/◌, ◌%◌, ◌^◌, ◌≤◌, ◌<◌}
 use native.Mathlib.Omega.{arith}
 use native.Mathlib.Numerals.{unary_clauses}
-use mathlib.Core.Path.{◌≡◌, refl, ap, ◌∙◌}
+use mathlib.Core.Path.{◌≡◌, refl, ap}
 use mathlib.Core.Bool.{Bool, true, false, cond}
 use mathlib.Core.List.{List, [], ◌∷◌, ◌++◌}
-use lib.ListN.{length, set, length-append}
 use lib.Dec.{ltb}
-use borrow.Author.Tests.{lt-ltb, le-ltb}
+use borrow.Author.Tests.{lt-ltb, le-ltb, ltb-true, ltb-false}
 use mir.Syntax.{w64}
 use mir.Val.{Fits}
 use Rattle.semantics.specs.Definitions.Report.{digits, decimal}
 use Rattle.theorems.proofs.Decimals.{tenth}
-use Rattle.buffer.proofs.Written.{written_none, written_next, written_length, written_twice}
-use Rattle.print_decimals.specs.Wrote.{Wrote}
-
--- ---- digits
+use Rattle.print_decimals.specs.declared.Page.{Page}
+use Rattle.print_decimals.specs.Page.{Room, Appended}
+use Rattle.print_decimals.proofs.Pages.{appended_none, first_room, second_room, appended_both}
 
 -- more room for digits than are needed changes nothing
 digits_enough : (f n : ℕ) → n < 10 ^ suc f → digits (suc f) n ≡ digits (suc (suc f)) n
@@ -26,66 +24,46 @@ digits_enough (suc f) n l =
     let m : n < 10 * 10 ^ suc f = simp unary_clauses (omega arith) in
     ap (λ ds. cond (ltb n 10) ((48 + n) ∷ []) (ds ++ ((48 + n % 10) ∷ []))) (digits_enough f (n / 10) (tenth n (10 ^ suc f) m))
 
--- a number below ten has one digit; another has those of its tenth, and one more
-pub one_digit_holds : (n : ℕ) → n < 10 → decimal n ≡ (48 + n) ∷ []
-unfolding decimal digits
-one_digit_holds n l = rw (lt-ltb n 10 l) refl
+-- what stands before the last digit: the digits of the tenth, where there are any
+pub leading : ℕ → List ℕ
+leading n = cond (ltb n 10) [] (decimal (n / 10))
 
-pub more_digits : (n : ℕ) → 10 ≤ n → n < 10 ^ 20 → decimal n ≡ decimal (n / 10) ++ ((48 + n % 10) ∷ [])
+one_digit : (n : ℕ) → n < 10 → decimal n ≡ (48 + n) ∷ []
+unfolding decimal digits
+one_digit n l = rw (lt-ltb n 10 l) refl
+
+more_digits : (n : ℕ) → 10 ≤ n → n < 10 ^ 20 → decimal n ≡ decimal (n / 10) ++ ((48 + n % 10) ∷ [])
 unfolding decimal digits
 more_digits n l m = rw (le-ltb n 10 l) (ap (λ ds. ds ++ ((48 + n % 10) ∷ [])) (digits_enough 18 (n / 10) (tenth n (10 ^ 19) m)))
 
--- ---- bytes one behind another
-
-pub wrote_byte : (s : List ℕ) (at b : ℕ) → at < length s → Wrote s at (b ∷ []) (set s at b) (at + 1)
-wrote_byte s at b l =
-    let z : at + 0 ≡ at = omega arith in
-    let w = written_next s at (b ∷ []) 0 (omega arith) (omega arith) in
-    record { end = refl; bytes = rw (← written_none s at (b ∷ []), z) at w }
-
-pub wrote_more : (s s₁ s₂ : List ℕ) (at i j : ℕ) (v w : List ℕ) → at ≤ length s → Wrote s at v s₁ i → Wrote s₁ i w s₂ j → Wrote s at (v ++ w) s₂ j
-wrote_more s s₁ s₂ at i j v w l x y =
-    let p = x.end in
-    let q = y.end in
-    record {
-      end = let n = length-append v w in omega arith;
-      bytes = y.bytes ∙ rw (x.bytes, x.end) (written_twice s v w at l);
-    }
-
-pub wrote_length : (s s₁ : List ℕ) (at i : ℕ) (v : List ℕ) → at + length v ≤ length s → Wrote s at v s₁ i → length s₁ ≡ length s
-wrote_length s s₁ at i v l x = ap length x.bytes ∙ written_length s at v (length v) l (omega arith)
-
--- ---- the digits of a number, written
-
-some_digits : (n : ℕ) → 1 ≤ length (decimal n)
-unfolding decimal digits
-some_digits n = go (ltb n 10) refl
+last_digit : (n : ℕ) → n < 10 ^ 20 → decimal n ≡ leading n ++ ((48 + n % 10) ∷ [])
+unfolding leading
+last_digit n m = go (ltb n 10) refl
   where
-    go : (b : Bool) → ltb n 10 ≡ b → 1 ≤ length (cond b ((48 + n) ∷ []) (digits 19 (n / 10) ++ ((48 + n % 10) ∷ [])))
-    go true e = omega arith
-    go false e = let l = length-append (digits 19 (n / 10)) ((48 + n % 10) ∷ []) in omega arith
+    go : (b : Bool) → ltb n 10 ≡ b → decimal n ≡ cond b [] (decimal (n / 10)) ++ ((48 + n % 10) ∷ [])
+    go true e = let l = ltb-true n 10 e in let s : n % 10 ≡ n = omega arith in rw s (one_digit n l)
+    go false e = more_digits n (ltb-false n 10 e) m
 
-module _ (s : List ℕ) (at n : ℕ) (room : at + length (decimal n) ≤ length s) where
-  pub one_fits : at < length s
-  one_fits = let l = some_digits n in omega arith
+module _ (p : Page) (n : ℕ) (word : Fits w64 n) (room : Room p (decimal n)) where
+  whole : Room p (leading n ++ ((48 + n % 10) ∷ []))
+  whole = rw (last_digit n (omega (arith, word))) at room
 
-  pub one_written : n < 10 → (s₁ : List ℕ) (r d : ℕ) → d ≡ 48 + n → Wrote s at (d ∷ []) s₁ r → Wrote s at (decimal n) s₁ r
-  one_written l s₁ r d e w = rw (one_digit_holds n l) (rw e at w)
+  pub tenth_room : 10 ≤ n → Room p (decimal (n / 10))
+  unfolding leading
+  tenth_room l = rw (le-ltb n 10 l) at (first_room p (leading n) _ whole)
 
-  module _ (more : 10 ≤ n) (word : Fits w64 n) where
-    tenth_length : length (decimal n) ≡ length (decimal (n / 10)) + 1
-    tenth_length = ap length (more_digits n more (omega (arith, word))) ∙ length-append (decimal (n / 10)) _
+  -- the digits of the tenth are written, where there are any
+  pub led : (q r : Page) → 10 ≤ n → Appended p (decimal (n / 10)) r → q ≡ r → Appended p (leading n) q
+  unfolding leading
+  led q r l x e = rw (le-ltb n 10 l, e) x
 
-    pub tenth_fits : at + length (decimal (n / 10)) ≤ length s
-    tenth_fits = let l = tenth_length in omega arith
+  pub not_led : (q : Page) → n < 10 → q ≡ p → Appended p (leading n) q
+  unfolding leading
+  not_led q l e = rw (lt-ltb n 10 l, e) (appended_none p)
 
-    module _ (s₁ : List ℕ) (i : ℕ) (w : Wrote s at (decimal (n / 10)) s₁ i) where
-      pub last_fits : i < length s₁
-      last_fits =
-          let l = tenth_length in
-          let m = wrote_length s s₁ at i (decimal (n / 10)) tenth_fits w in
-          let e = w.end in omega arith
+  module _ (q : Page) (x : Appended p (leading n) q) where
+    pub last_room : Room q ((48 + n % 10) ∷ [])
+    last_room = second_room p (leading n) _ whole q x
 
-      pub last_written : (s₂ : List ℕ) (r d : ℕ) → d ≡ 48 + n % 10 → Wrote s₁ i (d ∷ []) s₂ r → Wrote s at (decimal n) s₂ r
-      last_written s₂ r d e x =
-          rw (more_digits n more (omega (arith, word))) (wrote_more s s₁ s₂ at i r (decimal (n / 10)) _ (omega arith) w (rw e at x))
+    pub last_written : (r : Page) → Appended q ((48 + n % 10) ∷ []) r → Appended p (decimal n) r
+    last_written r y = rw (last_digit n (omega (arith, word))) (appended_both p (leading n) _ whole q x r y)

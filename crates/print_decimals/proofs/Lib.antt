@@ -1,3 +1,3 @@
+pub mod Pages
 pub mod Digits
 pub mod SignedNumbers
-pub mod TextPieces

@@ -1,7 +1,0 @@
--- Writing a byte meets its contract.
--- Assumes nothing.
-use Rattle.print_decimals.proofs.Digits.{wrote_byte}
-use Rattle.print_decimals.proofs.write_byte.Goals as goal
-
-pub returns : goal.returns
-returns c = search wrote_byte

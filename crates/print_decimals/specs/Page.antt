@@ -1,0 +1,14 @@
+-- A page: a lent slice, written from its front on.
+-- Assumes nothing.
+use Rattle.std.specs.Prelude.{ℕ, ◌+◌, ◌≡◌, ◌≤◌, List, length}
+use Rattle.print_decimals.specs.declared.Page.{Page}
+use Rattle.print_decimals.specs.Wrote.{Wrote}
+
+-- v fits behind what is written
+pub record Room (p : Page) (v : List ℕ) : Type 0 where
+  pub fits : p.end + length v ≤ length p.out.now
+
+-- v was written behind what stood on the page, and all else of its slice, which is the same, is as it was
+pub record Appended (p : Page) (v : List ℕ) (q : Page) : Type 0 where
+  pub same : q.out.ghost_name ≡ p.out.ghost_name
+  pub wrote : Wrote p.out.now p.end v q.out.now q.end
