@@ -1,124 +1,115 @@
--- A line written piece by piece.
+-- Lines written piece by piece.
 -- Assumes nothing.
-use Prim.Native.Nat.{ℕ, ◌+◌, ◌≤◌, ◌<◌}
-use native.Mathlib.Omega.{arith}
-use mathlib.Core.Path.{◌≡◌, refl, ap, ◌∙◌}
+use Prim.Native.Nat.{ℕ}
+use mathlib.Core.Path.{◌≡◌, sym, ap, ◌∙◌}
 use mathlib.Core.List.{List, [], ◌∷◌, ◌++◌, append_assoc, append-nil, flatten}
-use lib.ListN.{length, length-append}
+use lib.IntN.{ℤ}
+use mir.Syntax.{w16}
+use mir.Val.{SFits, to_z, of_z}
+use mir.ValLaws.{to_z-of_z}
 use Rattle.semantics.specs.Definitions.Run.{net}
 use Rattle.semantics.specs.Definitions.Report.{decimal, signed, line, channel_line}
-use Rattle.print_decimals.specs.Wrote.{Wrote}
-use Rattle.print_decimals.proofs.TextPieces.{TextBegun, piece_fits, piece_more, second_fits, both_written}
-use Rattle.print_lines.specs.Lines.{words_of, number_line, net_word, channel_head}
+use Rattle.print_decimals.specs.declared.Page.{Page}
+use Rattle.print_decimals.specs.Page.{Room, Appended}
+use Rattle.print_decimals.proofs.Pages.{first_room, second_room, appended_both}
+use Rattle.print_lines.specs.Lines.{words_of, number_line, net_word}
 
 -- ---- a line of numbers: its letter, its words, its end
 
-module _ (s : List ℕ) (at letter : ℕ) (ns : List ℕ) (count : ℕ) (room : at + length (number_line letter ns count) ≤ length s) where
-  pub letter_fits : at < length s
-  unfolding number_line
-  letter_fits = omega arith
+module _ (p : Page) (letter : ℕ) (ns : List ℕ) (room : Room p (number_line letter ns)) where
+  parts : Room p ((letter ∷ []) ++ (words_of ns ++ (10 ∷ [])))
+  unfolding number_line line words_of
+  parts = room
 
-  module _ (s₁ : List ℕ) (i : ℕ) (a : Wrote s at (letter ∷ []) s₁ i) where
-    lettered : TextBegun s at (letter ∷ []) (words_of ns count ++ (10 ∷ [])) s₁ i
-    unfolding number_line
-    lettered = record { room = room; wrote = a }
+  pub letter_fits : Room p (letter ∷ [])
+  letter_fits = first_room p (letter ∷ []) _ parts
 
-    pub words_fit : i + length (words_of ns count) ≤ length s₁
-    words_fit = piece_fits s at (letter ∷ []) (words_of ns count) (10 ∷ []) s₁ i lettered
+  module _ (q : Page) (x : Appended p (letter ∷ []) q) where
+    rest : Room q (words_of ns ++ (10 ∷ []))
+    rest = second_room p (letter ∷ []) _ parts q x
 
-    module _ (s₂ : List ℕ) (j : ℕ) (b : Wrote s₁ i (words_of ns count) s₂ j) where
-      worded : TextBegun s at ((letter ∷ []) ++ words_of ns count) (10 ∷ []) s₂ j
-      worded = piece_more s at (letter ∷ []) (words_of ns count) (10 ∷ []) s₁ i lettered s₂ j b
+    pub words_fit : Room q (words_of ns)
+    words_fit = first_room q (words_of ns) _ rest
 
-      pub newline_fits : j < length s₂
-      newline_fits = let l = piece_fits s at _ (10 ∷ []) [] s₂ j worded in omega arith
+    module _ (r : Page) (y : Appended q (words_of ns) r) where
+      pub newline_fits : Room r (10 ∷ [])
+      newline_fits = second_room q (words_of ns) _ rest r y
 
-      pub line_written : (s₃ : List ℕ) (k : ℕ) → Wrote s₂ j (10 ∷ []) s₃ k → Wrote s at (number_line letter ns count) s₃ k
-      unfolding number_line
-      line_written s₃ k c = (piece_more s at _ (10 ∷ []) [] s₂ j worded s₃ k c).wrote
+      pub line_written : (s : Page) → Appended r (10 ∷ []) s → Appended p (number_line letter ns) s
+      unfolding number_line line words_of
+      line_written s z = appended_both p (letter ∷ []) _ parts q x s (appended_both q (words_of ns) _ rest r y s z)
 
--- ---- the parts of a channel's line: its net, its head
+-- ---- a net behind a space
 
-module _ (s : List ℕ) (at f l : ℕ) (room : at + length (net_word f l) ≤ length s) where
-  pub net_word_space_fits : at < length s
+module _ (p : Page) (f l : ℕ) (room : Room p (net_word f l)) where
+  spaced : Room p ((32 ∷ []) ++ signed (net f l))
   unfolding net_word
-  net_word_space_fits = omega arith
+  spaced = room
 
-  module _ (s₁ : List ℕ) (i : ℕ) where
-    -- one byte stands before it, whichever it is
-    pub net_word_net_fits : (b : ℕ) → Wrote s at (b ∷ []) s₁ i → i + length (signed (net f l)) ≤ length s₁
+  pub space_fits : Room p (32 ∷ [])
+  space_fits = first_room p (32 ∷ []) _ spaced
+
+  -- the net is passed on as the number z
+  module _ (q : Page) (x : Appended p (32 ∷ []) q) (z : ℤ) (g : SFits w16 z) (e : z ≡ net f l) where
+    pub net_fits : Room q (signed (to_z w16 (of_z w16 z)))
+    net_fits = rw (to_z-of_z w16 z g, e) (second_room p (32 ∷ []) _ spaced q x)
+
+    pub net_written : (r : Page) → Appended q (signed (to_z w16 (of_z w16 z))) r → Appended p (net_word f l) r
     unfolding net_word
-    net_word_net_fits b a = second_fits s at (b ∷ []) (signed (net f l)) s₁ i room a
+    net_written r y = appended_both p (32 ∷ []) _ spaced q x r (rw (to_z-of_z w16 z g, e) at y)
 
-    pub net_word_written : Wrote s at (32 ∷ []) s₁ i → (s₂ : List ℕ) (r : ℕ) → Wrote s₁ i (signed (net f l)) s₂ r →
-        Wrote s at (net_word f l) s₂ r
-    unfolding net_word
-    net_word_written a s₂ r b = both_written s at (32 ∷ []) (signed (net f l)) s₁ i room a s₂ r b
+-- ---- the line of a channel: its letter, two numbers, the net, one number more, its end
 
-module _ (s : List ℕ) (at n f : ℕ) (room : at + length (channel_head n f) ≤ length s) where
-  pub head_letter_fits : at < length s
-  unfolding channel_head
-  head_letter_fits = omega arith
-
-  module _ (s₁ : List ℕ) (i : ℕ) (a : Wrote s at (84 ∷ []) s₁ i) (x : ℕ) (e : x ≡ f) where
-    pub head_counts_fit : i + length (words_of (n ∷ x ∷ 0 ∷ []) 2) ≤ length s₁
-    unfolding channel_head
-    head_counts_fit = rw e (second_fits s at (84 ∷ []) (words_of (n ∷ f ∷ 0 ∷ []) 2) s₁ i room a)
-
-    pub head_written : (s₂ : List ℕ) (r : ℕ) → Wrote s₁ i (words_of (n ∷ x ∷ 0 ∷ []) 2) s₂ r → Wrote s at (channel_head n f) s₂ r
-    unfolding channel_head
-    head_written s₂ r b = both_written s at (84 ∷ []) (words_of (n ∷ f ∷ 0 ∷ []) 2) s₁ i room a s₂ r (rw e at b)
-
--- ---- the line of a channel: its head, the net, and one number more
-
-four_words : (x a b c d : List ℕ) → x ≡ (32 ∷ a) ++ (32 ∷ b) →
-    line 84 (a ∷ b ∷ c ∷ d ∷ []) ≡ (84 ∷ x) ++ ((32 ∷ c) ++ ((32 ∷ d) ++ (10 ∷ [])))
+four_words : (x a b c d y : List ℕ) → x ≡ (32 ∷ a) ++ (32 ∷ b) → y ≡ 32 ∷ d →
+    line 84 (a ∷ b ∷ c ∷ d ∷ []) ≡ (84 ∷ x) ++ ((32 ∷ c) ++ (y ++ (10 ∷ [])))
 unfolding line flatten
-four_words x a b c d e =
+four_words x a b c d y e g =
     let last = append_assoc c (32 ∷ d) (10 ∷ []) in
-    let third = append_assoc b (32 ∷ (c ++ (32 ∷ d))) (10 ∷ []) ∙ ap (λ y. b ++ (32 ∷ y)) last in
-    let second = append_assoc a (32 ∷ (b ++ (32 ∷ (c ++ (32 ∷ d))))) (10 ∷ []) ∙ ap (λ y. a ++ (32 ∷ y)) third in
-    rw e (simp (append_assoc, append-nil) (ap (λ y. 84 ∷ 32 ∷ y) second))
+    let third = append_assoc b (32 ∷ (c ++ (32 ∷ d))) (10 ∷ []) ∙ ap (λ w. b ++ (32 ∷ w)) last in
+    let second = append_assoc a (32 ∷ (b ++ (32 ∷ (c ++ (32 ∷ d))))) (10 ∷ []) ∙ ap (λ w. a ++ (32 ∷ w)) third in
+    rw (e, g, append-nil d) (ap (λ w. 84 ∷ 32 ∷ w) (second ∙ sym (append_assoc a (32 ∷ b) _)))
 
-module _ (n f l : ℕ) where
-  final : List ℕ
-  final = words_of (l ∷ 0 ∷ 0 ∷ []) 1
+module _ (p : Page) (n f l : ℕ) where
+  pieces : channel_line n f l ≡ (84 ∷ []) ++ (words_of (n ∷ f ∷ []) ++ (net_word f l ++ (words_of (l ∷ []) ++ (10 ∷ []))))
+  unfolding channel_line line words_of net_word flatten
+  pieces =
+      four_words _ (decimal n) (decimal f) (signed (net f l)) (decimal l) _ (ap (λ w. (32 ∷ decimal n) ++ w) (append-nil (32 ∷ decimal f))) (append-nil (32 ∷ decimal l))
 
-  channel_pieces : channel_line n f l ≡ channel_head n f ++ (net_word f l ++ (final ++ (10 ∷ [])))
-  unfolding channel_line channel_head net_word words_of final
-  channel_pieces = four_words _ (decimal n) (decimal f) (signed (net f l)) (decimal l) refl
+  module _ (room : Room p (channel_line n f l)) where
+    all : Room p ((84 ∷ []) ++ (words_of (n ∷ f ∷ []) ++ (net_word f l ++ (words_of (l ∷ []) ++ (10 ∷ [])))))
+    all = rw pieces at room
 
-  module _ (s : List ℕ) (at : ℕ) (room : at + length (channel_line n f l) ≤ length s) where
-    whole : at + length (channel_head n f ++ (net_word f l ++ (final ++ (10 ∷ [])))) ≤ length s
-    whole = rw channel_pieces at room
+    pub channel_letter_fits : Room p (84 ∷ [])
+    channel_letter_fits = first_room p (84 ∷ []) _ all
 
-    pub head_fits : at + length (channel_head n f) ≤ length s
-    head_fits = let a = length-append (channel_head n f) (net_word f l ++ (final ++ (10 ∷ []))) in let w = whole in omega arith
+    -- the counts are passed on as the numbers a and b
+    module _ (q : Page) (x : Appended p (84 ∷ []) q) (a : ℕ) (d : a ≡ f) where
+      behind_letter : Room q (words_of (n ∷ f ∷ []) ++ (net_word f l ++ (words_of (l ∷ []) ++ (10 ∷ []))))
+      behind_letter = second_room p (84 ∷ []) _ all q x
 
-    module _ (s₁ : List ℕ) (i : ℕ) (a : Wrote s at (channel_head n f) s₁ i) where
-      headed : TextBegun s at (channel_head n f) (net_word f l ++ (final ++ (10 ∷ []))) s₁ i
-      headed = record { room = whole; wrote = a }
+      pub head_fits : Room q (words_of (n ∷ a ∷ []))
+      head_fits = rw d (first_room q (words_of (n ∷ f ∷ [])) _ behind_letter)
 
-      pub net_word_fits : i + length (net_word f l) ≤ length s₁
-      net_word_fits = piece_fits s at (channel_head n f) (net_word f l) _ s₁ i headed
+      module _ (r : Page) (y : Appended q (words_of (n ∷ a ∷ [])) r) where
+        behind_head : Room r (net_word f l ++ (words_of (l ∷ []) ++ (10 ∷ [])))
+        behind_head = second_room q (words_of (n ∷ f ∷ [])) _ behind_letter r (rw d at y)
 
-      module _ (s₂ : List ℕ) (j : ℕ) (b : Wrote s₁ i (net_word f l) s₂ j) (y : ℕ) (g : y ≡ l) where
-        netted : TextBegun s at (channel_head n f ++ net_word f l) (final ++ (10 ∷ [])) s₂ j
-        netted = piece_more s at (channel_head n f) (net_word f l) _ s₁ i headed s₂ j b
+        pub net_word_fits : Room r (net_word f l)
+        net_word_fits = first_room r (net_word f l) _ behind_head
 
-        pub final_fits : j + length (words_of (y ∷ 0 ∷ 0 ∷ []) 1) ≤ length s₂
-        unfolding final
-        final_fits = rw g (piece_fits s at _ final (10 ∷ []) s₂ j netted)
+        module _ (s : Page) (z : Appended r (net_word f l) s) (b : ℕ) (e : b ≡ l) where
+          behind_net : Room s (words_of (l ∷ []) ++ (10 ∷ []))
+          behind_net = second_room r (net_word f l) _ behind_head s z
 
-        module _ (s₃ : List ℕ) (k : ℕ) (c : Wrote s₂ j (words_of (y ∷ 0 ∷ 0 ∷ []) 1) s₃ k) where
-          full : TextBegun s at ((channel_head n f ++ net_word f l) ++ final) (10 ∷ []) s₃ k
-          unfolding final
-          full = piece_more s at _ final (10 ∷ []) s₂ j netted s₃ k (rw g at c)
+          pub last_fits : Room s (words_of (b ∷ []))
+          last_fits = rw e (first_room s (words_of (l ∷ [])) _ behind_net)
 
-          pub channel_end_fits : k < length s₃
-          channel_end_fits = let w = piece_fits s at _ (10 ∷ []) [] s₃ k full in omega arith
+          module _ (t : Page) (u : Appended s (words_of (b ∷ [])) t) where
+            pub channel_end_fits : Room t (10 ∷ [])
+            channel_end_fits = second_room s (words_of (l ∷ [])) _ behind_net t (rw e at u)
 
-          pub channel_written : (s₄ : List ℕ) (r : ℕ) → Wrote s₃ k (10 ∷ []) s₄ r → Wrote s at (channel_line n f l) s₄ r
-          channel_written s₄ r w =
-              let v = (piece_more s at _ (10 ∷ []) [] s₃ k full s₄ r w).wrote in
-              rw channel_pieces (simp append_assoc at v)
+            pub channel_written : (v : Page) → Appended t (10 ∷ []) v → Appended p (channel_line n f l) v
+            channel_written v w =
+                let last = appended_both s (words_of (l ∷ [])) _ behind_net t (rw e at u) v w in
+                let more = appended_both r (net_word f l) _ behind_head s z v last in
+                rw pieces (appended_both p (84 ∷ []) _ all q x v (appended_both q (words_of (n ∷ f ∷ [])) _ behind_letter r (rw d at y) v more))

@@ -1,93 +1,71 @@
--- Numbers written one behind another, and lines of them.
+-- Numbers written one behind another.
 -- Assumes nothing.
-use Prim.Native.Nat.{ℕ, zero, suc, ◌+◌, ◌-◌, ◌≤◌, ◌<◌}
+use Prim.Native.Nat.{ℕ, zero, suc, ◌+◌, ◌≤◌, ◌<◌}
 use native.Mathlib.Omega.{arith}
 use native.Mathlib.Numerals.{add-one}
-use mathlib.Core.Path.{◌≡◌, refl, ap}
-use mathlib.Core.List.{List, [], ◌∷◌, ◌++◌}
-use lib.ListN.{length, get_or, length-append}
+use mathlib.Core.Path.{◌≡◌, refl, sym, ap, ◌∙◌}
+use mathlib.Core.List.{List, [], ◌∷◌, ◌++◌, flatten, append_assoc, append-nil}
+use lib.ListN.{length, get_or, take, drop}
+use lib.Seq.{take-length}
 use Rattle.semantics.specs.Definitions.Report.{decimal}
-use Rattle.buffer.proofs.Written.{written_none}
-use Rattle.print_decimals.specs.Wrote.{Wrote}
-use Rattle.print_decimals.proofs.Digits.{wrote_more, wrote_length}
+use Rattle.print_decimals.specs.declared.Page.{Page}
+use Rattle.print_decimals.specs.Page.{Room, Appended}
+use Rattle.print_decimals.proofs.Pages.{appended_none, first_room, second_room, appended_both}
 use Rattle.print_lines.specs.Lines.{words_of}
 
--- ---- words
+word_next : (ns : List ℕ) (i : ℕ) → i < length ns → words_of (take (suc i) ns) ≡ words_of (take i ns) ++ (32 ∷ decimal (get_or ns i 0))
+unfolding words_of flatten
+word_next [] i l = absurd (omega arith)
+word_next (n ∷ ns) zero l = append-nil (32 ∷ decimal n)
+word_next (n ∷ ns) (suc i) l =
+    ap (λ ws. (32 ∷ decimal n) ++ ws) (word_next ns i (omega arith)) ∙ sym (append_assoc (32 ∷ decimal n) (words_of (take i ns)) (32 ∷ decimal (get_or ns i 0)))
 
-word_next : (ns : List ℕ) (i : ℕ) → words_of ns (i + 1) ≡ words_of ns i ++ (32 ∷ decimal (get_or ns i 0))
-unfolding words_of
-word_next ns i = rw (add-one i) refl
+words_whole : (ns : List ℕ) (i : ℕ) → words_of ns ≡ words_of (take i ns) ++ words_of (drop i ns)
+unfolding words_of flatten
+words_whole ns zero = refl
+words_whole [] (suc i) = refl
+words_whole (n ∷ ns) (suc i) =
+    ap (λ ws. (32 ∷ decimal n) ++ ws) (words_whole ns i) ∙ sym (append_assoc (32 ∷ decimal n) (words_of (take i ns)) (words_of (drop i ns)))
 
-words_longer : (ns : List ℕ) (i : ℕ) → length (words_of ns (i + 1)) ≡ length (words_of ns i) + 1 + length (decimal (get_or ns i 0))
-words_longer ns i =
-    let e = ap length (word_next ns i) in
-    let l = length-append (words_of ns i) (32 ∷ decimal (get_or ns i 0)) in omega arith
+-- some of them written, and there is room for all
+pub record WordsWritten (p : Page) (ns : List ℕ) (q : Page) (i : ℕ) : Type 0 where
+  pub room : Room p (words_of ns)
+  pub wrote : Appended p (words_of (take i ns)) q
 
--- the first words are no longer than more of them
-words_part : (ns : List ℕ) (i k : ℕ) → length (words_of ns i) ≤ length (words_of ns (i + k))
-words_part ns i zero = let e : i + 0 ≡ i = omega arith in rw e (omega arith)
-words_part ns i (suc k) =
-    let l = words_part ns i k in
-    let m = words_longer ns (i + k) in
-    let e : i + suc k ≡ i + k + 1 = omega arith in rw e (omega arith)
+module _ (p : Page) (ns : List ℕ) where
+  pub none_yet : Room p (words_of ns) → WordsWritten p ns p 0
+  unfolding words_of flatten
+  none_yet r = record { room = r; wrote = appended_none p }
 
--- some of them written, of a list's first so many
-pub record WordsWritten (s₀ : List ℕ) (at : ℕ) (ns : List ℕ) (count : ℕ) (s : List ℕ) (end i : ℕ) : Type 0 where
-  pub inside : i ≤ count
-  pub few : count ≤ 3
-  pub room : at + length (words_of ns count) ≤ length s₀
-  pub wrote : Wrote s₀ at (words_of ns i) s end
+  module _ (q : Page) (i : ℕ) (x : WordsWritten p ns q i) (more : i < length ns) where
+    word : List ℕ
+    word = 32 ∷ decimal (get_or ns i 0)
 
-module _ (s₀ : List ℕ) (at : ℕ) (ns : List ℕ) (count : ℕ) where
-  pub none_yet : count ≤ 3 → at + length (words_of ns count) ≤ length s₀ → WordsWritten s₀ at ns count s₀ at 0
-  unfolding words_of
-  none_yet f r = record { inside = omega arith; few = f; room = r; wrote = record { end = omega arith; bytes = written_none s₀ at [] } }
+    next_fits : Room p (words_of (take i ns) ++ word)
+    unfolding word
+    next_fits =
+        let r = rw (words_whole ns (suc i), word_next ns i more) at x.room in
+        first_room p _ (words_of (drop (suc i) ns)) r
 
-  module _ (s : List ℕ) (end i : ℕ) (x : WordsWritten s₀ at ns count s end i) (more : i < count) where
-    word_room : at + length (words_of ns i) + 1 + length (decimal (get_or ns i 0)) ≤ length s₀
-    word_room =
-        let k = words_longer ns i in
-        let e : i + 1 + (count - (i + 1)) ≡ count = omega arith in
-        let p = rw e at (words_part ns (i + 1) (count - (i + 1))) in
-        let r = x.room in omega arith
+    word_fits : Room q word
+    word_fits = second_room p (words_of (take i ns)) word next_fits q x.wrote
 
-    as_long : length s ≡ length s₀
-    as_long = let r = word_room in wrote_length s₀ s at end (words_of ns i) (omega arith) x.wrote
+    pub space_fits : Room q (32 ∷ [])
+    unfolding word
+    space_fits = first_room q (32 ∷ []) (decimal (get_or ns i 0)) word_fits
 
-    pub space_fits : end < length s
-    space_fits = let r = word_room in let l = as_long in let e = x.wrote.end in omega arith
+    module _ (r : Page) (w : Appended q (32 ∷ []) r) where
+      pub number_fits : Room r (decimal (get_or ns i 0))
+      unfolding word
+      number_fits = second_room q (32 ∷ []) (decimal (get_or ns i 0)) word_fits r w
 
-    pub index_fits : i < 3
-    index_fits = let f = x.few in omega arith
+      pub one_more : (s : Page) → Appended r (decimal (get_or ns i 0)) s → WordsWritten p ns s (i + 1)
+      unfolding word
+      one_more s y = record {
+        room = x.room;
+        wrote = rw (add-one i, word_next ns i more)
+            (appended_both p (words_of (take i ns)) word next_fits q x.wrote s (appended_both q (32 ∷ []) _ word_fits r w s y));
+      }
 
-    module _ (s₁ : List ℕ) (j : ℕ) (w : Wrote s end (32 ∷ []) s₁ j) where
-      pub digits_fit : j + length (decimal (get_or ns i 0)) ≤ length s₁
-      digits_fit =
-          let r = word_room in
-          let l = as_long in
-          let e = x.wrote.end in
-          let f = w.end in
-          let m = wrote_length s s₁ end j (32 ∷ []) (omega arith) w in omega arith
-
-      pub one_more : (s₂ : List ℕ) (k : ℕ) → Wrote s₁ j (decimal (get_or ns i 0)) s₂ k → WordsWritten s₀ at ns count s₂ k (i + 1)
-      one_more s₂ k y =
-          let r = word_room in
-          let e = x.wrote.end in
-          let l = as_long in
-          let word = wrote_more s s₁ s₂ end j k (32 ∷ []) (decimal (get_or ns i 0)) (omega arith) w y in
-          record {
-            inside = omega arith;
-            few = x.few;
-            room = x.room;
-            wrote = rw (word_next ns i) (wrote_more s₀ s s₂ at end k (words_of ns i) _ (omega arith) x.wrote word);
-          }
-
-  pub all_written : (s : List ℕ) (end i : ℕ) → WordsWritten s₀ at ns count s end i → count ≤ i → Wrote s₀ at (words_of ns count) s end
-  all_written s end i x l = let e : i ≡ count = let m = x.inside in omega arith in rw e at x.wrote
-
-  pub same_long : (s : List ℕ) (end i : ℕ) → WordsWritten s₀ at ns count s end i → length s ≡ length s₀
-  same_long s end i x =
-      let m = x.inside in
-      let e : i + (count - i) ≡ count = omega arith in
-      let p = rw e at (words_part ns i (count - i)) in
-      let r = x.room in wrote_length s₀ s at end (words_of ns i) (omega arith) x.wrote
+  pub all_written : (q : Page) (i : ℕ) → WordsWritten p ns q i → length ns ≤ i → i ≤ length ns → Appended p (words_of ns) q
+  all_written q i x l m = let e : i ≡ length ns = omega arith in let w = x.wrote in rw (e, take-length ns) at w

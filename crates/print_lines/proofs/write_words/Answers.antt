@@ -1,16 +1,20 @@
 -- Writing words meets its contract.
 -- Assumes nothing.
-use Rattle.print_lines.proofs.NumberWords.{none_yet, space_fits, digits_fit, one_more}
+use Rattle.std.proofs.Common.{rules}
+use Rattle.print_lines.proofs.NumberWords.{none_yet, space_fits, number_fits, one_more, all_written}
 use Rattle.print_lines.proofs.write_words.Goals as goal
 
-pub loop-i-init : goal.loop-i-init
-loop-i-init c = search none_yet
+pub loop-word-init : goal.loop-word-init
+loop-word-init c = search none_yet
 
-pub write_byte-digits-requires : goal.write_byte-digits-requires
-write_byte-digits-requires c = search space_fits
+pub byte-requires : goal.byte-requires
+byte-requires c = search (space_fits, rules)
 
-pub write_decimal-end-requires : goal.write_decimal-end-requires
-write_decimal-end-requires c = search digits_fit
+pub decimal-requires : goal.decimal-requires
+decimal-requires c = search (number_fits, rules)
 
-pub loop-i-preserved : goal.loop-i-preserved
-loop-i-preserved c = search one_more
+pub loop-word-preserved : goal.loop-word-preserved
+loop-word-preserved c = search (one_more, rules)
+
+pub returns : goal.returns
+returns c = search all_written
