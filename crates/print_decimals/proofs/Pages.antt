@@ -11,7 +11,7 @@ use Rattle.buffer.specs.Splice.{written}
 use Rattle.buffer.proofs.Written.{written_none, written_next, written_length, written_twice}
 use Rattle.print_decimals.specs.declared.Page.{Page}
 use Rattle.print_decimals.specs.Wrote.{Wrote}
-use Rattle.print_decimals.specs.Page.{Room, Appended}
+use Rattle.print_decimals.specs.Page.{Begun, HasRoom, Room, Appended, Printed}
 
 -- ---- on a slice
 
@@ -59,3 +59,39 @@ module _ (p : Page) (v w : List ℕ) (room : Room p (v ++ w)) where
       same = y.same ∙ x.same;
       wrote = wrote_more p.out.now q.out.now r.out.now p.end q.end r.end v w (let f = room.fits in omega arith) x.wrote y.wrote;
     }
+
+-- ---- texts of bounded length
+
+pub room_for : (n : ℕ) (p : Page) (v : List ℕ) → HasRoom n p → length v ≤ n → Room p v
+room_for n p v r l = let f = r.fits in record { fits = omega arith }
+
+pub printed_none : (m : ℕ) (p : Page) → Printed m p [] p
+printed_none m p = record { wrote = appended_none p; short = omega arith }
+
+module _ (m k : ℕ) (p : Page) (v : List ℕ) (q : Page) (room : HasRoom (m + k) p) (x : Printed m p v q) where
+  pub printed_room : HasRoom k q
+  printed_room =
+      let f = room.fits in
+      let s = x.short in
+      let e = x.wrote.wrote.end in
+      let l = wrote_length p.out.now q.out.now p.end q.end v (omega arith) x.wrote.wrote in record { fits = omega arith }
+
+  pub printed_more : (w : List ℕ) (r : Page) → Printed k q w r → Printed (m + k) p (v ++ w) r
+  printed_more w r y =
+      let a = length-append v w in
+      let s = x.short in
+      let t = y.short in
+      record {
+        wrote = appended_both p v w (room_for (m + k) p (v ++ w) room (omega arith)) q x.wrote r y.wrote;
+        short = omega arith;
+      }
+
+-- ---- a page from its beginning on
+
+module _ (name : ℕ) (s : List ℕ) (p : Page) (x : Begun name s p) where
+  pub begun_room : (n : ℕ) → n ≤ length s → HasRoom n p
+  begun_room n l = let e = x.empty in let h = ap length x.holds in record { fits = omega arith }
+
+  -- what the slice has afterwards
+  pub page_written : (v : List ℕ) (q : Page) → Appended p v q → Wrote s 0 v q.out.now q.end
+  page_written v q y = rw (← x.holds, ← x.empty) y.wrote

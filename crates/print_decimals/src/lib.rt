@@ -4,7 +4,7 @@
 ghost use Rattle.std.specs.Prelude.{◌≡◌, [], ◌∷◌};
 ghost use Rattle.semantics.specs.Definitions.Run.{net};
 ghost use Rattle.semantics.specs.Definitions.Report.{decimal, signed};
-ghost use Rattle.print_decimals.specs.Page.{Appended, Room};
+ghost use Rattle.print_decimals.specs.Page.{Begun, Room, Appended};
 
 // A lent slice that is written from its front on, and where the next byte goes.
 #[derive(Drop)]
@@ -15,7 +15,7 @@ pub struct Page<'a> {
 
 impl<'a> Page<'a> {
     pub fn new(out: &'a mut [u8]) -> Page<'a>
-        ensures { (result.out.ghost_name ≡ out.entry.ghost_name) × (result.out.now ≡ out.old) × (result.end ≡ 0) }
+        ensures { Begun out.entry.ghost_name out.old result }
     {
         Page { out, end: 0 }
     }
