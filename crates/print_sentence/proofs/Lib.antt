@@ -1,3 +1,3 @@
-pub mod Phrases
+pub mod Lengths
 pub mod SentenceParts
 pub mod SentenceCalls

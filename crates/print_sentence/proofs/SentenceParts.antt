@@ -1,168 +1,160 @@
--- A text written, with a number behind it; and a sentence written part by part.
+-- A sentence written part by part.
 -- Assumes nothing.
 use Prim.Native.Nat.{ℕ, ◌+◌, ◌≤◌}
-use Prim.Native.String.{String}
 use native.Mathlib.Omega.{arith}
-use mathlib.Core.Path.{◌≡◌, refl, sym, ap, ◌∙◌}
-use mathlib.Core.Bool.{Bool, true, false}
-use mathlib.Core.List.{List, [], ◌++◌, append-nil}
+use mathlib.Core.Path.{◌≡◌}
+use mathlib.Core.List.{List, ◌++◌}
 use lib.ListN.{length}
-use lib.Seq.{paste-zero}
 use borrow.Author.Tests.{eq-eqb, ne_eqb}
-use Rattle.semantics.specs.Definitions.Shortage.{Shortage, enough}
-use Rattle.semantics.specs.Definitions.Moves.{Reply, moved_by, refused_by}
+use mir.Syntax.{w8}
+use mir.Val.{Fits}
+use Rattle.std.specs.Prelude.{Option, Some, None, Result, Ok, Err}
+use Rattle.semantics.specs.Definitions.Shortage.{short}
+use Rattle.semantics.specs.Definitions.Moves.{refused_by}
 use Rattle.semantics.specs.Definitions.Report.{decimal}
-use Rattle.semantics.specs.Definitions.Sentence.{ascii, rule_words, refusal_words, words_for, named, node_named, choice_named, short_named, reply_named, sentence}
-use Rattle.buffer.specs.Splice.{written}
-use Rattle.print_decimals.specs.Wrote.{Wrote}
-use Rattle.print_decimals.proofs.TextPieces.{first_fits, second_fits, both_written, Three, first_of_three_fits, second_of_three_fits, third_fits, three_written, third_empty}
-use Rattle.answers.specs.Answers.{shortage_from, reply_in}
-use Rattle.print_sentence.specs.Words.{phrase}
+use Rattle.semantics.specs.Definitions.Sentence.{rule_words, refusal_words, words_for, named, node_named, choice_named, short_named, reply_named}
+use Rattle.answers.specs.declared.replies.Short.{Short}
+use Rattle.answers.specs.Answers.{shortage_of}
+use Rattle.print_decimals.specs.declared.Page.{Page}
+use Rattle.print_decimals.specs.Page.{HasRoom, Room, Appended, Printed}
+use Rattle.print_decimals.proofs.Pages.{appended_none, first_room, second_room, appended_both, room_for, printed_none, printed_room, printed_more}
+use Rattle.print_sentence.specs.declared.Moved.{Moved}
+use Rattle.print_sentence.specs.Told.{choice_most, short_most, reply_most, reply_told}
+use Rattle.print_sentence.proofs.Lengths.{choice_short, short_short, rule_short, refusal_short}
 
 -- ---- a text and a number behind it
 
-module _ (s : List ℕ) (at : ℕ) (text : List ℕ) (n : ℕ) (room : at + length (text ++ decimal n) ≤ length s) where
-  pub text_fits : at + length text ≤ length s
-  text_fits = first_fits (length s) at text (decimal n) room
+module _ (p : Page) (text : List ℕ) (n : ℕ) (room : Room p (text ++ decimal n)) (q : Page) (x : Appended p text q) (w : ℕ) (e : w ≡ n) where
+  pub number_fits : Room q (decimal w)
+  number_fits = rw e (second_room p text (decimal n) room q x)
 
-  module _ (s₁ : List ℕ) (i : ℕ) (a : Wrote s at text s₁ i) (w : ℕ) (e : w ≡ n) where
-    pub digits_fit : i + length (decimal w) ≤ length s₁
-    digits_fit = rw e (second_fits s at text (decimal n) s₁ i room a)
-
-    pub named_written : (s₂ : List ℕ) (r : ℕ) → Wrote s₁ i (decimal w) s₂ r → Wrote s at (text ++ decimal n) s₂ r
-    named_written s₂ r b = both_written s at text (decimal n) s₁ i room a s₂ r (rw e at b)
+  pub named_written : (r : Page) → Appended q (decimal w) r → Appended p (text ++ decimal n) r
+  named_written r y = appended_both p text (decimal n) room q x r (rw e at y)
 
 -- ---- a choice
 
-module _ (s : List ℕ) (k p n : ℕ) (room : length (choice_named k p n) ≤ length s) where
-  in_order_holds : choice_named k p n ≡ named "Kind " k ++ (named " at station " p ++ node_named k n)
+module _ (p : Page) (k i n : ℕ) (room : HasRoom choice_most p) (fk : Fits w8 k) (fi : Fits w8 i) (fn : Fits w8 n) where
+  short_enough : length (choice_named k i n) ≤ choice_most
+  short_enough = choice_short k i n (omega (arith, fk.fits)) (omega (arith, fi.fits)) (omega (arith, fn.fits))
+
+  all : Room p (named "Kind " k ++ (named " at station " i ++ node_named k n))
   unfolding choice_named
-  in_order_holds = refl
+  all = room_for choice_most p (choice_named k i n) room short_enough
 
-  parts : Three s 0 (choice_named k p n) (named "Kind " k) (named " at station " p) (node_named k n)
-  parts = record { parts = in_order_holds; room = omega arith }
+  pub kind_fits : Room p (named "Kind " k)
+  kind_fits = first_room p (named "Kind " k) _ all
 
-  pub kind_fits : 0 + length (named "Kind " k) ≤ length s
-  kind_fits = first_of_three_fits s 0 _ _ _ _ parts
+  module _ (q : Page) (x : Appended p (named "Kind " k) q) where
+    behind_kind : Room q (named " at station " i ++ node_named k n)
+    behind_kind = second_room p (named "Kind " k) _ all q x
 
-  module _ (s₁ : List ℕ) (i : ℕ) (a : Wrote s 0 (named "Kind " k) s₁ i) where
-    pub station_fits : i + length (named " at station " p) ≤ length s₁
-    station_fits = second_of_three_fits s 0 _ _ _ _ parts s₁ i a
+    pub station_fits : Room q (named " at station " i)
+    station_fits = first_room q (named " at station " i) _ behind_kind
 
-    module _ (s₂ : List ℕ) (j : ℕ) (b : Wrote s₁ i (named " at station " p) s₂ j) where
-      no_node : k ≡ 1 → node_named k n ≡ []
+    module _ (r : Page) (y : Appended q (named " at station " i) r) where
+      chosen : (s : Page) → Appended r (node_named k n) s → Printed choice_most p (choice_named k i n) s
+      unfolding choice_named
+      chosen s z = record {
+        wrote = appended_both p (named "Kind " k) _ all q x s (appended_both q (named " at station " i) _ behind_kind r y s z);
+        short = short_enough;
+      }
+
+      pub without_node : k ≡ 1 → Printed choice_most p (choice_named k i n) r
       unfolding node_named
-      no_node e = rw (eq-eqb k 1 e)
-
-      pub without_node : k ≡ 1 → Wrote s 0 (choice_named k p n) s₂ j
-      without_node e = third_empty s 0 _ _ _ _ parts s₁ i a s₂ j b (no_node e)
+      without_node e = chosen r (rw (eq-eqb k 1 e) (appended_none r))
 
       module _ (other : ¬ (k ≡ 1)) where
         node_there : node_named k n ≡ named ", node " n
         unfolding node_named
         node_there = rw (ne_eqb k 1 other)
 
-        pub node_fits : j + length (named ", node " n) ≤ length s₂
-        node_fits = rw node_there at (third_fits s 0 _ _ _ _ parts s₁ i a s₂ j b)
+        pub node_fits : Room r (named ", node " n)
+        node_fits = rw node_there at (second_room q (named " at station " i) _ behind_kind r y)
 
-        pub with_node_holds : (s₃ : List ℕ) (r : ℕ) → Wrote s₂ j (named ", node " n) s₃ r → Wrote s 0 (choice_named k p n) s₃ r
-        with_node_holds s₃ r c = three_written s 0 _ _ _ _ parts s₁ i a s₂ j b s₃ r (rw (← node_there) at c)
-
--- ---- what it was answered
-
--- the number behind its text, its words, and what was short
-pub record ReplyParts (a : Reply) (text : String) (ws : List String) (n : ℕ) (w : Shortage) : Type 0 where
-  pub parts : reply_named a ≡ (named text n ++ words_for ws n) ++ short_named w
-
-moved_parts : (n : ℕ) (w : Shortage) → ReplyParts (moved_by n w) " moved by rule " rule_words n w
-unfolding reply_named
-moved_parts n w = record { parts = refl }
-
-refused_parts : (n : ℕ) → ReplyParts (refused_by n) " met refusal " refusal_words n enough
-unfolding reply_named short_named
-refused_parts n = record { parts = sym (append-nil (named " met refusal " n ++ words_for refusal_words n)) }
-
-pub moved : (b : Bool) (n : ℕ) (w : Shortage) → b ≡ true → ReplyParts (reply_in b n w) " moved by rule " rule_words n w
-moved b n w e = rw e (moved_parts n w)
-
-pub refused : (b : Bool) (n : ℕ) (w : Shortage) → b ≡ false → ReplyParts (reply_in b n w) " met refusal " refusal_words n enough
-refused b n w e = rw e (refused_parts n)
-
-module _ (a : Reply) (text : String) (ws : List String) (n : ℕ) (w : Shortage) (t : ReplyParts a text ws n w) (entry : ℕ)
-    (is : phrase entry ≡ words_for ws n) (at most : ℕ) (room : at + length (reply_named a) ≤ most) where
-  described : reply_named a ≡ (named text n ++ phrase entry) ++ short_named w
-  described = t.parts ∙ ap (λ v. (named text n ++ v) ++ short_named w) (sym is)
-
-  whole_fits : at + length ((named text n ++ phrase entry) ++ short_named w) ≤ most
-  whole_fits = rw described at room
-
-  pub described_fits : at + length (named text n ++ phrase entry) ≤ most
-  described_fits = first_fits most at (named text n ++ phrase entry) (short_named w) whole_fits
-
-  module _ (s s₁ : List ℕ) (i : ℕ) (all : most ≡ length s) (x : Wrote s at (named text n ++ phrase entry) s₁ i) where
-    pub short_fits : i + length (short_named w) ≤ length s₁
-    short_fits = second_fits s at (named text n ++ phrase entry) (short_named w) s₁ i (rw all at whole_fits) x
-
-    pub short_written : (s₂ : List ℕ) (r : ℕ) → Wrote s₁ i (short_named w) s₂ r → Wrote s at (reply_named a) s₂ r
-    short_written s₂ r y =
-        rw described (both_written s at (named text n ++ phrase entry) (short_named w) s₁ i (rw all at whole_fits) x s₂ r y)
-
--- where nothing was short that is all
-pub described_written : (a : Reply) (text : String) (ws : List String) (n : ℕ) → ReplyParts a text ws n enough → (entry : ℕ) →
-    phrase entry ≡ words_for ws n → (s : List ℕ) (at : ℕ) (s₁ : List ℕ) (r : ℕ) → Wrote s at (named text n ++ phrase entry) s₁ r →
-    Wrote s at (reply_named a) s₁ r
-unfolding short_named
-described_written a text ws n t entry is s at s₁ r x =
-    rw (t.parts, append-nil (named text n ++ words_for ws n), ← is) x
+        pub with_node : (s : Page) → Appended r (named ", node " n) s → Printed choice_most p (choice_named k i n) s
+        with_node s z = chosen s (rw (← node_there) at z)
 
 -- ---- what was short
 
-wrote_nothing : (s : List ℕ) (at : ℕ) → Wrote s at [] s at
-unfolding written
-wrote_nothing s at = record { end = omega arith; bytes = paste-zero s at [] }
+module _ (p : Page) (w : Option Short) where
+  pub none_written : w ≡ None → Printed short_most p (short_named (shortage_of w)) p
+  unfolding short_named shortage_of
+  none_written e = rw e (printed_none short_most p)
 
-module _ (s : List ℕ) (at : ℕ) (b : Bool) (a k : ℕ) (room : at + length (short_named (shortage_from b a k)) ≤ length s) where
-  module _ (e : b ≡ true) where
-    named_short : short_named (shortage_from b a k) ≡ named ", tray " a ++ named " short by " k
+  module _ (room : HasRoom short_most p) (s : Short) (e : w ≡ Some s) (fa : Fits w8 s.channel) (fk : Fits w8 s.by) where
+    few : length (short_named (short s.channel s.by)) ≤ short_most
+    few = short_short s.channel s.by (omega (arith, fa.fits)) (omega (arith, fk.fits))
+
+    both : Room p (named ", tray " s.channel ++ named " short by " s.by)
     unfolding short_named
-    named_short = rw e
+    both = room_for short_most p (short_named (short s.channel s.by)) room few
 
-    both_fit : at + length (named ", tray " a ++ named " short by " k) ≤ length s
-    both_fit = rw named_short at room
+    pub tray_fits : Room p (named ", tray " s.channel)
+    tray_fits = first_room p (named ", tray " s.channel) _ both
 
-    pub tray_fits : at + length (named ", tray " a) ≤ length s
-    tray_fits = first_fits (length s) at (named ", tray " a) (named " short by " k) both_fit
+    module _ (q : Page) (x : Appended p (named ", tray " s.channel) q) where
+      pub by_fits : Room q (named " short by " s.by)
+      by_fits = second_room p (named ", tray " s.channel) _ both q x
 
-    module _ (s₁ : List ℕ) (i : ℕ) (x : Wrote s at (named ", tray " a) s₁ i) where
-      pub by_fits : i + length (named " short by " k) ≤ length s₁
-      by_fits = second_fits s at (named ", tray " a) (named " short by " k) s₁ i both_fit x
+      pub short_written : (r : Page) → Appended q (named " short by " s.by) r → Printed short_most p (short_named (shortage_of w)) r
+      unfolding short_named shortage_of
+      short_written r y = rw e (record { wrote = appended_both p (named ", tray " s.channel) _ both q x r y; short = few })
 
-      pub tray_written : (s₂ : List ℕ) (r : ℕ) → Wrote s₁ i (named " short by " k) s₂ r →
-          Wrote s at (short_named (shortage_from b a k)) s₂ r
-      tray_written s₂ r y = rw named_short (both_written s at (named ", tray " a) (named " short by " k) s₁ i both_fit x s₂ r y)
+-- ---- what it was answered
 
-  pub none_written : b ≡ false → Wrote s at (short_named (shortage_from b a k)) s at
-  unfolding short_named
-  none_written e = rw e (wrote_nothing s at)
+module _ (p : Page) (a : Result Moved ℕ) (room : HasRoom reply_most p) where
+  module _ (m : Moved) (e : a ≡ Ok m) (f : Fits w8 m.rule) where
+    few_of_rule : length (named " moved by rule " m.rule ++ words_for rule_words m.rule) ≤ 38
+    few_of_rule = rule_short m.rule (omega (arith, f.fits))
 
--- ---- the sentence
+    room_of_rule : HasRoom (38 + short_most) p
+    room_of_rule = room
 
-module _ (s : List ℕ) (k p n : ℕ) (a : Reply) (room : length (sentence k p n a) ≤ length s) where
-  in_three : Three s 0 (sentence k p n a) (choice_named k p n) (reply_named a) (ascii ".")
-  unfolding sentence
-  in_three = record { parts = refl; room = omega arith }
+    described : Room p (named " moved by rule " m.rule ++ words_for rule_words m.rule)
+    described = let l = few_of_rule in room_for reply_most p _ room (omega arith)
 
-  pub choice_fits : length (choice_named k p n) ≤ length s
-  choice_fits = let l = first_of_three_fits s 0 _ _ _ _ in_three in omega arith
+    pub rule_fits : Room p (named " moved by rule " m.rule)
+    rule_fits = first_room p (named " moved by rule " m.rule) _ described
 
-  module _ (s₁ : List ℕ) (i : ℕ) (x : Wrote s 0 (choice_named k p n) s₁ i) where
-    pub reply_fits : i + length (reply_named a) ≤ length s₁
-    reply_fits = second_of_three_fits s 0 _ _ _ _ in_three s₁ i x
+    module _ (q : Page) (x : Appended p (named " moved by rule " m.rule) q) (v w : List ℕ) (g : v ≡ w)
+        (h : w ≡ words_for rule_words m.rule) where
+      pub rule_words_fit : Room q v
+      rule_words_fit = rw (g, h) (second_room p (named " moved by rule " m.rule) _ described q x)
 
-    module _ (s₂ : List ℕ) (j : ℕ) (y : Wrote s₁ i (reply_named a) s₂ j) where
-      pub end_fits : j + length (ascii ".") ≤ length s₂
-      end_fits = third_fits s 0 _ _ _ _ in_three s₁ i x s₂ j y
+      module _ (r : Page) (y : Appended q v r) where
+        rule_described : Printed 38 p (named " moved by rule " m.rule ++ words_for rule_words m.rule) r
+        rule_described = record {
+          wrote = appended_both p (named " moved by rule " m.rule) _ described q x r (rw (g, h) at y);
+          short = few_of_rule;
+        }
 
-      pub sentence_written : (s₃ : List ℕ) (r : ℕ) → Wrote s₂ j (ascii ".") s₃ r →
-          Wrote s 0 (sentence k p n a) s₃ r
-      sentence_written s₃ r z = three_written s 0 _ _ _ _ in_three s₁ i x s₂ j y s₃ r z
+        pub short_fits : HasRoom short_most r
+        short_fits = printed_room 38 short_most p _ r room_of_rule rule_described
+
+        pub moved_written : (s : Page) → Printed short_most r (short_named (shortage_of m.short)) s →
+            Printed reply_most p (reply_named (reply_told a)) s
+        unfolding reply_named
+        moved_written s z = rw e (printed_more 38 short_most p _ r room_of_rule rule_described _ s z)
+
+  module _ (n : ℕ) (e : a ≡ Err n) (f : Fits w8 n) where
+    few_of_refusal : length (reply_named (refused_by n)) ≤ reply_most
+    few_of_refusal = refusal_short n (omega (arith, f.fits))
+
+    refused_all : Room p (named " met refusal " n ++ words_for refusal_words n)
+    unfolding reply_named
+    refused_all = room_for reply_most p (reply_named (refused_by n)) room few_of_refusal
+
+    pub refusal_fits : Room p (named " met refusal " n)
+    refusal_fits = first_room p (named " met refusal " n) _ refused_all
+
+    module _ (q : Page) (x : Appended p (named " met refusal " n) q) (v w : List ℕ) (g : v ≡ w)
+        (h : w ≡ words_for refusal_words n) where
+      pub refusal_words_fit : Room q v
+      refusal_words_fit = rw (g, h) (second_room p (named " met refusal " n) _ refused_all q x)
+
+      pub refused_written : (r : Page) → Appended q v r → Printed reply_most p (reply_named (reply_told a)) r
+      unfolding reply_named
+      refused_written r y = rw e (record {
+        wrote = appended_both p (named " met refusal " n) _ refused_all q x r (rw (g, h) at y);
+        short = few_of_refusal;
+      })

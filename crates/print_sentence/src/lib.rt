@@ -1,89 +1,79 @@
 // A choice and its answer as one English sentence (document 02, Q-1 and Q-3), written into lent bytes.
 #![tactic(auto)]
 
-mod texts;
 mod words;
 
-ghost use Rattle.std.specs.Prelude.{◌≡◌, ◌+◌, ◌≤◌, length};
+ghost use Rattle.std.specs.Prelude.{◌≡◌, ◌++◌};
+ghost use Rattle.semantics.specs.Definitions.Report.{decimal};
 ghost use Rattle.semantics.specs.Definitions.Sentence.{choice_named, short_named, reply_named, sentence as Sentence·sentence, sentence_call};
 ghost use Rattle.semantics.specs.Promises.{Promised, OnSentences};
-ghost use Rattle.print_decimals.specs.Wrote.{Wrote};
-ghost use Rattle.answers.specs.Answers.{shortage_from, reply_in, sentence_call_of};
+ghost use Rattle.print_decimals.specs.Page.{HasRoom, Room, Appended, Printed};
+ghost use Rattle.answers.specs.Answers.{shortage_of, sentence_call_of};
+ghost use Rattle.print_sentence.specs.Told.{choice_most, short_most, reply_most, reply_told};
 
-use answers::{KIND_ACT, SHORT_BUFFER, SentenceAnswer};
-use texts::{write_named, write_text};
-use words::{refusal_entry, rule_entry, write_described};
+use answers::{KIND_ACT, Reason, Refusal, Short};
+use print_decimals::Page;
+use words::{refusal_words, rule_words};
 
 // The bytes that a buffer must have. No sentence is longer.
 pub const SENTENCE_BYTES: usize = 96;
 
-// A choice, from the front of the bytes on. Only one of kind 1 names no node.
-fn write_choice(out: &mut [u8], kind: u8, position: u8, node: u8) -> usize
-    requires { length (choice_named kind position node) ≤ length out.old }
-    ensures { Wrote out.old 0 (choice_named kind position node) out.new result }
+// That a choice moved, as the sentence tells it: the number of the rule, and what was short then. The number comes from C
+// and may be no rule's.
+#[derive(Clone, Copy, PartialEq, Eq)]
+pub struct Moved {
+    pub rule: u8,
+    pub short: Option<Short>,
+}
+
+// A text and a number behind it.
+fn write_named(page: &mut Page<'_>, text: &[u8], n: u8)
+    requires { Room page.old (text.now ++ decimal n) }
+    ensures { Appended page.old (text.now ++ decimal n) page.new }
 {
-    let station = write_named(out, 0, b"Kind ", kind);
-    let end = write_named(out, station, b" at station ", position);
-    if kind == KIND_ACT {
-        return end;
+    page.text(text);
+    page.decimal(usize::from(n));
+}
+
+// A choice. Only one of kind 1 names no node.
+fn write_choice(page: &mut Page<'_>, kind: u8, position: u8, node: u8)
+    requires { HasRoom choice_most page.old }
+    ensures { Printed choice_most page.old (choice_named kind position node) page.new }
+{
+    write_named(page, b"Kind ", kind);
+    write_named(page, b" at station ", position);
+    if kind != KIND_ACT {
+        write_named(page, b", node ", node);
     }
-    write_named(out, end, b", node ", node)
 }
 
 // What was short, where something was.
-fn write_short(out: &mut [u8], at: usize, short: bool, tray: u8, by: u8) -> usize
-    requires { at + length (short_named (shortage_from short tray by)) ≤ length out.old }
-    ensures { Wrote out.old at (short_named (shortage_from short tray by)) out.new result }
+fn write_short(page: &mut Page<'_>, short: Option<Short>)
+    requires { HasRoom short_most page.old }
+    ensures { Printed short_most page.old (short_named (shortage_of short)) page.new }
 {
-    if short {
-        let end = write_named(out, at, b", tray ", tray);
-        return write_named(out, end, b" short by ", by);
+    if let Some(short) = short {
+        write_named(page, b", tray ", short.channel);
+        write_named(page, b" short by ", short.by);
     }
-    at
 }
 
-// What it was answered: that it moved, by the rule of this number, and what was short then; or that it was refused with
-// this number.
-fn write_reply(
-    out: &mut [u8],
-    at: usize,
-    moved: bool,
-    number: u8,
-    short: bool,
-    tray: u8,
-    by: u8,
-) -> usize
-    requires { at + length (reply_named (reply_in moved number (shortage_from short tray by))) ≤ length out.old }
-    ensures { Wrote out.old at (reply_named (reply_in moved number (shortage_from short tray by)))
-        out.new result }
+// What it was answered: that it moved, and what was short then; or that it was refused with this number.
+fn write_reply(page: &mut Page<'_>, reply: Result<Moved, u8>)
+    requires { HasRoom reply_most page.old }
+    ensures { Printed reply_most page.old (reply_named (reply_told reply)) page.new }
 {
-    if moved {
-        let end = write_described(out, at, b" moved by rule ", number, rule_entry(number));
-        return write_short(out, end, short, tray, by);
+    match reply {
+        Ok(moved) => {
+            write_named(page, b" moved by rule ", moved.rule);
+            page.text(rule_words(moved.rule).as_bytes());
+            write_short(page, moved.short);
+        }
+        Err(number) => {
+            write_named(page, b" met refusal ", number);
+            page.text(refusal_words(number).as_bytes());
+        }
     }
-    write_described(out, at, b" met refusal ", number, refusal_entry(number))
-}
-
-// The sentence, from the front of the bytes on: the answer is its length.
-fn write_sentence(
-    out: &mut [u8],
-    kind: u8,
-    position: u8,
-    node: u8,
-    moved: bool,
-    number: u8,
-    short: bool,
-    tray: u8,
-    by: u8,
-) -> usize
-    requires { length (Sentence·sentence kind position node (reply_in moved number (shortage_from short tray by)))
-        ≤ length out.old }
-    ensures { Wrote out.old 0
-        (Sentence·sentence kind position node (reply_in moved number (shortage_from short tray by))) out.new result }
-{
-    let named = write_choice(out, kind, position, node);
-    let answered = write_reply(out, named, moved, number, short, tray, by);
-    write_text(out, answered, b".")
 }
 
 // Writes the sentence of a choice and its answer to the front of a buffer, whose other bytes are left: that the choice
@@ -93,23 +83,19 @@ pub fn sentence(
     kind: u8,
     position: u8,
     node: u8,
-    moved: bool,
-    number: u8,
-    short: bool,
-    tray: u8,
-    by: u8,
+    reply: Result<Moved, u8>,
     buffer: &mut [u8],
-) -> SentenceAnswer
+) -> Result<usize, Refusal>
     ensures buffer_after { sentence_call_of result buffer.new ≡
-        sentence_call kind position node (reply_in moved number (shortage_from short tray by)) buffer.old }
+        sentence_call kind position node (reply_told reply) buffer.old }
     ensures promised { Promised OnSentences }
 {
     if buffer.len() < SENTENCE_BYTES {
-        return SentenceAnswer::Refused {
-            number: SHORT_BUFFER,
-            place: 0,
-        };
+        return Err(Reason::ShortBuffer.at(0));
     }
-    let length = write_sentence(buffer, kind, position, node, moved, number, short, tray, by);
-    SentenceAnswer::Told { length }
+    let mut page = Page::new(buffer);
+    write_choice(&mut page, kind, position, node);
+    write_reply(&mut page, reply);
+    page.byte(b'.');
+    Ok(page.len())
 }

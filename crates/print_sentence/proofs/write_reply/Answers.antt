@@ -1,35 +1,33 @@
 -- Writing what a choice was answered meets its contract.
 -- Assumes nothing.
-use mathlib.Core.Path.{refl}
 use Rattle.semantics.specs.Definitions.Sentence.{ascii, named}
-use Rattle.print_sentence.proofs.SentenceParts.{moved, refused, described_fits, short_fits, short_written, described_written}
+use Rattle.print_sentence.proofs.SentenceParts.{rule_fits, rule_words_fit, short_fits, moved_written, refusal_fits, refusal_words_fit, refused_written}
 use Rattle.print_sentence.proofs.write_reply.Goals as goal
 
-pub write_described-end-requires : goal.write_described-end-requires
+pub write_named-requires : goal.write_named-requires
 unfolding named ascii
-write_described-end-requires c = (
-  c.rule_entry.ensures.0,
-  described_fits _ _ _ _ _ (moved _ _ _ c.if-moved.true) _ c.rule_entry.ensures.1 _ _ c.requires,
-)
+write_named-requires c = search rule_fits
+
+pub text-requires : goal.text-requires
+unfolding named ascii
+text-requires c = search rule_words_fit
 
 pub write_short-requires : goal.write_short-requires
 unfolding named ascii
-write_short-requires c = short_fits _ _ _ _ _ (moved _ _ _ c.if-moved.true) _ c.rule_entry.ensures.1 _ _ c.requires _ _ _
-    refl c.write_described-end.ensures
+write_short-requires c = search short_fits
 
-pub returns-then-moved : goal.returns-then-moved
+pub write_named-requires-in-Err : goal.write_named-requires-in-Err
 unfolding named ascii
-returns-then-moved c = short_written _ _ _ _ _ (moved _ _ _ c.if-moved.true) _ c.rule_entry.ensures.1 _ _ c.requires _ _ _
-    refl c.write_described-end.ensures _ _ c.write_short.ensures
+write_named-requires-in-Err c = search refusal_fits
 
-pub write_described-requires : goal.write_described-requires
+pub text-requires-in-Err : goal.text-requires-in-Err
 unfolding named ascii
-write_described-requires c = (
-  c.refusal_entry.ensures.0,
-  described_fits _ _ _ _ _ (refused _ _ _ c.if-moved.false) _ c.refusal_entry.ensures.1 _ _ c.requires,
-)
+text-requires-in-Err c = search refusal_words_fit
 
-pub returns : goal.returns
+pub returns-in-Ok : goal.returns-in-Ok
 unfolding named ascii
-returns c = described_written _ _ _ _ (refused _ _ _ c.if-moved.false) _ c.refusal_entry.ensures.1
-    _ _ _ _ c.write_described.ensures
+returns-in-Ok c = search moved_written
+
+pub returns-in-Err : goal.returns-in-Err
+unfolding named ascii
+returns-in-Err c = search refused_written
