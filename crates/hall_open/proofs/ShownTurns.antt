@@ -17,11 +17,11 @@ use Rattle.table_terms.specs.Decoded.{Decoded, AProcess}
 use Rattle.buffer.proofs.Written.{written_inside}
 use Rattle.hall_layout.specs.Layout.{idle_size, max_components}
 use Rattle.hall_laws.specs.Positions.{all_bytes}
-use Rattle.answers.specs.declared.turns.TurnAnswer.{TurnAnswer}
-use Rattle.answers.specs.declared.turns.TurnAnswer.TheVariants as shown
+use Rattle.std.specs.Prelude as std
+use Rattle.answers.specs.declared.turns.Turn.{Turn}
 use Rattle.hall_open.specs.Opening.{idle_bytes}
 use Rattle.hall_open.specs.Turns.{WaitingTerms, LaidDown, CanTurn, TurnMade, TurnsMade, TurnShown}
-use Rattle.answers.specs.Answers.{kind_in, body_in, turn_answer_for}
+use Rattle.answers.specs.Answers.{kind_in, body_in, TurnIs}
 use Rattle.hall_open.proofs.Processes.{idle_length}
 use Rattle.hall_open.proofs.Stack.{waiting_length, turns_long, can_turn}
 use Rattle.hall_open.proofs.Opening.{process_fits}
@@ -43,11 +43,11 @@ laid_read c hall at hall' end l h =
 
 module _ (d : List ℕ) (i number : ℕ) (hall₀ : List ℕ) (from : ℕ) (stack : List ℕ) (n v u : ℕ) (hall : List ℕ) (at : ℕ)
     (y : TurnsMade d i number hall₀ from stack n v u hall at) where
-  pub past_shown : n ≡ 0 → TurnShown d i number shown.PastEnd
-  unfolding turn_answer_for show_next
+  pub past_shown : n ≡ 0 → TurnShown d i number std.None
+  unfolding show_next
   past_shown h = record { found = λ ts P u e. go ts (waiting_after number (P ∷ [])) (y.found ts P u e).0 }
     where
-      go : (ts : List Term) (Ps : List Program) → WaitingTerms ts stack n Ps → shown.PastEnd ≡ turn_answer_for (show_next Ps)
+      go : (ts : List Term) (Ps : List Program) → WaitingTerms ts stack n Ps → TurnIs (show_next Ps) (std.Ok std.None)
       go ts [] w = refl
       go ts (P ∷ Ps) w = let z = w.1 in absurd (omega arith)
 
@@ -65,31 +65,31 @@ module _ (d : List ℕ) (i number : ℕ) (hall₀ : List ℕ) (from : ℕ) (stac
 
   module _ (h : n ≡ 0 → ⊥) (stack' : List ℕ) (n' v' u' : ℕ) (hall' : List ℕ) (end : ℕ) (z : TurnMade d stack n hall at stack' n' v' u' hall' end) where
     -- what the next turn shows, by the one that is made
-    shows : (r : TurnAnswer) →
-        ((c : Option Idle) (m : ℕ) → n' ≡ m → LaidDown (listed c) hall at hall' end → r ≡ turn_answer_for (lays c m)) → TurnShown d i number r
+    shows : (r : std.Option Turn) →
+        ((c : Option Idle) (m : ℕ) → n' ≡ m → LaidDown (listed c) hall at hall' end → TurnIs (lays c m) (std.Ok r)) → TurnShown d i number r
     unfolding show_next
     shows r law = record { found = λ ts P u e. go ts u (waiting_after number (P ∷ [])) (y.found ts P u e).0 }
       where
-        go : (ts : List Term) → Decoded ts d → (Ps : List Program) → WaitingTerms ts stack n Ps → r ≡ turn_answer_for (show_next Ps)
+        go : (ts : List Term) → Decoded ts d → (Ps : List Program) → WaitingTerms ts stack n Ps → TurnIs (show_next Ps) (std.Ok r)
         go ts u [] w = absurd (h w)
         go ts u (P ∷ Ps) w =
             let next = z.found ts P Ps u w in
             law (turn P Ps).laid (length (turn P Ps).waiting) (waiting_length ts stack' n' (turn P Ps).waiting next.0) next.1
 
-    pub nothing_shown : end ≡ at → TurnShown d i number (shown.Nothing n')
-    unfolding turn_answer_for listed
-    nothing_shown same = shows (shown.Nothing n') go
+    pub nothing_shown : end ≡ at → TurnShown d i number (std.Some (record { laid = std.None; left = n' }))
+    unfolding listed
+    nothing_shown same = shows (std.Some (record { laid = std.None; left = n' })) go
       where
-        go : (c : Option Idle) (m : ℕ) → n' ≡ m → LaidDown (listed c) hall at hall' end → shown.Nothing n' ≡ turn_answer_for (lays c m)
+        go : (c : Option Idle) (m : ℕ) → n' ≡ m → LaidDown (listed c) hall at hall' end → TurnIs (lays c m) (std.Ok (std.Some (record { laid = std.None; left = n' })))
         go none m e l = rw e
         go (some c) m e l = let two = idle_length (c ∷ []) in let to = l.end in absurd (omega arith)
 
     pub component_shown : (end ≡ at → ⊥) → at + idle_size ≤ length hall → (k : ℕ) → k ≡ get_or hall' at 0 → (b : ℕ) → b ≡ get_or hall' (at + 1) 0 →
-        TurnShown d i number (shown.Component k b n')
-    unfolding turn_answer_for listed idle_bytes all_bytes flatten
-    component_shown apart room k p b q = shows (shown.Component k b n') go
+        TurnShown d i number (std.Some (record { laid = std.Some (record { kind = k; body = b }); left = n' }))
+    unfolding listed idle_bytes all_bytes flatten
+    component_shown apart room k p b q = shows (std.Some (record { laid = std.Some (record { kind = k; body = b }); left = n' })) go
       where
-        go : (c : Option Idle) (m : ℕ) → n' ≡ m → LaidDown (listed c) hall at hall' end → shown.Component k b n' ≡ turn_answer_for (lays c m)
+        go : (c : Option Idle) (m : ℕ) → n' ≡ m → LaidDown (listed c) hall at hall' end → TurnIs (lays c m) (std.Ok (std.Some (record { laid = std.Some (record { kind = k; body = b }); left = n' })))
         go none m e l = let to = l.end in absurd (apart (omega arith))
         go (some c) m e l =
             let read = laid_read c hall at hall' end l room in

@@ -332,11 +332,7 @@ module _ (d : List ℕ) (i : ℕ) (hall : List ℕ) (at : ℕ) (x : CanWriteComp
     pub some_written : n ≡ 0 → ComponentsWritten d i hall at hall' end
     some_written h = all_written d i hall at x y.made stack n v u hall' end y.so_far h
 
--- so many turns are made, of those asked for
-pub record FewMade (d : List ℕ) (i turns : ℕ) (hall : List ℕ) (at made : ℕ) (stack : List ℕ) (n v u : ℕ) (hall' : List ℕ) (end : ℕ) : Type 0 where
-  pub few : made ≤ turns
-  pub so_far : TurnsMade d i made hall at stack n v u hall' end
-
+-- as many turns are made as were asked for
 pub all_made : (d : List ℕ) (i turns : ℕ) (hall : List ℕ) (at made : ℕ) (stack : List ℕ) (n v u : ℕ) (hall' : List ℕ) (end : ℕ) →
-    FewMade d i turns hall at made stack n v u hall' end → turns ≤ made → TurnsMade d i turns hall at stack n v u hall' end
-all_made d i turns hall at made stack n v u hall' end y h = let few = y.few in let same : turns ≡ made = omega arith in rw same y.so_far
+    TurnsMade d i made hall at stack n v u hall' end → made ≤ turns → turns ≤ made → TurnsMade d i turns hall at stack n v u hall' end
+all_made d i turns hall at made stack n v u hall' end y few h = let same : turns ≡ made = omega arith in rw same y

@@ -2,15 +2,15 @@
 --
 -- d is a decoded table; i is the number of a process.
 -- Assumes nothing.
-use Rattle.std.specs.Prelude.{ℕ, suc, ◌+◌, ◌-◌, ◌*◌, ◌≤◌, ◌≡◌, List, [], ◌∷◌, length, get_or, set}
+use Rattle.std.specs.Prelude.{ℕ, suc, ◌+◌, ◌-◌, ◌*◌, ◌≤◌, ◌≡◌, List, [], ◌∷◌, length, get_or, set, Option, Ok}
 use Rattle.std.proofs.Math.Option.{some}
 use Rattle.std.proofs.Math.ListN.{get_elem?}
 use Rattle.semantics.specs.Definitions.Terms.{Program, Term, process}
 use Rattle.semantics.specs.Definitions.Configuration.{Idle}
 use Rattle.semantics.specs.Definitions.Turns.{turn, waiting_after, listed, laid_by, show_next}
 use Rattle.theorems.specs.Widths.{widths}
-use Rattle.answers.specs.declared.turns.TurnAnswer.{TurnAnswer}
-use Rattle.answers.specs.Answers.{turn_answer_for}
+use Rattle.answers.specs.declared.turns.Turn.{Turn}
+use Rattle.answers.specs.Answers.{TurnIs}
 use Rattle.table_terms.specs.Decoded.{Decoded}
 use Rattle.buffer.specs.Splice.{written}
 use Rattle.hall_layout.specs.Layout.{idle_size, max_components}
@@ -76,6 +76,6 @@ pub record TurnsMade (d : List ℕ) (i turns : ℕ) (hall : List ℕ) (from : �
 -- ---- a turn that is shown
 
 -- of any table that d decodes, the turn of this number in the opening of process number i is shown
-pub record TurnShown (d : List ℕ) (i number : ℕ) (r : TurnAnswer) : Type 0 where
+pub record TurnShown (d : List ℕ) (i number : ℕ) (r : Option Turn) : Type 0 where
   pub found : (ts : List Term) (P : Program) → Decoded ts d → get_elem? ts i ≡ some (process P) →
-      r ≡ turn_answer_for (show_next (waiting_after number (P ∷ [])))
+      TurnIs (show_next (waiting_after number (P ∷ []))) (Ok r)

@@ -27,7 +27,7 @@ pub fn write_idle(hall: &mut [u8], at: usize, kind: u8, body: u8) -> usize
 // behind it.
 pub fn write_single(decoded: &[u8; DECODED], term: usize, hall: &mut [u8], at: usize) -> usize
     requires can_write_components { CanWriteComponents decoded.now term hall.old at }
-    requires fact { kind_at decoded.now term ≡ kind_byte par_k → ⊥ }
+    requires not_par { kind_at decoded.now term ≡ kind_byte par_k → ⊥ }
     ensures { ComponentsWritten decoded.now term hall.old at hall.new result }
 {
     match table_terms::kind_at(decoded, term) {

@@ -19,7 +19,7 @@ pub use turns::{show_turn, write_components};
 // The opening of a decoded table, whatever stood in the hall before. Only what the counts and the components leave is
 // cleared.
 pub fn write_opening(decoded: &[u8; DECODED], start: usize, hall: &mut [u8])
-    requires aprocess { AProcess decoded.now start }
+    requires a_process { AProcess decoded.now start }
     requires hall_len { length hall.old ≡ hall_bytes }
     ensures { OpeningWritten decoded.now start hall.new }
 {

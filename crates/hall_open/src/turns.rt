@@ -7,8 +7,7 @@ ghost use Rattle.hall_open.specs.Opening.{CanWriteComponents, ComponentsWritten}
 ghost use Rattle.hall_open.specs.Turns.{AfterNext, CanTurn, TurnMade, TurnsBegun, TurnsMade, TurnShown};
 
 use crate::components::write_single;
-use answers::TurnAnswer;
-use buffer::wide;
+use answers::{Station, Turn};
 use hall_layout::{COMPONENT_BODY, IDLE_SIZE, MAX_COMPONENTS};
 use table_records::PAR;
 use table_terms::DECODED;
@@ -33,57 +32,54 @@ fn after_next(stack: &[u8; STACK], waiting: usize) -> usize
     ensures { AfterNext stack.now waiting result }
 {
     let at = if waiting < 2 { 0 } else { waiting - 2 };
-    wide(stack[at])
+    usize::from(stack[at])
 }
 
-// One turn, where a term waits: two side by side give way to their sides, the left one next; any other process is laid
-// down, if it opens into a component.
-pub fn turn(
-    decoded: &[u8; DECODED],
-    stack: &mut [u8; STACK],
-    from: Progress,
-    hall: &mut [u8],
-) -> Progress
-    requires { CanTurn decoded.now stack.old from.waiting from.next from.after hall.old from.end }
-    ensures { TurnMade decoded.now stack.old from.waiting hall.old from.end
-        stack.new result.waiting result.next result.after hall.new result.end }
-{
-    let waiting = from.waiting;
-    let term = from.next;
-    let below = waiting - 1;
-    if table_terms::kind_at(decoded, term) == PAR {
-        let left = table_terms::first_at(decoded, term);
-        let right = table_terms::second_at(decoded, term);
-        let more = waiting + 1;
-        stack[below] = right;
-        stack[waiting] = left;
-        return Progress {
-            waiting: more,
-            next: wide(left),
-            after: wide(right),
-            end: from.end,
-        };
+impl Progress {
+    // Before the first turn: the process at a term number waits alone.
+    fn begin(stack: &mut [u8; STACK], term: usize, at: usize) -> Progress
+        requires { (term < max_terms) × (length stack.old ≡ max_components) }
+        ensures { TurnsBegun stack.old term at stack.new result.waiting result.next result.end }
+    {
+        stack[0] = term as u8;
+        Progress {
+            waiting: 1,
+            next: term,
+            after: 0,
+            end: at,
+        }
     }
-    let end = write_single(decoded, term, hall, from.end);
-    Progress {
-        waiting: below,
-        next: from.after,
-        after: after_next(stack, below),
-        end,
-    }
-}
 
-// Before the first turn: the process at a term number waits alone.
-fn begin(stack: &mut [u8; STACK], term: usize, at: usize) -> Progress
-    requires { (term < max_terms) × (length stack.old ≡ max_components) }
-    ensures { TurnsBegun stack.old term at stack.new result.waiting result.next result.end }
-{
-    stack[0] = term as u8;
-    Progress {
-        waiting: 1,
-        next: term,
-        after: 0,
-        end: at,
+    // After one turn, where a term waits: two side by side give way to their sides, the left one next; any other process
+    // is laid down, if it opens into a component.
+    fn turn(self, decoded: &[u8; DECODED], stack: &mut [u8; STACK], hall: &mut [u8]) -> Progress
+        requires { CanTurn decoded.now stack.old self.waiting self.next self.after hall.old self.end }
+        ensures { TurnMade decoded.now stack.old self.waiting hall.old self.end
+            stack.new result.waiting result.next result.after hall.new result.end }
+    {
+        let waiting = self.waiting;
+        let term = self.next;
+        let below = waiting - 1;
+        if table_terms::kind_at(decoded, term) == PAR {
+            let left = table_terms::first_at(decoded, term);
+            let right = table_terms::second_at(decoded, term);
+            let more = waiting + 1;
+            stack[below] = right;
+            stack[waiting] = left;
+            return Progress {
+                waiting: more,
+                next: usize::from(left),
+                after: usize::from(right),
+                end: self.end,
+            };
+        }
+        let end = write_single(decoded, term, hall, self.end);
+        Progress {
+            waiting: below,
+            next: self.after,
+            after: after_next(stack, below),
+            end,
+        }
     }
 }
 
@@ -94,9 +90,9 @@ pub fn write_components(decoded: &[u8; DECODED], term: usize, hall: &mut [u8], a
     ensures { ComponentsWritten decoded.now term hall.old at hall.new result }
 {
     let mut stack = [0u8; STACK];
-    let mut progress = begin(&mut stack, term, at);
+    let mut progress = Progress::begin(&mut stack, term, at);
     while progress.waiting != 0 {
-        progress = turn(decoded, &mut stack, progress, hall);
+        progress = progress.turn(decoded, &mut stack, hall);
     }
     progress.end
 }
@@ -115,20 +111,19 @@ fn make_turns(
     ensures { TurnsMade decoded.now term turns hall.old at stack.new result.waiting
         result.next result.after hall.new result.end }
 {
-    let mut progress = begin(stack, term, at);
-    let mut made = 0;
-    while made < turns {
+    let mut progress = Progress::begin(stack, term, at);
+    for _ in 0..turns {
         if progress.waiting == 0 {
             return progress;
         }
-        progress = turn(decoded, stack, progress, hall);
-        made = made + 1;
+        progress = progress.turn(decoded, stack, hall);
     }
     progress
 }
 
-// The turn of this number, counted from 0, in the opening of the process at a term number: it is never refused.
-pub fn show_turn(decoded: &[u8; DECODED], term: usize, number: usize) -> TurnAnswer
+// The turn of this number, counted from 0, in the opening of the process at a term number, if there is one: it is never
+// refused.
+pub fn show_turn(decoded: &[u8; DECODED], term: usize, number: usize) -> Option<Turn>
     requires { AProcess decoded.now term }
     ensures { TurnShown decoded.now term number result }
 {
@@ -137,14 +132,19 @@ pub fn show_turn(decoded: &[u8; DECODED], term: usize, number: usize) -> TurnAns
     let before = make_turns(decoded, term, number, &mut stack, &mut laid, 0);
     let at = before.end;
     if before.waiting == 0 {
-        return TurnAnswer::PastEnd;
+        return None;
     }
-    let made = turn(decoded, &mut stack, before, &mut laid);
+    let made = before.turn(decoded, &mut stack, &mut laid);
     let left = made.waiting;
     if made.end == at {
-        return TurnAnswer::Nothing { left };
+        return Some(Turn { laid: None, left });
     }
-    let kind = laid[at];
-    let body = laid[at + COMPONENT_BODY];
-    TurnAnswer::Component { kind, body, left }
+    let station = Station {
+        kind: laid[at],
+        body: laid[at + COMPONENT_BODY],
+    };
+    Some(Turn {
+        laid: Some(station),
+        left,
+    })
 }

@@ -21,8 +21,8 @@ returns-then-made-at c = search nothing_shown
 pub bounds-laid-at : goal.bounds-laid-at
 bounds-laid-at c = let room = room_shown _ _ _ _ _ _ _ _ _ _ _ c.make_turns-before.ensures c.requires (omega arith) (search rules) in omega arith
 
-pub overflow_add-body : goal.overflow_add-body
-overflow_add-body c = let room = room_shown _ _ _ _ _ _ _ _ _ _ _ c.make_turns-before.ensures c.requires (omega arith) (search rules) in record { fits = omega arith }
+pub overflow_add-station : goal.overflow_add-station
+overflow_add-station c = let room = room_shown _ _ _ _ _ _ _ _ _ _ _ c.make_turns-before.ensures c.requires (omega arith) (search rules) in record { fits = omega arith }
 
 pub bounds-laid-at-2 : goal.bounds-laid-at-2
 bounds-laid-at-2 c = let room = room_shown _ _ _ _ _ _ _ _ _ _ _ c.make_turns-before.ensures c.requires (omega arith) (search rules) in omega arith

@@ -1,8 +1,8 @@
--- `turn` meets its contract: two side by side leave their sides on the stack, any other process is laid down.
+-- `Progress::turn` meets its contract: two side by side leave their sides on the stack, any other process is laid down.
 -- Assumes nothing.
 use Rattle.hall_open.proofs.Stack.{top_inside, fewer_wait, one_more_fits, next_fits, next_inside, room_above, sides_wait, one_laid}
 use Rattle.hall_open.proofs.Processes.{is_single}
-use Rattle.hall_open.proofs.turns.turn.Goals as goal
+use Rattle.hall_open.proofs.turns.Progress.turn.Goals as goal
 
 pub kind_at-requires : goal.kind_at-requires
 kind_at-requires c = search next_inside
