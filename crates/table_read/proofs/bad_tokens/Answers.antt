@@ -6,5 +6,5 @@ use Rattle.table_read.proofs.bad_tokens.Goals as goal
 pub returns-then-count-eq0 : goal.returns-then-count-eq0
 returns-then-count-eq0 c = search count_zero
 
-pub returns : goal.returns
-returns c = search given_before
+pub returns-else-count-eq0 : goal.returns-else-count-eq0
+returns-else-count-eq0 c = search given_before

@@ -3,8 +3,8 @@
 use Rattle.table_read.proofs.RecordTests.{term_room, other_room}
 use Rattle.table_read.proofs.too_many_terms.Goals as goal
 
-pub returns-then-class-eq-NO_CLASS : goal.returns-then-class-eq-NO_CLASS
-returns-then-class-eq-NO_CLASS c = search other_room
+pub returns-then-is_some : goal.returns-then-is_some
+returns-then-is_some c = search term_room
 
-pub returns : goal.returns
-returns c = search term_room
+pub returns-else-is_some : goal.returns-else-is_some
+returns-else-is_some c = search other_room
