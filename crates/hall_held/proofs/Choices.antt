@@ -4,12 +4,12 @@ use Prim.Native.Nat.{ℕ}
 use native.Mathlib.Omega.{arith}
 use mathlib.Core.Path.{◌≡◌, refl, sym, ap, ◌∙◌}
 use mathlib.Core.List.{List}
+use Rattle.std.specs.Prelude.{Result, Ok, Err}
 use Rattle.semantics.specs.Definitions.Configuration.{Configuration}
 use Rattle.semantics.specs.Definitions.Moves.{Entry, EntryAnswer, does, refuses, entry_answer, transition_of, transition, refused_by, as_reply}
-use Rattle.answers.specs.declared.replies.Shortage.{Shortage}
-use Rattle.answers.specs.declared.replies.Reply.{Reply}
-use Rattle.answers.specs.declared.replies.Reply.TheVariants.{Moved, Refused}
-use Rattle.answers.specs.Answers.{shortage_of, reply_of}
+use Rattle.answers.specs.declared.refusals.Reason.{Reason}
+use Rattle.answers.specs.declared.replies.Move.{Move}
+use Rattle.answers.specs.Answers.{number_of_rule, reason_number, shortage_of, reply_of}
 use Rattle.hall_held.specs.Holds.{Running}
 use Rattle.hall_held.specs.Choices.{afterwards, EntryLooked, CanApply, Applied, EntryMade}
 use Rattle.hall_held.proofs.AcceptedActs.{by_number}
@@ -25,41 +25,40 @@ refused_leaves e h m q = go (entry_answer h e) q
 
 module _ {d s starts : List ℕ} {n : ℕ} where
   -- an entry whose look answers a rule may be made by it
-  pub looked_can_apply : {e : Entry} {r : Reply} {rule : ℕ} {w : Shortage} → Running d s starts n → EntryLooked d s starts n e r →
-      r ≡ Moved rule w →
-      CanApply d s starts n e rule
+  pub looked_can_apply : {e : Entry} {r : Result Move Reason} {m : Move} → Running d s starts n → EntryLooked d s starts n e r →
+      r ≡ Ok m → CanApply d s starts n e (number_of_rule m.rule)
   unfolding reply_of
-  looked_can_apply {e} {rule = rule} {w} x l q = record {
+  looked_can_apply {e} {m = m} x l q = record {
     terms = x.terms;
     configuration = x.configuration;
     decoded = x.decoded;
     holds = x.holds;
     by =
-        by_number x.configuration e rule (shortage_of w)
+        by_number x.configuration e (number_of_rule m.rule) (shortage_of m.short)
         (sym (l.found x.terms x.configuration x.decoded x.holds) ∙ ap reply_of q);
   }
 
   -- one that is made
-  pub entry_made_moved : {e : Entry} {r : Reply} {rule : ℕ} {w : Shortage} {s' starts' : List ℕ} {n' : ℕ} → EntryLooked d s starts n e r →
-      r ≡ Moved rule w →
-      Applied d s starts n e rule s' starts' n' → EntryMade d s starts n e (Moved rule w) s' starts' n'
+  pub entry_made_moved : {e : Entry} {r : Result Move Reason} {m : Move} {s' starts' : List ℕ} {n' : ℕ} →
+      EntryLooked d s starts n e r → r ≡ Ok m →
+      Applied d s starts n e (number_of_rule m.rule) s' starts' n' → EntryMade d s starts n e (Ok m) s' starts' n'
   unfolding reply_of
-  entry_made_moved {e} {rule = rule} {w} l q a = record {
+  entry_made_moved {e} {m = m} l q a = record {
     looked = rw q at l;
-    found = λ ts h y x. a.found ts h y x (by_number h e rule (shortage_of w) (sym (l.found ts h y x) ∙ ap reply_of q));
+    found = λ ts h y x. a.found ts h y x (by_number h e (number_of_rule m.rule) (shortage_of m.short) (sym (l.found ts h y x) ∙ ap reply_of q));
   }
 
   -- and one that is refused
-  pub entry_made_refused : {e : Entry} {r : Reply} {m : ℕ} → EntryLooked d s starts n e r → r ≡ Refused m →
-      EntryMade d s starts n e (Refused m) s starts n
+  pub entry_made_refused : {e : Entry} {r : Result Move Reason} {m : Reason} → EntryLooked d s starts n e r → r ≡ Err m →
+      EntryMade d s starts n e (Err m) s starts n
   unfolding reply_of
   entry_made_refused {e} {r} {m} l q = record {
     looked = rw q at l;
-    found = λ ts h y x. rw (refused_leaves e h m (sym (l.found ts h y x) ∙ ap reply_of q)) x;
+    found = λ ts h y x. rw (refused_leaves e h (reason_number m) (sym (l.found ts h y x) ∙ ap reply_of q)) x;
   }
 
   -- what is held afterwards is a run's again
-  pub entry_made_running : {e : Entry} {r : Reply} {s' starts' : List ℕ} {n' : ℕ} → Running d s starts n →
+  pub entry_made_running : {e : Entry} {r : Result Move Reason} {s' starts' : List ℕ} {n' : ℕ} → Running d s starts n →
       EntryMade d s starts n e r s' starts' n' → Running d s' starts' n'
   entry_made_running {e} x c = record {
     terms = x.terms;

@@ -2,13 +2,14 @@
 --
 -- d is a decoded table; s has the bytes, starts the index, n the number of components (stations).
 -- Assumes nothing.
-use Rattle.std.specs.Prelude.{ℕ, ◌≡◌, List}
+use Rattle.std.specs.Prelude.{ℕ, ◌≡◌, List, Result}
 use Rattle.calculus.specs.Reduction.{Rule}
 use Rattle.semantics.specs.Definitions.Terms.{Term}
 use Rattle.semantics.specs.Definitions.Configuration.{Configuration}
 use Rattle.semantics.specs.Definitions.Moves.{Entry, entry_answer, Transition, moved, refused, transition, rule_number, as_reply}
 use Rattle.table_terms.specs.Decoded.{Decoded}
-use Rattle.answers.specs.declared.replies.Reply.{Reply}
+use Rattle.answers.specs.declared.refusals.Reason.{Reason}
+use Rattle.answers.specs.declared.replies.Move.{Move}
 use Rattle.answers.specs.Answers.{reply_of}
 use Rattle.hall_held.specs.Holds.{Holds}
 
@@ -18,7 +19,7 @@ afterwards (moved r g) h = g
 afterwards (refused n) h = h
 
 -- r is what the entry is answered, whichever configuration of whichever table is held
-pub record EntryLooked (d s starts : List ℕ) (n : ℕ) (e : Entry) (r : Reply) : Type 0 where
+pub record EntryLooked (d s starts : List ℕ) (n : ℕ) (e : Entry) (r : Result Move Reason) : Type 0 where
   pub found : (ts : List Term) (h : Configuration) → Decoded ts d → Holds ts h s starts n →
       reply_of r ≡ as_reply (entry_answer h e)
 
@@ -44,7 +45,7 @@ pub record Applied (d s starts : List ℕ) (n : ℕ) (e : Entry) (rule : ℕ) (s
 
 -- an entry that is made: r is what a look would answer, and what the entry makes of the configuration is held now,
 -- accepted or refused
-pub record EntryMade (d s starts : List ℕ) (n : ℕ) (e : Entry) (r : Reply) (s' starts' : List ℕ) (n' : ℕ) : Type 0 where
+pub record EntryMade (d s starts : List ℕ) (n : ℕ) (e : Entry) (r : Result Move Reason) (s' starts' : List ℕ) (n' : ℕ) : Type 0 where
   pub looked : EntryLooked d s starts n e r
   pub found : (ts : List Term) (h : Configuration) → Decoded ts d → Holds ts h s starts n →
       Holds ts (afterwards (transition h e) h) s' starts' n'
