@@ -28,10 +28,8 @@ fn lower_starts(
     ensures { StartsSet starts.old to 0 n (moved starts.old from less more)
         starts.new }
 {
-    let mut i: usize = 0;
-    while i < n {
+    for i in 0..n {
         starts[to + i] = starts[from + i] - less + more;
-        i += 1;
     }
 }
 
@@ -48,9 +46,7 @@ fn raise_starts(
     ensures { StartsSet starts.old to 0 n (moved starts.old from less more)
         starts.new }
 {
-    let mut left = n;
-    while 0 < left {
-        left -= 1;
+    for left in (0..n).rev() {
         starts[to + left] = starts[from + left] - less + more;
     }
 }
@@ -62,10 +58,8 @@ fn space_starts(starts: &mut [usize; INDEX_SIZE], first: usize, n: usize)
         starts.new }
 {
     let begin = starts[first];
-    let mut i: usize = 1;
-    while i < n {
+    for i in 1..n {
         starts[first + i] = begin + IDLE_SIZE * i;
-        i += 1;
     }
 }
 
