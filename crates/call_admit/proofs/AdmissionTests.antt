@@ -2,9 +2,11 @@
 -- Assumes nothing.
 use Prim.Native.Nat.{ℕ, ◌≤◌}
 use native.Mathlib.Omega.{arith}
-use mathlib.Core.Path.{◌≡◌, refl, subst}
-use mathlib.Core.Option.{Option, none, some}
+use mathlib.Core.Path.{◌≡◌, refl}
+use mathlib.Core.Option as math
+use mathlib.Core.Option.{none, some}
 use mathlib.Core.List.{List}
+use Rattle.std.specs.Prelude.{Option, None, Some, Result, Ok, Err, ok_or}
 use lib.ListN.{length, get_or}
 use mir.Syntax.{w8}
 use mir.Val.{Fits}
@@ -14,16 +16,14 @@ use Rattle.semantics.specs.Definitions.Configuration.{Configuration}
 use Rattle.semantics.specs.Definitions.Stored.{hall_bytes, configuration_of}
 use Rattle.semantics.specs.Definitions.Calls.{form_tested, size_tested, table_tested, admission}
 use Rattle.table_terms.specs.Decoded.{Decoded}
-use Rattle.table_read.specs.declared.ReadAnswer.{ReadAnswer}
-use Rattle.table_read.specs.declared.ReadAnswer.TheVariants as read
+use Rattle.answers.specs.declared.refusals.Refusal.{Refusal}
+use Rattle.answers.specs.declared.refusals.Reason.TheVariants.{WrongLength, Malformed}
+use Rattle.answers.specs.Answers.{reason_number}
+use Rattle.table_read.specs.declared.Accepted.{Accepted}
 use Rattle.table_read.specs.ReadAnswers.{ReadAnswerIs}
-use Rattle.hall_layout.specs.Layout.{hall_bytes}
-use Rattle.hall_check.specs.declared.HallScan.{HallScan}
-use Rattle.hall_check.specs.declared.HallScan.TheVariants as form
+use Rattle.hall_layout.specs.Layout.{hall_bytes, index_size}
 use Rattle.hall_check.specs.Scans.{HallIs, HallRead}
 use Rattle.hall_held.proofs.Holds.{slice_bytes, read_holds}
-use Rattle.call_admit.specs.declared.Admission.{Admission}
-use Rattle.call_admit.specs.declared.Admission.TheVariants.{Admitted, Refused}
 use Rattle.call_admit.specs.Admissions.{AdmissionIs, HallAdmitted}
 use Rattle.call_admit.proofs.AcceptedTables.{accepted_table_holds, refused_table_holds}
 
@@ -31,58 +31,44 @@ use Rattle.call_admit.proofs.AcceptedTables.{accepted_table_holds, refused_table
 
 module _ (d : List ℕ) (n : ℕ) (hall starts : List ℕ) where
   -- 10
-  pub wrong_length : (length hall ≡ hall_bytes → ⊥) → HallAdmitted d n hall starts (Refused 10 0)
-  unfolding size_tested
-  wrong_length other = record { found = λ t x c. rw (ne_eqb (length hall) 11344 other) (refl, refl) }
+  pub wrong_length : (length hall ≡ hall_bytes → ⊥) → (e : Refusal) → e ≡ record { reason = WrongLength; place = 0 } →
+      HallAdmitted d n hall starts (Err e)
+  unfolding size_tested reason_number
+  wrong_length other e p = record { found = λ t x c. rw (ne_eqb (length hall) 11344 other, p) (refl, refl) }
 
-  module _ (right : length hall ≡ hall_bytes) (f : HallScan) (w : HallRead d n hall starts f) where
-    -- by the configuration that is read
-    by_form : (r : Admission) →
-        ((t : Table) → Decoded t.terms d → (o : Option Configuration) → configuration_of t.terms hall ≡ o →
-        HallIs f starts o → AdmissionIs r d hall starts (form_tested t o)) →
-        HallAdmitted d n hall starts r
-    unfolding size_tested
-    by_form r k = record {
-      found = λ t x c. rw (eq-eqb (length hall) 11344 right)
-          (k t x (configuration_of t.terms hall) refl (w.found t.terms x c));
+  module _ (right : length hall ≡ hall_bytes) (b : (i : ℕ) → Fits w8 (get_or hall i 0)) (e : Refusal) (p : e ≡ record { reason = Malformed; place = 0 }) where
+    -- by the form that is found and the configuration that is read; 11
+    by_form : (t : Table) → Decoded t.terms d → length starts ≡ index_size → (f : Option ℕ) (o : math.Option Configuration) →
+        configuration_of t.terms hall ≡ o → HallIs f starts o → AdmissionIs (ok_or f e) d hall starts (form_tested t o)
+    unfolding form_tested reason_number
+    by_form t x sized None none q y = rw p (refl, refl)
+    by_form t x sized None (some h) q y = absurd y
+    by_form t x sized (Some c) none q y = absurd y
+    by_form t x sized (Some c) (some h) q y = record {
+      decoded = x;
+      holds = read_holds t.terms hall starts c h x.good (slice_bytes hall b) right sized q y;
     }
 
-    -- 11
-    pub malformed : f ≡ form.Malformed → HallAdmitted d n hall starts (Refused 11 0)
-    unfolding form_tested
-    malformed e = by_form (Refused 11 0) (λ t x o q y. go t o (subst (λ f. HallIs f starts o) e y))
-      where
-        go : (t : Table) (o : Option Configuration) → HallIs form.Malformed starts o →
-            AdmissionIs (Refused 11 0) d hall starts (form_tested t o)
-        go t none y = (refl, refl)
-        go t (some h) y = absurd y
-
-    pub well_formed : (u c : ℕ) → f ≡ form.WellFormed u c → ((i : ℕ) → Fits w8 (get_or hall i 0)) →
-        HallAdmitted d n hall starts (Admitted c)
-    unfolding form_tested
-    well_formed u c e b = by_form (Admitted c) (λ t x o q y. go t x o q (subst (λ f. HallIs f starts o) e y))
-      where
-        go : (t : Table) → Decoded t.terms d → (o : Option Configuration) → configuration_of t.terms hall ≡ o →
-            HallIs (form.WellFormed u c) starts o → AdmissionIs (Admitted c) d hall starts (form_tested t o)
-        go t x none q y = absurd y
-        go t x (some h) q y = record {
-          decoded = x;
-          holds = read_holds t.terms hall starts u c h x.good (slice_bytes hall b) right w.sized q y;
-        }
+    pub form_admitted : (f : Option ℕ) → HallRead d n hall starts f → (r : Result ℕ Refusal) → r ≡ ok_or f e → HallAdmitted d n hall starts r
+    unfolding size_tested
+    form_admitted f w r m = record {
+      found = λ t x c. rw (eq-eqb (length hall) 11344 right, m)
+          (by_form t x w.sized f (configuration_of t.terms hall) refl (w.found t.terms x c));
+    }
 
 -- ---- the table
 
-module _ (s d : List ℕ) (a : ReadAnswer) (h : ReadAnswerIs a (read_table s) d) (n p : ℕ) (hall starts : List ℕ) where
+module _ (s d hall starts : List ℕ) where
   -- 1 to 9
-  pub by_the_table : a ≡ read.Refused n p → AdmissionIs (Refused n p) d hall starts (admission s hall)
+  pub by_the_table : (e : Refusal) → ReadAnswerIs (Err e) (read_table s) d → AdmissionIs (Err e) d hall starts (admission s hall)
   unfolding admission table_tested
-  by_the_table e = rw (refused_table_holds s d a h n p e) (refl, refl)
+  by_the_table e h = rw (refused_table_holds s d e h) (refl, refl)
 
-  module _ (e : a ≡ read.Accepted n p) where
-    pub few_terms : n ≤ 200
+  module _ (a : Accepted) (h : ReadAnswerIs (Ok a) (read_table s) d) where
+    pub few_terms : a.terms ≤ 200
     few_terms =
-        accepted_table_holds s d a h n p e (λ t q x. let c = x.counted in let f = x.decoded.good.few in omega arith)
+        accepted_table_holds s d a h (λ t q x. let c = x.counted in let f = x.decoded.good.few in omega arith)
 
-    pub by_the_hall : (r : Admission) → HallAdmitted d n hall starts r → AdmissionIs r d hall starts (admission s hall)
+    pub by_the_hall : (r : Result ℕ Refusal) → HallAdmitted d a.terms hall starts r → AdmissionIs r d hall starts (admission s hall)
     unfolding admission table_tested
-    by_the_hall r w = accepted_table_holds s d a h n p e (λ t q x. rw q (w.found t x.decoded x.counted))
+    by_the_hall r w = accepted_table_holds s d a h (λ t q x. rw q (w.found t x.decoded x.counted))

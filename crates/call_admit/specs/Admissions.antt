@@ -2,16 +2,15 @@
 --
 -- d is the decoded table, hall the stored bytes, starts the index of where each component begins.
 -- Assumes nothing.
-use Rattle.std.specs.Prelude.{ℕ, ◌≡◌, List, length, eqb}
+use Rattle.std.specs.Prelude.{ℕ, ◌≡◌, List, length, eqb, Result, Ok, Err}
 use Rattle.semantics.specs.Definitions.Table.{Table}
 use Rattle.semantics.specs.Definitions.Configuration.{Configuration}
 use Rattle.semantics.specs.Definitions.Stored.{hall_bytes}
-use Rattle.semantics.specs.Definitions.Calls as calls
-use Rattle.semantics.specs.Definitions.Calls.{admitted, not_admitted, size_tested}
+use Rattle.semantics.specs.Definitions.Calls.{Admission, admitted, not_admitted, size_tested}
+use Rattle.answers.specs.declared.refusals.Refusal.{Refusal}
+use Rattle.answers.specs.Answers.{reason_number}
 use Rattle.table_terms.specs.Decoded.{Decoded}
 use Rattle.hall_held.specs.Holds.{Holds}
-use Rattle.call_admit.specs.declared.Admission.{Admission}
-use Rattle.call_admit.specs.declared.Admission.TheVariants.{Admitted, Refused}
 
 -- the table is decoded, and the configuration is held with its n components
 pub record TableAndHallHeld (t : Table) (h : Configuration) (d hall starts : List ℕ) (n : ℕ) : Type 0 where
@@ -19,13 +18,13 @@ pub record TableAndHallHeld (t : Table) (h : Configuration) (d hall starts : Lis
   pub holds : Holds t.terms h hall starts n
 
 -- an admitted table and configuration are held; a refusal has its number and its place
-abbrev pub AdmissionIs : Admission → (d hall starts : List ℕ) → calls.Admission → Type 0
-AdmissionIs (Admitted n) d hall starts (admitted t h) = TableAndHallHeld t h d hall starts n
-AdmissionIs (Admitted n) d hall starts (not_admitted m q) = ⊥
-AdmissionIs (Refused n p) d hall starts (admitted t h) = ⊥
-AdmissionIs (Refused n p) d hall starts (not_admitted m q) = (n ≡ m) × (p ≡ q)
+abbrev pub AdmissionIs : Result ℕ Refusal → (d hall starts : List ℕ) → Admission → Type 0
+AdmissionIs (Ok n) d hall starts (admitted t h) = TableAndHallHeld t h d hall starts n
+AdmissionIs (Ok n) d hall starts (not_admitted m q) = ⊥
+AdmissionIs (Err e) d hall starts (admitted t h) = ⊥
+AdmissionIs (Err e) d hall starts (not_admitted m q) = (reason_number e.reason ≡ m) × (e.place ≡ q)
 
 -- the tests on a hall behind any table whose n terms d decodes
-pub record HallAdmitted (d : List ℕ) (n : ℕ) (hall starts : List ℕ) (r : Admission) : Type 0 where
+pub record HallAdmitted (d : List ℕ) (n : ℕ) (hall starts : List ℕ) (r : Result ℕ Refusal) : Type 0 where
   pub found : (t : Table) → Decoded t.terms d → length t.terms ≡ n →
       AdmissionIs r d hall starts (size_tested t hall (eqb (length hall) hall_bytes))

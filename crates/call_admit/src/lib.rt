@@ -9,61 +9,38 @@ ghost use Rattle.table_terms.specs.Decoded.{decoded_bytes};
 ghost use Rattle.hall_layout.specs.Layout.{index_size};
 ghost use Rattle.call_admit.specs.Admissions.{AdmissionIs, HallAdmitted};
 
-use answers::{MALFORMED, WRONG_LENGTH};
-use hall_check::HallScan;
+use answers::{Reason, Refusal};
 use hall_layout::{HALL_SIZE, INDEX_SIZE};
-use table_read::ReadAnswer;
 use table_terms::DECODED;
 
-// How many components an admitted hall has; or the refusal's number and place.
-#[derive(Clone, Copy)]
-pub enum Admission {
-    Admitted { components: usize },
-    Refused { number: u8, place: usize },
-}
-
-// The tests on a hall, once its table of so many terms is decoded.
+// The tests on a hall, once its table of so many terms is decoded: how many components it has.
 fn admit_hall(
     decoded: &[u8; DECODED],
     terms: usize,
     hall: &[u8],
     starts: &mut [usize; INDEX_SIZE],
-) -> Admission
+) -> Result<usize, Refusal>
     requires { (terms ≤ max_terms) × (length starts.old ≡ index_size) }
     ensures { HallAdmitted decoded.now terms hall.now starts.new result }
 {
     if hall.len() != HALL_SIZE {
-        return Admission::Refused {
-            number: WRONG_LENGTH,
-            place: 0,
-        };
+        return Err(Reason::WrongLength.at(0));
     }
-    let HallScan::WellFormed {
-        used: _,
-        components,
-    } = hall_check::well_formed(decoded, terms, hall, starts)
-    else {
-        return Admission::Refused {
-            number: MALFORMED,
-            place: 0,
-        };
-    };
-    Admission::Admitted { components }
+    hall_check::well_formed(decoded, terms, hall, starts).ok_or(Reason::Malformed.at(0))
 }
 
-// Refused by 1 to 9 with the table's place, by 10 where the hall has another length, by 11 where it is not well formed.
+// How many components an admitted hall has. Refused by 1 to 9 with the table's place, by 10 where the hall has another
+// length, by 11 where it is not well formed.
 pub fn admit(
     table: &[u8],
     hall: &[u8],
     decoded: &mut [u8; DECODED],
     starts: &mut [usize; INDEX_SIZE],
-) -> Admission
+) -> Result<usize, Refusal>
     requires { (decoded.old ≡ replicate decoded_bytes 0) × (length starts.old ≡ index_size) }
     ensures { AdmissionIs result decoded.new hall.now starts.new
         (admission table.now hall.now) }
 {
-    match table_read::read_table(table, decoded) {
-        ReadAnswer::Accepted { terms, start: _ } => admit_hall(decoded, terms, hall, starts),
-        ReadAnswer::Refused { number, place } => Admission::Refused { number, place },
-    }
+    let accepted = table_read::read_table(table, decoded)?;
+    admit_hall(decoded, accepted.terms, hall, starts)
 }

@@ -4,23 +4,20 @@
 ghost use Rattle.std.specs.Prelude.{◌≡◌};
 ghost use Rattle.semantics.specs.Definitions.Calls.{check_hall};
 ghost use Rattle.semantics.specs.Promises.{Promised, OnHalls};
-ghost use Rattle.answers.specs.Answers.{hall_verdict_of};
+ghost use Rattle.answers.specs.Answers.{verdict_of};
 
-use answers::HallVerdict;
-use call_admit::Admission;
+use answers::Refusal;
 use hall_layout::INDEX_SIZE;
 use table_terms::DECODED;
 
 // Checks a stored hall: refused by 1 to 9 with the table's place, by 10 where the hall has another length, by 11
 // where it is not well formed.
-pub fn check_hall(table: &[u8], hall: &[u8]) -> HallVerdict
-    ensures result_value { hall_verdict_of result ≡ check_hall table.now hall.now }
+pub fn check_hall(table: &[u8], hall: &[u8]) -> Result<(), Refusal>
+    ensures verdict { verdict_of result ≡ check_hall table.now hall.now }
     ensures promised { Promised OnHalls }
 {
     let mut decoded = [0u8; DECODED];
     let mut starts = [0usize; INDEX_SIZE];
-    match call_admit::admit(table, hall, &mut decoded, &mut starts) {
-        Admission::Admitted { components: _ } => HallVerdict::WellFormed,
-        Admission::Refused { number, place } => HallVerdict::Refused { number, place },
-    }
+    call_admit::admit(table, hall, &mut decoded, &mut starts)?;
+    Ok(())
 }

@@ -1,28 +1,20 @@
 // The call that shows a turn of a table's opening, for whoever steps through it.
 #![tactic(auto)]
 
-ghost use Rattle.std.specs.Prelude.{◌≡◌};
 ghost use Rattle.semantics.specs.Definitions.Turns.{turn_call};
 ghost use Rattle.semantics.specs.Promises.{Promised, OnTurns};
-ghost use Rattle.answers.specs.Answers.{turn_answer_for};
+ghost use Rattle.answers.specs.Answers.{TurnIs};
 
-use answers::TurnAnswer;
-use buffer::wide;
-use table_read::ReadAnswer;
+use answers::{Refusal, Turn};
 use table_terms::DECODED;
 
-// The turn of this number, counted from 0, of the opening of a table. Refused by 1 to 9 alone, with the table's place.
-pub fn opening_turn(table: &[u8], turn: usize) -> TurnAnswer
-    ensures value { result ≡ turn_answer_for (turn_call table.now turn) }
+// The turn of this number, counted from 0, of the opening of a table, if there is one. Refused by 1 to 9 alone, with the
+// table's place.
+pub fn opening_turn(table: &[u8], turn: usize) -> Result<Option<Turn>, Refusal>
+    ensures value { TurnIs (turn_call table.now turn) result }
     ensures promised { Promised OnTurns }
 {
     let mut decoded = [0u8; DECODED];
-    match table_read::read_table(table, &mut decoded) {
-        ReadAnswer::Accepted { terms: _, start } => hall_open::show_turn(
-            &decoded,
-            wide(start),
-            turn,
-        ),
-        ReadAnswer::Refused { number, place } => TurnAnswer::Refused { number, place },
-    }
+    let accepted = table_read::read_table(table, &mut decoded)?;
+    Ok(hall_open::show_turn(&decoded, usize::from(accepted.start), turn))
 }
