@@ -1,5 +1,6 @@
 -- The occupant of a position, as the code reads it.
 -- Assumes nothing.
+use Rattle.std.specs.Prelude.{Some, None}
 use Prim.Native.Nat.{ℕ, ◌+◌, ◌≤◌, ◌<◌}
 use native.Mathlib.Omega.{arith}
 use mathlib.Core.Path.{◌≡◌, ap, ◌∙◌}
@@ -24,7 +25,7 @@ use Rattle.hall_layout.specs.Layout.{waiting_kind, transaction_kind, output_kind
 use Rattle.hall_held.specs.Holds.{Holds, Running}
 use Rattle.hall_held.proofs.Holds.{hall_length, WaitsOn, takes, repeats, blocks, component_at, no_component, component_inside, kind_here, output_here, transaction_here, waiting_here}
 use Rattle.move_tokens.specs.Tokens.{take_of}
-use Rattle.choice_act.specs.declared.occupants.Occupant.TheVariants.{Nothing, Transaction, Output, Block, Take}
+use Rattle.choice_act.specs.declared.occupants.Occupant.TheVariants.{Transaction, Output, Block, Take}
 use Rattle.choice_act.specs.Occupants.{OccupantRead}
 
 -- ---- the bytes there
@@ -71,11 +72,11 @@ kind_read {d} {ts} m named read y t f = read ∙ rw named (term_kind_holds ts d 
 -- ---- the occupant
 
 module _ {d s starts : List ℕ} {n p : ℕ} where
-  pub nothing_read : n ≤ p → OccupantRead d s starts n p Nothing
+  pub nothing_read : n ≤ p → OccupantRead d s starts n p None
   nothing_read l = record { found = λ ts h y x. no_component x p l }
 
   module _ (l : p < n) where
-    pub transaction_read : kind_held s starts p ≡ transaction_kind → OccupantRead d s starts n p Transaction
+    pub transaction_read : kind_held s starts p ≡ transaction_kind → OccupantRead d s starts n p (Some Transaction)
     transaction_read k = record {
       found = λ ts h y x.
           let (c, e) = component_at x p l in
@@ -83,7 +84,7 @@ module _ {d s starts : List ℕ} {n p : ℕ} where
           (body_held s starts p, M, σ, t, e ∙ ap some same);
     }
 
-    pub output_read : kind_held s starts p ≡ output_kind → OccupantRead d s starts n p (Output (body_held s starts p))
+    pub output_read : kind_held s starts p ≡ output_kind → OccupantRead d s starts n p (Some (Output (body_held s starts p)))
     output_read k = record {
       found = λ ts h y x.
           let (c, e) = component_at x p l in e ∙ ap some (output_here x p c e k);
@@ -107,7 +108,7 @@ module _ {d s starts : List ℕ} {n p : ℕ} where
 
       -- and is told by the kind of that term
       module _ {i k : ℕ} (named : i ≡ body_held s starts p) (read : k ≡ kind_at d i) where
-        pub block_read : k ≡ kind_byte atom_k → OccupantRead d s starts n p Block
+        pub block_read : k ≡ kind_byte atom_k → OccupantRead d s starts n p (Some Block)
         unfolding term_kind
         block_read is = record { found = λ ts h y x. let (c, e, w) = waits l no_transaction no_output x in go h y e w }
           where
@@ -117,7 +118,7 @@ module _ {d s starts : List ℕ} {n p : ℕ} where
             go h y e (repeats a P q f) = absurd (let z = kind_read (body_held s starts p) named read y _ f in omega arith)
             go h y e (blocks M q f) = (body_held s starts p, M, e ∙ ap some q)
 
-        pub take_read : (k ≡ kind_byte atom_k → ⊥) → OccupantRead d s starts n p (Take (body_held s starts p))
+        pub take_read : (k ≡ kind_byte atom_k → ⊥) → OccupantRead d s starts n p (Some (Take (body_held s starts p)))
         unfolding term_kind
         take_read other = record { found = λ ts h y x. let (c, e, w) = waits l no_transaction no_output x in go h y e w }
           where

@@ -1,1 +1,2 @@
 pub mod Occupants
+pub mod Acts

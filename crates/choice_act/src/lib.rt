@@ -5,22 +5,23 @@
 
 mod occupants;
 
+ghost use Rattle.std.specs.Prelude.{Some};
 ghost use Rattle.semantics.specs.Definitions.Moves.{act};
 ghost use Rattle.hall_held.specs.Holds.{Running};
-ghost use Rattle.hall_held.specs.Choices.{EntryLooked, EntryMade};
+ghost use Rattle.hall_held.specs.Choices.{EntryLooked};
 ghost use Rattle.choice_act.specs.Occupants.{OccupantRead};
-ghost use Rattle.choice_act.specs.declared.occupants.Occupant.TheVariants.{Transaction, Take};
+ghost use Rattle.choice_act.specs.Acts.{Acted};
+ghost use Rattle.choice_act.specs.declared.occupants.Occupant.TheVariants.{Transaction};
 
-use answers::{ATOK, ATST, NO_COMPONENT, Reply, Shortage};
-use buffer::wide;
+use answers::{Move, Reason, Rule};
 use hall_layout::INDEX_SIZE;
 use occupants::{Occupant, occupant_at};
 use table_terms::DECODED;
 
-// What an entry was answered, and how many components (stations) there are now.
+// An entry that was made: its move, and how many components (stations) there are now.
 #[derive(Clone, Copy)]
-pub struct EntryResult {
-    pub reply: Reply,
+pub struct Made {
+    pub by: Move,
     pub components: usize,
 }
 
@@ -31,21 +32,19 @@ pub fn look_act(
     starts: &[usize; INDEX_SIZE],
     components: usize,
     position: u8,
-) -> Reply
+) -> Result<Move, Reason>
     requires { Running decoded.now hall.now starts.now components }
     ensures { EntryLooked decoded.now hall.now starts.now components
         (act position) result }
 {
-    let p = wide(position);
-    match occupant_at(decoded, hall, starts, components, p) {
-        Occupant::Nothing => Reply::Refused(NO_COMPONENT),
-        // Taken apart, so that the answers of all arms meet in registers and not in memory.
-        Occupant::Transaction => match move_blocks::look_end(decoded, hall, starts[p], components) {
-            Reply::Moved(rule, shortage) => Reply::Moved(rule, shortage),
-            Reply::Refused(number) => Reply::Refused(number),
-        },
+    let p = usize::from(position);
+    let Some(occupant) = occupant_at(decoded, hall, starts, components, p) else {
+        return Err(Reason::NoComponent);
+    };
+    match occupant {
+        Occupant::Transaction => move_blocks::look_end(decoded, hall, starts[p], components),
         Occupant::Output { channel } => move_tokens::look_output(hall, channel),
-        Occupant::Block => Reply::Moved(ATST, Shortage::Enough),
+        Occupant::Block => Ok(Move::by(Rule::Atst)),
         Occupant::Take { term } => move_tokens::look_take(decoded, hall, components, term),
     }
 }
@@ -57,62 +56,23 @@ fn act_end(
     starts: &mut [usize; INDEX_SIZE],
     components: usize,
     position: usize,
-) -> EntryResult
+) -> Result<Made, Reason>
     requires running { Running decoded.now hall.old starts.old components }
-    requires occupant_read { OccupantRead decoded.now hall.old starts.old components position Transaction }
-    ensures { EntryMade decoded.now hall.old starts.old components
-        (act position) result.reply hall.new starts.new result.components }
+    requires occupant_read { OccupantRead decoded.now hall.old starts.old components position (Some Transaction) }
+    ensures { Acted decoded.now hall.old starts.old components
+        (act position) result hall.new starts.new }
 {
-    let begin = starts[position];
-    match move_blocks::look_end(decoded, hall, begin, components) {
-        Reply::Moved(rule, shortage) => {
-            if rule == ATOK {
-                let now = move_blocks::commit(hall, starts, components, position);
-                return EntryResult {
-                    reply: Reply::Moved(rule, shortage),
-                    components: now,
-                };
-            }
-            // ATRE and ATFAIL
+    let by = move_blocks::look_end(decoded, hall, starts[position], components)?;
+    match by.rule {
+        Rule::Atok => {
+            let components = move_blocks::commit(hall, starts, components, position);
+            Ok(Made { by, components })
+        }
+        // Atre and Atfail
+        _ => {
             move_blocks::restart(hall, starts, components, position);
-            EntryResult {
-                reply: Reply::Moved(rule, shortage),
-                components,
-            }
+            Ok(Made { by, components })
         }
-        Reply::Refused(number) => EntryResult {
-            reply: Reply::Refused(number),
-            components,
-        },
-    }
-}
-
-// The entry made at a component that waits on this take, where it is accepted.
-fn act_take(
-    decoded: &[u8; DECODED],
-    hall: &mut [u8],
-    starts: &mut [usize; INDEX_SIZE],
-    components: usize,
-    position: usize,
-    term: u8,
-) -> EntryResult
-    requires running { Running decoded.now hall.old starts.old components }
-    requires occupant_read { OccupantRead decoded.now hall.old starts.old components position (Take term) }
-    ensures { EntryMade decoded.now hall.old starts.old components
-        (act position) result.reply hall.new starts.new result.components }
-{
-    match move_tokens::look_take(decoded, hall, components, term) {
-        Reply::Moved(rule, shortage) => {
-            let now = move_tokens::take(decoded, hall, starts, components, position);
-            EntryResult {
-                reply: Reply::Moved(rule, shortage),
-                components: now,
-            }
-        }
-        Reply::Refused(number) => EntryResult {
-            reply: Reply::Refused(number),
-            components,
-        },
     }
 }
 
@@ -123,38 +83,33 @@ pub fn act(
     starts: &mut [usize; INDEX_SIZE],
     components: usize,
     position: u8,
-) -> EntryResult
+) -> Result<Made, Reason>
     requires { Running decoded.now hall.old starts.old components }
-    ensures { EntryMade decoded.now hall.old starts.old components
-        (act position) result.reply hall.new starts.new result.components }
+    ensures { Acted decoded.now hall.old starts.old components
+        (act position) result hall.new starts.new }
 {
-    let p = wide(position);
-    match occupant_at(decoded, hall, starts, components, p) {
-        Occupant::Nothing => EntryResult {
-            reply: Reply::Refused(NO_COMPONENT),
-            components,
-        },
+    let p = usize::from(position);
+    let Some(acting) = occupant_at(decoded, hall, starts, components, p) else {
+        return Err(Reason::NoComponent);
+    };
+    match acting {
         Occupant::Transaction => act_end(decoded, hall, starts, components, p),
-        Occupant::Output { channel } => match move_tokens::look_output(hall, channel) {
-            Reply::Moved(rule, shortage) => {
-                let now = move_tokens::put(hall, starts, components, p);
-                EntryResult {
-                    reply: Reply::Moved(rule, shortage),
-                    components: now,
-                }
-            }
-            Reply::Refused(number) => EntryResult {
-                reply: Reply::Refused(number),
-                components,
-            },
-        },
+        Occupant::Output { channel } => {
+            let by = move_tokens::look_output(hall, channel)?;
+            let components = move_tokens::put(hall, starts, components, p);
+            Ok(Made { by, components })
+        }
         Occupant::Block => {
             move_blocks::begin(decoded, hall, starts, components, p);
-            EntryResult {
-                reply: Reply::Moved(ATST, Shortage::Enough),
+            Ok(Made {
+                by: Move::by(Rule::Atst),
                 components,
-            }
+            })
         }
-        Occupant::Take { term } => act_take(decoded, hall, starts, components, p, term),
+        Occupant::Take { term } => {
+            let by = move_tokens::look_take(decoded, hall, components, term)?;
+            let components = move_tokens::take(decoded, hall, starts, components, p);
+            Ok(Made { by, components })
+        }
     }
 }

@@ -2,7 +2,6 @@
 ghost use Rattle.hall_held.specs.Holds.{Running};
 ghost use Rattle.choice_act.specs.Occupants.{OccupantRead};
 
-use buffer::wide;
 use hall_layout::{COMPONENT_BODY, INDEX_SIZE, KIND_OUTPUT, KIND_TRANSACTION};
 use table_records::ATOM;
 use table_terms::DECODED;
@@ -10,8 +9,6 @@ use table_terms::DECODED;
 // What stands at a position, by what it does when it acts.
 #[derive(Clone, Copy)]
 pub enum Occupant {
-    // No component has this position.
-    Nothing,
     Transaction,
     Output { channel: u8 },
     // It waits on a block.
@@ -20,32 +17,32 @@ pub enum Occupant {
     Take { term: u8 },
 }
 
-// The occupant of a position.
+// The occupant of a position; none where no component has it.
 pub fn occupant_at(
     decoded: &[u8; DECODED],
     hall: &[u8],
     starts: &[usize; INDEX_SIZE],
     components: usize,
     position: usize,
-) -> Occupant
+) -> Option<Occupant>
     requires { Running decoded.now hall.now starts.now components }
     ensures { OccupantRead decoded.now hall.now starts.now components position
         result }
 {
     if components <= position {
-        return Occupant::Nothing;
+        return None;
     }
     let begin = starts[position];
     let kind = hall[begin];
     if kind == KIND_TRANSACTION {
-        return Occupant::Transaction;
+        return Some(Occupant::Transaction);
     }
     let body = hall[begin + COMPONENT_BODY];
     if kind == KIND_OUTPUT {
-        return Occupant::Output { channel: body };
+        return Some(Occupant::Output { channel: body });
     }
-    if table_terms::kind_at(decoded, wide(body)) == ATOM {
-        return Occupant::Block;
+    if table_terms::kind_at(decoded, usize::from(body)) == ATOM {
+        return Some(Occupant::Block);
     }
-    Occupant::Take { term: body }
+    Some(Occupant::Take { term: body })
 }

@@ -1,21 +1,24 @@
 -- `look_act` meets its contract. Assumes nothing.
-use Rattle.choice_act.proofs.ActReplies.{nothing_looked, transaction_position, end_held, end_told, block_looked}
+use Rattle.choice_act.proofs.ActReplies.{occupant_is, nothing_looked, transaction_position, end_held, end_looked, output_looked, block_looked, take_looked}
 use Rattle.choice_act.proofs.look_act.Goals as goal
 
+pub returns-in_default : goal.returns-in_default
+returns-in_default c = let f = rw c.in_default.is at c.occupant_at.ensures in search nothing_looked
+
 pub bounds-starts-p : goal.bounds-starts-p
-bounds-starts-p c = search transaction_position
+bounds-starts-p c = search (occupant_is, transaction_position)
 
 pub look_end-requires : goal.look_end-requires
-look_end-requires c = search end_held
+look_end-requires c = search (occupant_is, end_held)
 
-pub returns-in-Nothing : goal.returns-in-Nothing
-returns-in-Nothing c = search nothing_looked
+pub returns-in-Transaction : goal.returns-in-Transaction
+returns-in-Transaction c = search (occupant_is, end_looked)
 
-pub returns-in-Moved : goal.returns-in-Moved
-returns-in-Moved c = search end_told
-
-pub returns-in-Refused : goal.returns-in-Refused
-returns-in-Refused c = search end_told
+pub returns-in-Output : goal.returns-in-Output
+returns-in-Output c = search (occupant_is, output_looked)
 
 pub returns-in-Block : goal.returns-in-Block
-returns-in-Block c = search block_looked
+returns-in-Block c = search (occupant_is, block_looked)
+
+pub returns-in-Take : goal.returns-in-Take
+returns-in-Take c = search (occupant_is, take_looked)
