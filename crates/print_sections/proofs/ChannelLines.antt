@@ -4,46 +4,45 @@ use Prim.Native.Nat.{ℕ, suc, ◌+◌, ◌*◌, ◌≤◌, ◌<◌}
 use native.Mathlib.Omega.{arith}
 use native.Mathlib.Numerals.{add-one}
 use mathlib.Core.Path.{◌≡◌, refl, sym, ◌∙◌}
-use mathlib.Core.Bool.{Bool, true, false, ◌&&◌}
+use mathlib.Core.Logic.{◌⊎◌, inl, inr}
+use mathlib.Core.Bool.{false, ◌&&◌}
 use mathlib.Core.List.{List, [], ◌∷◌, ◌++◌, append_assoc, append-nil}
 use lib.ListN.{length, get_or, take}
 use lib.Seq.{take-suc, length-take-le}
 use lib.Dec.{eqb}
-use borrow.Author.Tests.{eq-eqb, eqb-true}
+use borrow.Author.Tests.{eq-eqb, ne_eqb}
 use mir.Syntax.{w8}
 use mir.Val.{Fits}
 use Rattle.semantics.specs.Definitions.Report.{channel_line, channel_lines}
-use Rattle.print_decimals.specs.Wrote.{Wrote}
+use Rattle.print_decimals.specs.declared.Page.{Page}
+use Rattle.print_decimals.specs.Page.{HasRoom, Room, Appended, Printed}
+use Rattle.print_decimals.proofs.Pages.{room_for, printed_none, printed_room, printed_more}
 use Rattle.print_sections.specs.Limits.{channel_most, channels_most}
-use Rattle.print_sections.specs.Printed.{Printed, channel_text}
-use Rattle.print_sections.proofs.Texts.{printed_none, printed_length, printed_room, printed_more}
+use Rattle.print_sections.specs.Printed.{channel_text}
 use Rattle.print_sections.proofs.NumberLines.{channel_length}
 
 -- ---- one channel
 
-module _ (s : List ℕ) (at i f l : ℕ) where
-  pub empty_channel : (a b : ℕ) → a ≡ f → b ≡ l → a + b ≡ 0 → Printed channel_most s at (channel_text i f l) s at
+module _ (p : Page) (i f l : ℕ) where
+  pub empty_channel : f ≡ 0 → l ≡ 0 → Printed channel_most p (channel_text i f l) p
   unfolding channel_text
-  empty_channel a b p q e =
-      rw (eq-eqb f 0 (omega arith), eq-eqb l 0 (omega arith)) (printed_none channel_most s at)
+  empty_channel d e = rw (eq-eqb f 0 d, eq-eqb l 0 e) (printed_none channel_most p)
 
-  module _ (inside : i < 16) (room : at + channel_most ≤ length s) (u : Fits w8 f) (v : Fits w8 l) where
+  module _ (inside : i < 16) (room : HasRoom channel_most p) (u : Fits w8 f) (v : Fits w8 l) where
     short : length (channel_line i f l) ≤ channel_most
     short = channel_length i f l inside (omega (arith, u.fits)) (omega (arith, v.fits))
 
-    pub channel_fits : at + length (channel_line i f l) ≤ length s
-    channel_fits = let n = short in omega arith
+    pub channel_fits : Room p (channel_line i f l)
+    channel_fits = room_for channel_most p _ room short
 
-    pub channel_printed : (a b : ℕ) → a ≡ f → b ≡ l → (a + b ≡ 0 → ⊥) → (s₁ : List ℕ) (r : ℕ) →
-        Wrote s at (channel_line i f l) s₁ r → Printed channel_most s at (channel_text i f l) s₁ r
+    some : ((f ≡ 0) × (l ≡ 0 → ⊥)) ⊎ (f ≡ 0 → ⊥) → (eqb f 0 && eqb l 0) ≡ false
+    some (inl (d, e)) = rw (eq-eqb f 0 d, ne_eqb l 0 e)
+    some (inr d) = rw (ne_eqb f 0 d)
+
+    pub channel_printed : ((f ≡ 0) × (l ≡ 0 → ⊥)) ⊎ (f ≡ 0 → ⊥) → (q : Page) → Appended p (channel_line i f l) q →
+        Printed channel_most p (channel_text i f l) q
     unfolding channel_text
-    channel_printed a b p q some s₁ r w = rw (shown (eqb f 0) (eqb l 0) refl refl) (record { wrote = w; short = short })
-      where
-        shown : (x y : Bool) → eqb f 0 ≡ x → eqb l 0 ≡ y → (x && y) ≡ false
-        shown true true g h =
-            absurd (some (let m = eqb-true f 0 g in let n = eqb-true l 0 h in omega arith))
-        shown true false g h = refl
-        shown false y g h = refl
+    channel_printed e q w = rw (some e) (record { wrote = w; short = short })
 
 -- ---- all of them
 
@@ -68,47 +67,32 @@ lines_next fs ls i p q =
     let z : 0 + length (take i fs) ≡ i = omega arith in
     rw (add-one i, take-suc fs i 0 p, take-suc ls i 0 q) (rw z at n)
 
-pub record ChannelsSoFar (s₀ : List ℕ) (at : ℕ) (fs ls s : List ℕ) (end i : ℕ) : Type 0 where
-  pub firsts : 16 ≤ length fs
-  pub lasts : 16 ≤ length ls
-  pub room : at + channels_most ≤ length s₀
-  pub inside : i ≤ 16
-  pub printed : Printed (channel_most * i) s₀ at (channel_lines 0 (take i fs) (take i ls)) s end
+pub record ChannelsSoFar (p : Page) (fs ls : List ℕ) (q : Page) (i : ℕ) : Type 0 where
+  pub room : HasRoom channels_most p
+  pub printed : Printed (channel_most * i) p (channel_lines 0 (take i fs) (take i ls)) q
 
-module _ (s₀ : List ℕ) (at : ℕ) (fs ls : List ℕ) where
-  pub no_channel : 16 ≤ length fs → 16 ≤ length ls → at + channels_most ≤ length s₀ → ChannelsSoFar s₀ at fs ls s₀ at 0
+module _ (p : Page) (fs ls : List ℕ) where
+  pub no_channel : HasRoom channels_most p → ChannelsSoFar p fs ls p 0
   unfolding channel_lines
-  no_channel f l r =
-      record { firsts = f; lasts = l; room = r; inside = omega arith; printed = printed_none 0 s₀ at }
+  no_channel r = record { room = r; printed = printed_none 0 p }
 
-  module _ (s : List ℕ) (end i : ℕ) (x : ChannelsSoFar s₀ at fs ls s end i) where
-    pub channels_length : length s ≡ length s₀
-    channels_length = let r = x.room in let n = x.inside in printed_length x.printed (omega arith)
+  module _ (q : Page) (i : ℕ) (x : ChannelsSoFar p fs ls q i) where
+    room_here : i < 16 → HasRoom (channel_most * i + channel_most) p
+    room_here l = let r = x.room.fits in record { fits = omega arith }
 
-    pub first_inside : i < 16 → i < length fs
-    first_inside l = let n = x.firsts in omega arith
+    pub next_room : i < 16 → HasRoom channel_most q
+    next_room l = printed_room (channel_most * i) channel_most p _ q (room_here l) x.printed
 
-    pub last_inside : i < 16 → i < length ls
-    last_inside l = let n = x.lasts in omega arith
-
-    pub next_room : i < 16 → end + channel_most ≤ length s
-    next_room l = let r = x.room in printed_room x.printed channel_most (omega arith)
-
-    pub channel_more : i < 16 → (s₁ : List ℕ) (r : ℕ) →
-        Printed channel_most s end (channel_text i (get_or fs i 0) (get_or ls i 0)) s₁ r →
-        ChannelsSoFar s₀ at fs ls s₁ r (i + 1)
-    channel_more l s₁ r y =
-        let o = x.room in
+    pub channel_more : 16 ≤ length fs → 16 ≤ length ls → i < 16 → (r : Page) →
+        Printed channel_most q (channel_text i (get_or fs i 0) (get_or ls i 0)) r → ChannelsSoFar p fs ls r (i + 1)
+    channel_more f g l r y =
         let z : channel_most * i + channel_most ≡ channel_most * (i + 1) = omega arith in
         record {
-          firsts = x.firsts;
-          lasts = x.lasts;
           room = x.room;
-          inside = omega arith;
           printed =
-              rw (lines_next fs ls i (first_inside l) (last_inside l), ← z)
-              (printed_more x.printed channel_most _ s₁ r (omega arith) y);
+              rw (lines_next fs ls i (omega arith) (omega arith), ← z)
+              (printed_more (channel_most * i) channel_most p _ q (room_here l) x.printed _ r y);
         }
 
-    pub all_channels : 16 ≤ i → Printed channels_most s₀ at (channel_lines 0 (take 16 fs) (take 16 ls)) s end
-    all_channels l = let n = x.inside in let z : i ≡ 16 = omega arith in rw z at x.printed
+    pub all_channels : 16 ≤ i → i ≤ 16 → Printed channels_most p (channel_lines 0 (take 16 fs) (take 16 ls)) q
+    all_channels l m = let z : i ≡ 16 = omega arith in rw z at x.printed

@@ -23,13 +23,14 @@ use Rattle.hall_laws.proofs.Cursors.{over, first_byte}
 use Rattle.hall_laws.proofs.Nodes.{few_nodes, leaf_bytes, past_fork}
 use Rattle.hall_held.specs.Holds.{Holds}
 use Rattle.hall_held.proofs.Holds.{hall_length, few_components, component_at, component_ok, component_ends, component_inside, component_here, kind_here, body_here, output_here, waiting_here, transaction_here, snapshot_sixteen, WaitsOn, takes, repeats, blocks}
-use Rattle.print_decimals.specs.Wrote.{Wrote}
+use Rattle.print_decimals.specs.declared.Page.{Page}
+use Rattle.print_decimals.specs.Page.{HasRoom, Room, Appended, Printed}
+use Rattle.print_decimals.proofs.Pages.{room_for, printed_none, printed_room, printed_more}
 use Rattle.theorems.proofs.Decimals.{decimal_short}
 use Rattle.print_lines.specs.Lines.{number_line}
 use Rattle.print_sections.specs.Limits.{component_most, components_most}
-use Rattle.print_sections.specs.Printed.{Printed, CanPrintComponents, ComponentPrinted, ComponentsPrinted}
-use Rattle.print_sections.proofs.Texts.{printed_none, printed_length, printed_room, printed_more}
-use Rattle.print_sections.proofs.NumberLines.{line_one, line_two, one_length, two_length, byte_short}
+use Rattle.print_sections.specs.Printed.{CanPrintComponents, ComponentPrinted, ComponentsPrinted}
+use Rattle.print_sections.proofs.NumberLines.{one_length, two_length, byte_short}
 
 -- ---- the walk over all nodes of a tree
 
@@ -122,10 +123,10 @@ module _ {ts : List Term} {h : Configuration} {s starts : List ℕ} {n : ℕ} (x
 
 -- ---- its line
 
-one_short : (letter n : ℕ) → n < 256 → length (number_line letter (n ∷ 0 ∷ 0 ∷ []) 1) ≤ component_most
+one_short : (letter n : ℕ) → n < 256 → length (number_line letter (n ∷ [])) ≤ component_most
 one_short letter n l = let e = one_length letter n 0 0 in let b = byte_short n l in omega arith
 
-two_short : (letter n k : ℕ) → n < 256 → k ≤ max_nodes → length (number_line letter (n ∷ k ∷ 0 ∷ []) 2) ≤ component_most
+two_short : (letter n k : ℕ) → n < 256 → k ≤ max_nodes → length (number_line letter (n ∷ k ∷ [])) ≤ component_most
 two_short letter n k l m =
     let e = two_length letter n k 0 in
     let b = byte_short n l in
@@ -171,41 +172,38 @@ module _ (s starts : List ℕ) (n p : ℕ) (st : CanPrintComponents s starts n) 
           let c = component_at st.holds p there in
           let l = (left_is st.holds c.0 c.1).0 in omega arith
 
-  module _ (out : List ℕ) (at : ℕ) (room : at + component_most ≤ length out) (body y : ℕ)
+  module _ (page : Page) (room : HasRoom component_most page) (body y : ℕ)
       (b : body ≡ get_or s (get_or starts p 0 + component_body) 0) (z : y ≡ body) where
     body_byte : y < 256
     body_byte =
         let c = component_at st.holds p there in
         let l = body_small st.holds p c.0 c.1 in omega arith
 
-    pub one_fits : (letter : ℕ) → at + length (number_line letter (y ∷ 0 ∷ 0 ∷ []) 1) ≤ length out
-    one_fits letter = let l = one_short letter y body_byte in omega arith
+    pub one_fits : (letter : ℕ) → Room page (number_line letter (y ∷ []))
+    one_fits letter = room_for component_most page _ room (one_short letter y body_byte)
 
-    pub two_fits : (letter k top : ℕ) → top ≡ max_nodes → k ≤ top →
-        at + length (number_line letter (y ∷ k ∷ 0 ∷ []) 2) ≤ length out
-    two_fits letter k top fifteen few = let l = two_short letter y k body_byte (omega arith) in omega arith
+    pub two_fits : (letter k top : ℕ) → top ≡ max_nodes → k ≤ top → Room page (number_line letter (y ∷ k ∷ []))
+    two_fits letter k top fifteen few = room_for component_most page _ room (two_short letter y k body_byte (omega arith))
 
-    pub output_printed : (kind : ℕ) → kind ≡ get_or s (get_or starts p 0) 0 → kind ≡ output_kind → (out₁ : List ℕ) (r : ℕ) →
-        Wrote out at (number_line 80 (y ∷ 0 ∷ 0 ∷ []) 1) out₁ r → ComponentPrinted s starts n p out at out₁ r
-    unfolding component_line
-    output_printed kind k f out₁ r w = record {
+    pub output_printed : (kind : ℕ) → kind ≡ get_or s (get_or starts p 0) 0 → kind ≡ output_kind → (q : Page) →
+        Appended page (number_line 80 (y ∷ [])) q → ComponentPrinted s starts n p page q
+    unfolding component_line number_line
+    output_printed kind k f q w = record {
       found = λ ts h c x e.
-          rw (output_here x p c e (sym k ∙ f), ← b, ← z, ← line_one 80 y 0 0)
-          (record { wrote = w; short = one_short 80 y body_byte });
+          rw (output_here x p c e (sym k ∙ f), ← b, ← z) (record { wrote = w; short = one_short 80 y body_byte });
     }
 
-    pub waiting_printed : (kind : ℕ) → kind ≡ get_or s (get_or starts p 0) 0 → kind ≡ waiting_kind →
-        (out₁ : List ℕ) (r : ℕ) → Wrote out at (number_line 87 (y ∷ 0 ∷ 0 ∷ []) 1) out₁ r →
-        ComponentPrinted s starts n p out at out₁ r
-    unfolding component_line
-    waiting_printed kind k f out₁ r w = record { found = λ ts h c x e. go ts c (waiting_here x p c e (sym k ∙ f)) }
+    pub waiting_printed : (kind : ℕ) → kind ≡ get_or s (get_or starts p 0) 0 → kind ≡ waiting_kind → (q : Page) →
+        Appended page (number_line 87 (y ∷ [])) q → ComponentPrinted s starts n p page q
+    unfolding component_line number_line
+    waiting_printed kind k f q w = record { found = λ ts h c x e. go ts c (waiting_here x p c e (sym k ∙ f)) }
       where
-        short : Printed component_most out at
-            (line 87 (decimal (get_or s (get_or starts p 0 + component_body) 0) ∷ [])) out₁ r
-        short = rw (← b, ← z, ← line_one 87 y 0 0) (record { wrote = w; short = one_short 87 y body_byte })
+        short : Printed component_most page
+            (line 87 (decimal (get_or s (get_or starts p 0 + component_body) 0) ∷ [])) q
+        short = rw (← b, ← z) (record { wrote = w; short = one_short 87 y body_byte })
 
         go : (ts : List Term) (c : Component) → WaitsOn ts (get_or s (get_or starts p 0 + component_body) 0) c →
-            Printed component_most out at (component_line c) out₁ r
+            Printed component_most page (component_line c) q
         go ts c (takes a P q t) = rw q short
         go ts c (repeats a P q t) = rw q short
         go ts c (blocks M q t) = rw q short
@@ -213,22 +211,20 @@ module _ (s starts : List ℕ) (n p : ℕ) (st : CanPrintComponents s starts n) 
     module _ (kind : ℕ) (k : kind ≡ get_or s (get_or starts p 0) 0) (a : kind ≡ output_kind → ⊥) (o : kind ≡ waiting_kind → ⊥)
         (w : Walk) (u : w ≡ passed s max_nodes 1 (get_or starts p 0 + transaction_head)) (top : ℕ)
         (fifteen : top ≡ max_nodes) where
-      pub transaction_printed : (out₁ : List ℕ) (r : ℕ) →
-          Wrote out at (number_line 65 (y ∷ (top - w.left) ∷ 0 ∷ []) 2) out₁ r →
-          ComponentPrinted s starts n p out at out₁ r
-      unfolding component_line
-      transaction_printed out₁ r v = record {
+      pub transaction_printed : (q : Page) → Appended page (number_line 65 (y ∷ (top - w.left) ∷ [])) q →
+          ComponentPrinted s starts n p page q
+      unfolding component_line number_line
+      transaction_printed q v = record {
         found = λ ts h c x e.
             let T = is_transaction kind k a o x c e in
             let l = left_is kind k a o w u x c e in
             let l0 = l.0 in
             let l1 = l.1 in
             let m : nodes T.2 ≡ top - w.left = omega arith in
-            let same : component_line c ≡ number_line 65 (y ∷ (top - w.left) ∷ 0 ∷ []) 2 =
+            let same : component_line c ≡ number_line 65 (y ∷ (top - w.left) ∷ []) =
             ap component_line T.3
             ∙ ap (λ j. line 65 (decimal j ∷ decimal (nodes T.2) ∷ [])) (sym b ∙ sym z)
-            ∙ ap (λ j. line 65 (decimal y ∷ decimal j ∷ [])) m
-            ∙ sym (line_two 65 y (top - w.left) 0) in
+            ∙ ap (λ j. line 65 (decimal y ∷ decimal j ∷ [])) m in
             rw same (record { wrote = v; short = two_short 65 y (top - w.left) body_byte (omega arith) });
       }
 
@@ -246,58 +242,46 @@ lines_next cs p c e = rw (add-one p) (go cs p e)
     go (x ∷ cs) zero e = let q : x ≡ c = cc in rw (q, append-nil) refl
     go (x ∷ cs) (suc p) e = rw (go cs p e) (sym (append_assoc (component_line x) _ _))
 
-pub record ComponentsSoFar (s starts : List ℕ) (n : ℕ) (out₀ : List ℕ) (at : ℕ) (out : List ℕ) (end i : ℕ) :
-    Type 0 where
+pub record ComponentsSoFar (s starts : List ℕ) (n : ℕ) (p q : Page) (i : ℕ) : Type 0 where
   pub standing : CanPrintComponents s starts n
-  pub room : at + components_most ≤ length out₀
-  pub inside : i ≤ n
+  pub room : HasRoom components_most p
   pub printed : (ts : List Term) (h : Configuration) → Holds ts h s starts n →
-      Printed (component_most * i) out₀ at (flatten (map component_line (take i h.components))) out end
+      Printed (component_most * i) p (flatten (map component_line (take i h.components))) q
 
-module _ (s starts : List ℕ) (n : ℕ) (out₀ : List ℕ) (at : ℕ) where
-  pub no_component : CanPrintComponents s starts n → at + components_most ≤ length out₀ →
-      ComponentsSoFar s starts n out₀ at out₀ at 0
+module _ (s starts : List ℕ) (n : ℕ) (p : Page) where
+  pub no_component : CanPrintComponents s starts n → HasRoom components_most p → ComponentsSoFar s starts n p p 0
   unfolding flatten
-  no_component st r =
-      record { standing = st; room = r; inside = omega arith; printed = λ ts h x. printed_none 0 out₀ at }
+  no_component st r = record { standing = st; room = r; printed = λ ts h x. printed_none 0 p }
 
-  module _ (out : List ℕ) (end i : ℕ) (y : ComponentsSoFar s starts n out₀ at out end i) where
+  module _ (q : Page) (i : ℕ) (y : ComponentsSoFar s starts n p q i) where
     few : n ≤ 64
     few = few_components y.standing.holds
 
-    here : Printed (component_most * i) out₀ at
-        (flatten (map component_line (take i y.standing.configuration.components))) out end
-    here = y.printed _ _ y.standing.holds
+    room_here : i < n → HasRoom (component_most * i + component_most) p
+    room_here l = let f = few in let r = y.room.fits in record { fits = omega arith }
 
-    pub components_length : length out ≡ length out₀
-    components_length = let f = few in let r = y.room in let o = y.inside in printed_length here (omega arith)
+    pub component_room : i < n → HasRoom component_most q
+    component_room l =
+        printed_room (component_most * i) component_most p _ q (room_here l) (y.printed _ _ y.standing.holds)
 
-    pub component_room : i < n → end + component_most ≤ length out
-    component_room l = let f = few in let r = y.room in printed_room here component_most (omega arith)
-
-    pub component_more : i < n → (out₁ : List ℕ) (r : ℕ) → ComponentPrinted s starts n i out end out₁ r →
-        ComponentsSoFar s starts n out₀ at out₁ r (i + 1)
-    component_more l out₁ r v =
-        let f = few in
-        let o = y.room in
+    pub component_more : i < n → (r : Page) → ComponentPrinted s starts n i q r → ComponentsSoFar s starts n p r (i + 1)
+    component_more l r v =
         let z : component_most * i + component_most ≡ component_most * (i + 1) = omega arith in
         record {
           standing = y.standing;
           room = y.room;
-          inside = omega arith;
           printed = λ ts h x.
               let c = component_at x i l in
               rw (lines_next h.components i c.0 c.1, ← z)
-              (printed_more (y.printed ts h x) component_most _ out₁ r (omega arith) (v.found ts h c.0 x c.1));
+              (printed_more (component_most * i) component_most p _ q (room_here l) (y.printed ts h x) _ r (v.found ts h c.0 x c.1));
         }
 
-    pub all_components : n ≤ i → ComponentsPrinted s starts n out₀ at out end
-    all_components l = record {
+    pub all_components : n ≤ i → i ≤ n → ComponentsPrinted s starts n p q
+    all_components l m = record {
       found = λ ts h x.
-          let o = y.inside in
-          let m = x.counted in
+          let k = x.counted in
           let f = few in
-          let p = y.printed ts h x in
+          let v = y.printed ts h x in
           let a : take i h.components ≡ h.components = take_all i h.components (omega arith) in
-          record { wrote = rw a at p.wrote; short = let q = rw a at p.short in omega arith };
+          record { wrote = rw a at v.wrote; short = let o = rw a at v.short in omega arith };
     }

@@ -2,44 +2,29 @@
 -- Assumes nothing.
 use Prim.Native.Nat.{ℕ, zero, suc, ◌+◌, ◌-◌, ◌≤◌, ◌<◌}
 use native.Mathlib.Omega.{arith}
-use mathlib.Core.Path.{◌≡◌, sym, ap, ◌∙◌}
+use mathlib.Core.Path.{◌≡◌}
 use mathlib.Core.Bool.{Bool, true, false, cond}
-use mathlib.Core.List.{[], ◌∷◌, ◌++◌, append_assoc, append-nil, flatten}
+use mathlib.Core.List.{[], ◌∷◌, flatten}
 use lib.ListN.{length, length-append}
 use lib.IntN.{pos, negsuc}
 use lib.Dec.{ltb}
 use Rattle.semantics.specs.Definitions.Run.{net}
 use Rattle.semantics.specs.Definitions.Report.{decimal, signed, line, channel_line}
-use Rattle.print_lines.specs.Lines.{words_of, number_line}
+use Rattle.print_lines.specs.Lines.{number_line}
 use Rattle.theorems.proofs.Decimals.{decimal_short}
 
 module _ (letter a b c : ℕ) where
-  pub line_one : number_line letter (a ∷ b ∷ c ∷ []) 1 ≡ line letter (decimal a ∷ [])
-  unfolding number_line words_of line flatten
-  line_one = ap (λ y. letter ∷ 32 ∷ (y ++ (10 ∷ []))) (sym (append-nil (decimal a)))
-
-  pub line_two : number_line letter (a ∷ b ∷ c ∷ []) 2 ≡ line letter (decimal a ∷ decimal b ∷ [])
-  unfolding number_line words_of line flatten
-  line_two = ap (λ y. letter ∷ 32 ∷ ((decimal a ++ (32 ∷ y)) ++ (10 ∷ []))) (sym (append-nil (decimal b)))
-
-  pub line_three : number_line letter (a ∷ b ∷ c ∷ []) 3 ≡ line letter (decimal a ∷ decimal b ∷ decimal c ∷ [])
-  unfolding number_line words_of line flatten
-  line_three =
-      ap (λ y. letter ∷ 32 ∷ (y ++ (10 ∷ [])))
-      (append_assoc (decimal a) (32 ∷ decimal b) (32 ∷ decimal c)
-      ∙ ap (λ y. decimal a ++ (32 ∷ (decimal b ++ (32 ∷ y)))) (sym (append-nil (decimal c))))
-
-  pub one_length : length (number_line letter (a ∷ b ∷ c ∷ []) 1) ≡ 3 + length (decimal a)
-  unfolding number_line words_of
+  pub one_length : length (number_line letter (a ∷ [])) ≡ 3 + length (decimal a)
+  unfolding number_line line flatten
   one_length = simp length-append (omega arith)
 
-  pub two_length : length (number_line letter (a ∷ b ∷ c ∷ []) 2) ≡ 4 + length (decimal a) + length (decimal b)
-  unfolding number_line words_of
+  pub two_length : length (number_line letter (a ∷ b ∷ [])) ≡ 4 + length (decimal a) + length (decimal b)
+  unfolding number_line line flatten
   two_length = simp length-append (omega arith)
 
-  pub three_length : length (number_line letter (a ∷ b ∷ c ∷ []) 3)
+  pub three_length : length (number_line letter (a ∷ b ∷ c ∷ []))
       ≡ 5 + length (decimal a) + length (decimal b) + length (decimal c)
-  unfolding number_line words_of
+  unfolding number_line line flatten
   three_length = simp length-append (omega arith)
 
 -- ---- a byte, and a net

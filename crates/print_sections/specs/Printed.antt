@@ -2,21 +2,17 @@
 --
 -- s has the bytes of a configuration (hall) that is held, starts the index of its n components (stations).
 -- Assumes nothing.
-use Rattle.std.specs.Prelude.{ℕ, ◌≤◌, ◌≡◌, cond, ◌&&◌, length, eqb}
+use Rattle.std.specs.Prelude.{ℕ, ◌≡◌, cond, ◌&&◌, eqb}
 use Rattle.std.proofs.Math.Option.{some}
 use mathlib.Core.List.{List, [], map, flatten}
 use Rattle.std.proofs.Math.ListN.{get_elem?}
 use Rattle.semantics.specs.Definitions.Terms.{Term}
 use Rattle.semantics.specs.Definitions.Configuration.{Component, Configuration}
 use Rattle.semantics.specs.Definitions.Report.{channel_line, component_line}
-use Rattle.print_decimals.specs.Wrote.{Wrote}
+use Rattle.print_decimals.specs.declared.Page.{Page}
+use Rattle.print_decimals.specs.Page.{Printed}
 use Rattle.hall_held.specs.Holds.{Holds}
 use Rattle.print_sections.specs.Limits.{component_most, components_most}
-
--- v stands from an offset on, up to another, and all else is as it was; v is at most so long
-pub record Printed (most : ℕ) (before : List ℕ) (from : ℕ) (v after : List ℕ) (to : ℕ) : Type 0 where
-  pub wrote : Wrote before from v after to
-  pub short : length v ≤ most
 
 -- ---- channels (trays)
 
@@ -33,14 +29,12 @@ pub record CanPrintComponents (s starts : List ℕ) (n : ℕ) : Type 0 where
   pub configuration : Configuration
   pub holds : Holds terms configuration s starts n
 
--- the line of component number p, whichever configuration of whichever table is held
-pub record ComponentPrinted (s starts : List ℕ) (n p : ℕ) (before : List ℕ) (from : ℕ) (after : List ℕ) (to : ℕ) :
-    Type 0 where
+-- the line of component number i, whichever configuration of whichever table is held
+pub record ComponentPrinted (s starts : List ℕ) (n i : ℕ) (p q : Page) : Type 0 where
   pub found : (ts : List Term) (h : Configuration) (c : Component) → Holds ts h s starts n →
-      get_elem? h.components p ≡ some c → Printed component_most before from (component_line c) after to
+      get_elem? h.components i ≡ some c → Printed component_most p (component_line c) q
 
 -- the lines of all components
-pub record ComponentsPrinted (s starts : List ℕ) (n : ℕ) (before : List ℕ) (from : ℕ) (after : List ℕ) (to : ℕ) :
-    Type 0 where
+pub record ComponentsPrinted (s starts : List ℕ) (n : ℕ) (p q : Page) : Type 0 where
   pub found : (ts : List Term) (h : Configuration) → Holds ts h s starts n →
-      Printed components_most before from (flatten (map component_line h.components)) after to
+      Printed components_most p (flatten (map component_line h.components)) q

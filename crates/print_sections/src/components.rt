@@ -1,12 +1,14 @@
 // The lines of components (stations).
-ghost use Rattle.std.specs.Prelude.{◌+◌, ◌≤◌, ◌<◌, length};
+ghost use Rattle.std.specs.Prelude.{◌<◌};
+ghost use Rattle.print_decimals.specs.Page.{HasRoom};
 ghost use Rattle.print_sections.specs.Limits.{component_most, components_most};
 ghost use Rattle.print_sections.specs.Printed.{CanPrintComponents, ComponentPrinted, ComponentsPrinted};
 
-use buffer::{byte_at, wide};
+use buffer::byte_at;
 use hall_layout::{
     COMPONENT_BODY, INDEX_SIZE, KIND_OUTPUT, KIND_WAITING, MAX_NODES, TRANSACTION_HEAD,
 };
+use print_decimals::Page;
 use print_lines::{LETTER_OUTPUT, LETTER_TRANSACTION, LETTER_WAITING, write_line};
 
 // The line of the component at a position: the channel of an output, the term of one that waits, the term of a
@@ -16,26 +18,24 @@ fn component_line(
     starts: &[usize; INDEX_SIZE],
     components: usize,
     position: usize,
-    out: &mut [u8],
-    at: usize,
-) -> usize
+    page: &mut Page<'_>,
+)
     requires { CanPrintComponents hall.now starts.now components × (position < components)
-        × (at + component_most ≤ length out.old) }
-    ensures { ComponentPrinted hall.now starts.now components position out.old
-        at out.new result }
+        × HasRoom component_most page.old }
+    ensures { ComponentPrinted hall.now starts.now components position page.old page.new }
 {
     let begin = starts[position];
     let kind = byte_at(hall, begin);
-    let body = byte_at(hall, begin + COMPONENT_BODY);
+    let body = usize::from(byte_at(hall, begin + COMPONENT_BODY));
     if kind == KIND_OUTPUT {
-        return write_line(out, at, LETTER_OUTPUT, [wide(body), 0, 0], 1);
+        write_line(page, LETTER_OUTPUT, &[body]);
+    } else if kind == KIND_WAITING {
+        write_line(page, LETTER_WAITING, &[body]);
+    } else {
+        let walk = hall_layout::pass_nodes(hall, begin + TRANSACTION_HEAD, MAX_NODES);
+        let nodes = usize::from(MAX_NODES) - walk.left;
+        write_line(page, LETTER_TRANSACTION, &[body, nodes]);
     }
-    if kind == KIND_WAITING {
-        return write_line(out, at, LETTER_WAITING, [wide(body), 0, 0], 1);
-    }
-    let walk = hall_layout::pass_nodes(hall, begin + TRANSACTION_HEAD, MAX_NODES);
-    let nodes = wide(MAX_NODES) - walk.left;
-    write_line(out, at, LETTER_TRANSACTION, [wide(body), nodes, 0], 2)
 }
 
 // The lines of all components, in order.
@@ -43,18 +43,12 @@ pub fn component_lines(
     hall: &[u8],
     starts: &[usize; INDEX_SIZE],
     components: usize,
-    out: &mut [u8],
-    at: usize,
-) -> usize
-    requires { CanPrintComponents hall.now starts.now components × (at + components_most ≤ length out.old) }
-    ensures { ComponentsPrinted hall.now starts.now components out.old at
-        out.new result }
+    page: &mut Page<'_>,
+)
+    requires { CanPrintComponents hall.now starts.now components × HasRoom components_most page.old }
+    ensures { ComponentsPrinted hall.now starts.now components page.old page.new }
 {
-    let mut end = at;
-    let mut position: usize = 0;
-    while position < components {
-        end = component_line(hall, starts, components, position, out, end);
-        position += 1;
+    for position in 0..components {
+        component_line(hall, starts, components, position, page);
     }
-    end
 }

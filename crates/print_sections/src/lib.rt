@@ -8,35 +8,40 @@ mod totals;
 
 ghost use Rattle.std.specs.Prelude.{◌≤◌, length};
 ghost use Rattle.semantics.specs.Definitions.Layout.{channels as Layout·channels};
+ghost use Rattle.print_decimals.specs.Page.{HasRoom};
 ghost use Rattle.print_sections.specs.Limits.{lines_most};
 ghost use Rattle.print_sections.specs.Printed.{CanPrintComponents};
 ghost use Rattle.print_sections.specs.Totals.{LinesPrinted};
 
-use answers::RunAsNumbers;
+use answers::{RunAnswer, outcome_number};
 use channels::channel_lines;
 pub use channels::counts_of;
 use components::component_lines;
 use hall_layout::INDEX_SIZE;
+use print_decimals::Page;
 use totals::counters_line;
 pub use totals::run_line;
 
-// The lines of a run whose last hall is held, all sections in order: the answer is the offset behind them.
+// The lines of a run whose last hall is held, all sections in order.
 pub fn print_lines(
     hall: &[u8],
     starts: &[usize; INDEX_SIZE],
     components: usize,
     first: &[u8],
-    numbers: RunAsNumbers,
-    out: &mut [u8],
-) -> usize
+    answer: RunAnswer,
+    page: &mut Page<'_>,
+)
     requires { CanPrintComponents hall.now starts.now components × (Layout·channels ≤ length first.now)
-        × (lines_most ≤ length out.old) }
-    ensures { LinesPrinted hall.now starts.now components first.now numbers
-        out.old out.new result }
+        × HasRoom lines_most page.old }
+    ensures { LinesPrinted hall.now starts.now components first.now answer page.old page.new }
 {
-    let counters = numbers.counters;
-    let behind_run = run_line(out, numbers.number, numbers.place, numbers.done);
-    let behind_counters = counters_line(out, behind_run, counters);
-    let behind_channels = channel_lines(out, behind_counters, first, hall);
-    component_lines(hall, starts, components, out, behind_channels)
+    run_line(
+        page,
+        outcome_number(answer.outcome),
+        answer.place,
+        answer.done,
+    );
+    counters_line(page, answer.counters);
+    channel_lines(page, first, hall);
+    component_lines(hall, starts, components, page);
 }

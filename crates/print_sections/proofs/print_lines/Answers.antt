@@ -1,11 +1,30 @@
 -- Printing the lines of a run meets its contract.
 -- Assumes nothing.
-use borrow.Author.Rules.{rules}
-use Rattle.print_sections.proofs.AllLines.{hall_long, lines_printed}
+use Rattle.std.proofs.Common.{rules}
+use Rattle.print_sections.proofs.AllLines.{hall_long, run_fits, counters_fit, channels_fit, components_fit, lines_printed}
 use Rattle.print_sections.proofs.print_lines.Goals as goal
 
-pub channel_lines-behind_channels-requires : goal.channel_lines-behind_channels-requires
-channel_lines-behind_channels-requires c = (search (hall_long, rules), search hall_long, search rules)
+pub run_line-requires : goal.run_line-requires
+run_line-requires c = search (run_fits, rules)
+
+pub counters_line-requires : goal.counters_line-requires
+counters_line-requires c = counters_fit c.args.hall.now c.args.starts.now c.args.components c.args.first.now c.args.answer
+    _ c.requires.2 _ c.outcome_number.ensures _ c.run_line.ensures
+
+pub channel_lines-requires : goal.channel_lines-requires
+channel_lines-requires c = (
+  c.requires.1,
+  search hall_long,
+  channels_fit c.args.hall.now c.args.starts.now c.args.components c.args.first.now c.args.answer
+      _ c.requires.2 _ c.outcome_number.ensures _ c.run_line.ensures _ c.counters_line.ensures,
+)
+
+pub component_lines-requires : goal.component_lines-requires
+component_lines-requires c = (
+  c.requires.0,
+  components_fit c.args.hall.now c.args.starts.now c.args.components c.args.first.now c.args.answer
+      _ c.requires.2 _ c.outcome_number.ensures _ c.run_line.ensures _ c.counters_line.ensures _ c.channel_lines.ensures,
+)
 
 pub returns : goal.returns
 returns c = search lines_printed
