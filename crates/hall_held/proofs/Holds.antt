@@ -5,7 +5,7 @@ use Prim.Native.Nat.{ℕ, zero, suc, ◌+◌, ◌-◌, ◌≤◌, ◌<◌}
 use native.Mathlib.Omega.{arith}
 use mathlib.Core.Path.{◌≡◌, refl, sym, ap, ◌∙◌}
 use mathlib.Core.Option.{Option, none, some}
-use Rattle.std.specs.Prelude.{Some}
+use Rattle.std.specs.Prelude.{Some, None}
 use mathlib.Core.List.{List, [], ◌∷◌, ◌++◌, map, flatten, append_assoc}
 use lib.ListN.{length, get_or, take, drop, replicate, get_elem?, get_or-append}
 use lib.Seq.{get_or-take, get_or-drop, take_at}
@@ -21,7 +21,6 @@ use Rattle.semantics.specs.Checks.AcceptedTables.{GoodTable}
 use Rattle.theorems.proofs.Lists.{found_below, found_at, all_at}
 use Rattle.theorems.proofs.RoundTrip.{read_is_well_formed}
 use Rattle.table_terms.specs.Decoded.{Decoded}
-use Rattle.hall_layout.specs.declared.NodeStart.TheVariants.{At, Nowhere}
 use Rattle.hall_layout.specs.Layout.{channels, hall_bytes, max_components, index_size, waiting_kind, transaction_kind, output_kind, component_body, idle_size, transaction_head}
 use Rattle.hall_layout.specs.Nodes.{node_start, tree_end}
 use Rattle.hall_laws.specs.Positions.{all_bytes, used_of, start_of, Context, before, behind, Node, node, beyond, subtree_at}
@@ -113,7 +112,7 @@ module _ (k n : ℕ) where
 pub record NodeAt (s starts : List ℕ) (p : ℕ) (t : Tree) (k at : ℕ) (y : Context) (u : Tree) : Type 0 where
   pub there : subtree_at t k ≡ node y u
   pub begins : at ≡ get_or starts p 0 + transaction_head + length (before y)
-  pub found : node_start s (get_or starts p 0 + transaction_head) k ≡ At at
+  pub found : node_start s (get_or starts p 0 + transaction_head) k ≡ Some at
   pub ends : tree_end s at ≡ at + length (tree_bytes u)
   pub bytes : drop at s ≡ tree_bytes u ++ (behind y ++ drop (get_or starts (p + 1) 0) s)
 
@@ -261,13 +260,13 @@ module _ {ts : List Term} {h : Configuration} {s starts : List ℕ} {n : ℕ} (x
         let next = sym (rest_here p (transaction m M σ t) e) in
         record { there = f; begins = refl; found = r.0; ends = r.1; bytes = here ∙ ap (λ w. tree_bytes u ++ (behind y ++ w)) next }
 
-    pub node_missing : (k j : ℕ) → subtree_at t k ≡ beyond j → node_start s (get_or starts p 0 + transaction_head) k ≡ Nowhere
+    pub node_missing : (k j : ℕ) → subtree_at t k ≡ beyond j → node_start s (get_or starts p 0 + transaction_head) k ≡ None
     node_missing k j f =
         let l = position_below p (transaction m M σ t) e in
         rw (start_here p (omega arith), x.bytes) (hall_no_node ts h x.form p m M σ t e k j f)
 
     -- what code finds where it looks for a node
-    pub node_found : (k at : ℕ) → node_start s (get_or starts p 0 + transaction_head) k ≡ At at →
+    pub node_found : (k at : ℕ) → node_start s (get_or starts p 0 + transaction_head) k ≡ Some at →
         (y : Context) × (u : Tree) × NodeAt s starts p t k at y u
     node_found k at f = go (subtree_at t k) refl
       where
@@ -277,7 +276,7 @@ module _ {ts : List Term} {h : Configuration} {s starts : List ℕ} {n : ℕ} (x
             let z : get_or starts p 0 + transaction_head + length (before y) ≡ at = cc in (y, u, rw z at w)
         go (beyond j) g = let w = node_missing k j g in let z : ◌≡◌ {A = ℕ} 0 1 = cc in absurd (omega arith)
 
-    pub node_nowhere : (k : ℕ) → node_start s (get_or starts p 0 + transaction_head) k ≡ Nowhere → (j : ℕ) × (subtree_at t k ≡ beyond j)
+    pub node_nowhere : (k : ℕ) → node_start s (get_or starts p 0 + transaction_head) k ≡ None → (j : ℕ) × (subtree_at t k ≡ beyond j)
     node_nowhere k f = go (subtree_at t k) refl
       where
         go : (N : Node) → subtree_at t k ≡ N → (j : ℕ) × (subtree_at t k ≡ beyond j)

@@ -8,7 +8,7 @@ use mathlib.Core.List.{List}
 use lib.ListN.{get_or}
 use lib.Dec.{eqb}
 use borrow.Author.Tests.{eq-eqb, ne_eqb}
-use Rattle.hall_layout.specs.declared.NodeStart.TheVariants.{At, Nowhere}
+use Rattle.std.specs.Prelude.{Some, None}
 use Rattle.hall_layout.specs.declared.Walk.{Walk}
 use Rattle.hall_layout.specs.Layout.{fork_kind, fork_size, leaf_size, max_nodes}
 use Rattle.hall_layout.specs.Nodes.{node_size, pending_behind, passed, node_start, tree_end}
@@ -85,11 +85,11 @@ module _ (s : List ℕ) where
 
 module _ (s : List ℕ) (tree : ℕ) where
   module _ (k : ℕ) (w : Walk) (e : w ≡ passed s k 1 tree) where
-    pub no_node : w.pending ≡ 0 → Nowhere ≡ node_start s tree k
+    pub no_node : w.pending ≡ 0 → None ≡ node_start s tree k
     unfolding node_start
     no_node h = rw (← e, eq-eqb _ _ h)
 
-    pub node_found : (w.pending ≡ 0 → ⊥) → At w.at ≡ node_start s tree k
+    pub node_found : (w.pending ≡ 0 → ⊥) → Some w.at ≡ node_start s tree k
     unfolding node_start
     node_found h = rw (← e, ne_eqb _ _ h)
 

@@ -1,8 +1,6 @@
 -- The walk over the nodes of a transaction, in preorder, on any list of bytes.
 -- Assumes nothing.
-use Rattle.std.specs.Prelude.{ℕ, zero, suc, ◌+◌, ◌-◌, cond, List, get_or, eqb}
-use Rattle.hall_layout.specs.declared.NodeStart.{NodeStart}
-use Rattle.hall_layout.specs.declared.NodeStart.TheVariants.{At, Nowhere}
+use Rattle.std.specs.Prelude.{ℕ, zero, suc, ◌+◌, ◌-◌, cond, List, get_or, eqb, Option, Some, None}
 use Rattle.hall_layout.specs.declared.Walk.{Walk}
 use Rattle.hall_layout.specs.Layout.{fork_kind, fork_size, leaf_size, max_nodes}
 
@@ -25,10 +23,10 @@ passed s zero p at = record { at = at; pending = p; left = 0 }
 passed s (suc n) zero at = record { at = at; pending = 0; left = suc n }
 passed s (suc n) (suc p) at = passed s n (pending_behind (get_or s at 0) (suc p)) (at + node_size (get_or s at 0))
 
--- where node number k of the tree that begins at an offset begins: there is none where no subtree is to come
-unfoldable pub node_start : List ℕ → ℕ → ℕ → NodeStart
+-- where node number k of the tree that begins at an offset begins, if there is one: there is none where no subtree is to come
+unfoldable pub node_start : List ℕ → ℕ → ℕ → Option ℕ
 unfolding passed
-node_start s tree k = cond (eqb (passed s k 1 tree).pending 0) Nowhere (At (passed s k 1 tree).at)
+node_start s tree k = cond (eqb (passed s k 1 tree).pending 0) None (Some (passed s k 1 tree).at)
 
 -- the end of the tree of at most 8 branches that begins at an offset
 unfoldable pub tree_end : List ℕ → ℕ → ℕ

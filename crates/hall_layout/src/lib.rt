@@ -71,13 +71,6 @@ pub const INDEX_SIZE: usize = MAX_COMPONENTS + 1;
 // The nodes of a transaction of as many branches as there may be: a fork for each leaf but one.
 pub const MAX_NODES: u8 = 2 * MAX_BRANCHES - 1;
 
-// An offset, where there is one.
-#[derive(Clone, Copy)]
-pub enum NodeStart {
-    At(usize),
-    Nowhere,
-}
-
 // How far a walk came over a tree's nodes: the offset, how many subtrees are still to come there, and how many nodes
 // were still to be passed.
 #[derive(Clone, Copy)]
@@ -138,16 +131,17 @@ pub fn pass_nodes(s: &[u8], tree: usize, nodes: u8) -> Walk
     }
 }
 
-// Where node number k, in preorder, of the tree that begins at an offset begins.
-pub fn node_start(s: &[u8], tree: usize, k: u8) -> NodeStart
+// Where node number k, in preorder, of the tree that begins at an offset begins, if there is one.
+pub fn node_start(s: &[u8], tree: usize, k: u8) -> Option<usize>
     requires { tree ≤ length s.now }
     ensures { result ≡ node_start s.now tree k }
 {
     let walk = pass_nodes(s, tree, k);
     if walk.pending == 0 {
-        return NodeStart::Nowhere;
+        None
+    } else {
+        Some(walk.at)
     }
-    NodeStart::At(walk.at)
 }
 
 // The end of the tree of at most 8 branches that begins at an offset.

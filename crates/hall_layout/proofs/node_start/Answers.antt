@@ -5,5 +5,5 @@ use Rattle.hall_layout.proofs.node_start.Goals as goal
 pub returns-then-walk-eq0 : goal.returns-then-walk-eq0
 returns-then-walk-eq0 c = search no_node
 
-pub returns : goal.returns
-returns c = search node_found
+pub returns-else-walk-eq0 : goal.returns-else-walk-eq0
+returns-else-walk-eq0 c = search node_found
