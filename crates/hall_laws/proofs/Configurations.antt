@@ -21,7 +21,7 @@ use Rattle.theorems.proofs.Trees.{length_padded, padded_of}
 use Rattle.theorems.proofs.RoundTrip.{stored_fits}
 use Rattle.buffer.specs.Splice.{written, spliced, CanShift}
 use Rattle.buffer.proofs.Splices.{get_d_padded, spliced_length, spliced_mid}
-use Rattle.hall_layout.specs.declared.NodeStart.TheVariants.{At, Nowhere}
+use Rattle.std.specs.Prelude.{Some, None}
 use Rattle.hall_layout.specs.Layout.{transaction_kind, channels, hall_bytes, transaction_head, max_branches}
 use Rattle.hall_layout.specs.Nodes.{node_start, tree_end}
 use Rattle.hall_laws.specs.Positions.{all_bytes, used_of, start_of, FitsHall, BySplice, Context, plug, before, behind, node, beyond, subtree_at}
@@ -157,7 +157,7 @@ module _ (ts : List Term) (h : Configuration) (w : WellFormed ts h) (p n : ℕ) 
 
   -- node number k of a transaction begins where the bytes before it end, and the subtree there ends where its own do
   pub hall_node : (k : ℕ) (x : Context) (u : Tree) → subtree_at t k ≡ node x u →
-      (node_start (bytes_of h) (start_of h.components p + transaction_head) k ≡ At (start_of h.components p + transaction_head + length (before x)))
+      (node_start (bytes_of h) (start_of h.components p + transaction_head) k ≡ Some (start_of h.components p + transaction_head + length (before x)))
       × (tree_end (bytes_of h) (start_of h.components p + transaction_head + length (before x))
       ≡ start_of h.components p + transaction_head + length (before x) + length (tree_bytes u))
   unfolding ComponentOk
@@ -171,7 +171,7 @@ module _ (ts : List Term) (h : Configuration) (w : WellFormed ts h) (p n : ℕ) 
         tree_ends ts u (bytes_of h) _ _ o (node_cursor h w.channel_counts.0 p n M σ t e ok.1.0 k x u f) (omega arith),
       )
 
-  pub hall_no_node : (k j : ℕ) → subtree_at t k ≡ beyond j → node_start (bytes_of h) (start_of h.components p + transaction_head) k ≡ Nowhere
+  pub hall_no_node : (k j : ℕ) → subtree_at t k ≡ beyond j → node_start (bytes_of h) (start_of h.components p + transaction_head) k ≡ None
   unfolding ComponentOk
   hall_no_node k j f = node_missing ts t (bytes_of h) _ _ in_order_holds.2 (nodes_cursor h w.channel_counts.0 p n M σ t e in_order_holds.1.0) k j f
 

@@ -17,7 +17,7 @@ use Rattle.semantics.specs.Definitions.Moves.{NodeAnswer, evolves, no_rule, out_
 use Rattle.theorems.proofs.Measures.{branches_positive}
 use Rattle.theorems.proofs.Trees.{length_padded}
 use Rattle.theorems.proofs.Walk.{in_left, in_right, move_at_root, node_induction}
-use Rattle.hall_layout.specs.declared.NodeStart.TheVariants.{At, Nowhere}
+use Rattle.std.specs.Prelude.{Some, None}
 use Rattle.hall_layout.specs.declared.Walk.{Walk}
 use Rattle.hall_layout.specs.Layout.{fork_kind, leaf_kind, leaf_size, max_actions, max_branches, max_nodes, fork_size}
 use Rattle.hall_layout.specs.Nodes.{node_size, pending_behind, passed, node_start, tree_end}
@@ -131,11 +131,11 @@ module _ (ts : List Term) (t : Tree) (s : List ℕ) (at : ℕ) (rest : List ℕ)
   passed_all k j n = (rw n at (finds_node ts t s at 0 k rest ok e)) ∙ passed_over s j (at + length (tree_bytes t))
 
   -- node number k begins behind the bytes before it, and there is none past the last
-  pub node_starts : (k : ℕ) (c : Context) (u : Tree) → subtree_at t k ≡ node c u → node_start s at k ≡ At (at + length (before c))
+  pub node_starts : (k : ℕ) (c : Context) (u : Tree) → subtree_at t k ≡ node c u → node_start s at k ≡ Some (at + length (before c))
   unfolding node_start
   node_starts k c u n = let w = passed_to k c u n in rw (w.1, ne_eqb (suc w.0) 0 (λ z. omega arith))
 
-  pub node_missing : (k j : ℕ) → subtree_at t k ≡ beyond j → node_start s at k ≡ Nowhere
+  pub node_missing : (k j : ℕ) → subtree_at t k ≡ beyond j → node_start s at k ≡ None
   unfolding node_start
   node_missing k j n = rw (passed_all k j n)
 

@@ -6,7 +6,7 @@ use mathlib.Core.Path.{◌≡◌, refl, sym, ap, ◌∙◌}
 use mathlib.Core.Option.{some}
 use mathlib.Core.List.{List, [], ◌∷◌}
 use lib.ListN.{length, get_or, get_elem?}
-use Rattle.std.specs.Prelude.{Result, Ok, Err}
+use Rattle.std.specs.Prelude.{Option, Some, None, Result, Ok, Err}
 use Rattle.calculus.specs.Syntax.{State}
 use Rattle.semantics.specs.Definitions.Terms.{Expression, Term}
 use Rattle.semantics.specs.Definitions.Configuration.{Tree, transaction, Configuration}
@@ -17,8 +17,6 @@ use Rattle.answers.specs.declared.refusals.Reason.{Reason}
 use Rattle.answers.specs.declared.refusals.Reason.TheVariants.{NoNode}
 use Rattle.answers.specs.declared.replies.Move.{Move}
 use Rattle.answers.specs.Answers.{number_of_rule, reason_number, shortage_of, reply_of}
-use Rattle.hall_layout.specs.declared.NodeStart.{NodeStart}
-use Rattle.hall_layout.specs.declared.NodeStart.TheVariants.{At, Nowhere}
 use Rattle.hall_layout.specs.Layout.{idle_size, transaction_head}
 use Rattle.hall_layout.specs.Nodes.{node_start}
 use Rattle.hall_laws.specs.Positions.{Context, node, beyond, subtree_at, around}
@@ -90,7 +88,7 @@ module _ {ts : List Term} {h : Configuration} {d s starts : List ℕ} {n p at : 
       let o = there in snapshot_of_holds o.number o.block o.snapshot o.nodes o.there
 
   -- a node that code has found
-  found_node : (k place : ℕ) → node_start s (at + transaction_head) k ≡ At place →
+  found_node : (k place : ℕ) → node_start s (at + transaction_head) k ≡ Some place →
       (y : Context) × (u : Tree) × NodeAt s starts p there.nodes k place y u ×
       TreeAndCountsAt ts u there.snapshot d s (at + idle_size) place
   found_node k place f =
@@ -102,7 +100,7 @@ module _ {ts : List Term} {h : Configuration} {d s starts : List ℕ} {n p at : 
       node_at x.decoded x.holds p o.number o.block o.snapshot o.nodes o.there w in
       (y, u, w, record { tree = tree; counts = snapshot_at })
 
-  missing_node : (k : ℕ) → node_start s (at + transaction_head) k ≡ Nowhere →
+  missing_node : (k : ℕ) → node_start s (at + transaction_head) k ≡ None →
       (j : ℕ) × (subtree_at there.nodes k ≡ beyond j)
   missing_node k f =
       let o = there in
@@ -129,7 +127,7 @@ module _ (d s : List ℕ) (transaction : ℕ) (x : SomeTransactionAt d s transac
   pub some_transaction_inside : transaction + transaction_head ≤ length s
   some_transaction_inside = let l = counts_held s _ _ (snapshot_at x.there) in omega arith
 
-  pub node_standing : (k at : ℕ) (r : NodeStart) → r ≡ node_start s (transaction + transaction_head) k → r ≡ At at →
+  pub node_standing : (k at : ℕ) (r : Option ℕ) → r ≡ node_start s (transaction + transaction_head) k → r ≡ Some at →
       CanReadRule d s (transaction + idle_size) at
   node_standing k at r f g =
       let (y, u, w, z) = found_node x.there k at (sym f ∙ g) in
@@ -141,10 +139,10 @@ module _ (d s : List ℕ) (transaction : ℕ) (x : SomeTransactionAt d s transac
         inside = node_inside d s at (record { terms = x.terms; tree = u; there = z.tree });
       }
 
-module _ (d s : List ℕ) (transaction k : ℕ) (r : NodeStart)
+module _ (d s : List ℕ) (transaction k : ℕ) (r : Option ℕ)
     (found : r ≡ node_start s (transaction + transaction_head) k) where
   -- what was read at the node
-  pub search_read : {at : ℕ} {a : Result Move Reason} → r ≡ At at → RuleFound d s (transaction + idle_size) at a →
+  pub search_read : {at : ℕ} {a : Result Move Reason} → r ≡ Some at → RuleFound d s (transaction + idle_size) at a →
       NodeReplied d s transaction k a
   search_read {at} g read = record {
     found = λ ts h starts n p x.
@@ -156,9 +154,9 @@ module _ (d s : List ℕ) (transaction k : ℕ) (r : NodeStart)
 
 -- ---- one whose node is not
 
-module _ (d s : List ℕ) (transaction k : ℕ) (r : NodeStart)
+module _ (d s : List ℕ) (transaction k : ℕ) (r : Option ℕ)
     (found : r ≡ node_start s (transaction + transaction_head) k) where
-  pub search_missing : r ≡ Nowhere → NodeReplied d s transaction k (Err NoNode)
+  pub search_missing : r ≡ None → NodeReplied d s transaction k (Err NoNode)
   unfolding reply_of reason_number node_reply
   search_missing g = record {
     found = λ ts h starts n p x.
@@ -170,7 +168,7 @@ module _ (d s : List ℕ) (transaction k : ℕ) (r : NodeStart)
 -- ---- what was found can be made
 
 pub found_moves : {ts : List Term} {h : Configuration} {d s starts : List ℕ} {n p transaction : ℕ} {m : Move} (k at : ℕ) →
-    TransactionAt ts h d s starts n p transaction → node_start s (transaction + transaction_head) k ≡ At at →
+    TransactionAt ts h d s starts n p transaction → node_start s (transaction + transaction_head) k ≡ Some at →
     NodeReplied d s transaction k (Ok m) → NodeMovesBy ts h d s starts n p k (number_of_rule m.rule) at
 unfolding reply_of
 found_moves {ts} {h} {starts = starts} {n = n} {p = p} {m = m} k at x place found = record {

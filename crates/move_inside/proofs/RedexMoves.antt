@@ -18,7 +18,6 @@ use Rattle.answers.specs.declared.rules.Rule.TheVariants.{Awr, Aoi, Aof, Aoe}
 use Rattle.answers.specs.declared.replies.Short.{Short}
 use Rattle.answers.specs.declared.replies.Move.{Move}
 use Rattle.answers.specs.Answers.{number_of_rule}
-use Rattle.hall_layout.specs.declared.NodeStart.TheVariants.{At}
 use Rattle.hall_layout.specs.Layout.{leaf_size, leaf_term, log_size, no_record, read_offset, write_offset}
 use Rattle.hall_layout.specs.Nodes.{tree_end}
 use Rattle.hall_held.specs.Holds.{ReplacesPart, CanReplacePart, ReplacedPart}
@@ -70,7 +69,7 @@ module _ (d s starts : List ℕ) (n p at : ℕ) where
       components = n;
       position = p;
       there = x.there;
-    }) x.node at (At at) (sym x.place) refl
+    }) x.node at (Some at) (sym x.place) refl
 
     pub present : CanReadNode d s at
     present = record { terms = held.terms; tree = held.tree; there = held.there.tree }
@@ -85,7 +84,7 @@ module _ (d s starts : List ℕ) (n p at : ℕ) where
         NodeMovesBy x.terms x.configuration d s starts n p x.node (number_of_rule m.rule) at
     can_move read =
         found_moves x.node at x.there x.place
-        (search_read d s (get_or starts p 0) x.node (At at) (sym x.place) refl read)
+        (search_read d s (get_or starts p 0) x.node (Some at) (sym x.place) refl read)
 
   moved_by : {m : Move} {s' starts' : List ℕ} → RuleFound d s (snapshot_of starts p) at (Ok m) →
       NodeMovedBy d s starts n p (number_of_rule m.rule) at s' starts' → NodeMoved d s starts n p at (Ok m) s' starts'

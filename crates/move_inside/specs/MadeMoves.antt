@@ -7,7 +7,6 @@ use Rattle.semantics.specs.Definitions.Terms.{Term}
 use Rattle.semantics.specs.Definitions.Configuration.{Configuration}
 use Rattle.semantics.specs.Definitions.Moves.{inside, transition}
 use Rattle.table_terms.specs.Decoded.{Decoded}
-use Rattle.hall_layout.specs.declared.NodeStart.TheVariants.{At}
 use Rattle.hall_layout.specs.Layout.{idle_size, transaction_head, leaf_term, no_record, read_offset}
 use Rattle.hall_layout.specs.Nodes.{node_start}
 use Rattle.hall_held.specs.Holds.{Holds}
@@ -26,7 +25,7 @@ use Rattle.move_inside.specs.FoundMoves.{ReadShortageFound, RuleFound}
 pub record NodeMovesBy (ts : List Term) (h : Configuration) (d s starts : List ℕ) (n p k rule at : ℕ) : Type 0 where
   pub decoded : Decoded ts d
   pub holds : Holds ts h s starts n
-  pub place : node_start s (get_or starts p 0 + transaction_head) k ≡ At at
+  pub place : node_start s (get_or starts p 0 + transaction_head) k ≡ Some at
   pub by : AcceptedBy h (inside p k) rule
 
 -- whichever configuration was held, what the move makes of it is held now, and there are as many components
@@ -67,7 +66,7 @@ pub record CanMoveNode (d s starts : List ℕ) (n p at : ℕ) : Type 0 where
   pub configuration : Configuration
   pub node : ℕ
   pub there : TransactionAt terms configuration d s starts n p (get_or starts p 0)
-  pub place : node_start s (get_or starts p 0 + transaction_head) node ≡ At at
+  pub place : node_start s (get_or starts p 0 + transaction_head) node ≡ Some at
 
 -- r is what the node is answered; its move is made, or all is as it was
 pub record NodeMoved (d s starts : List ℕ) (n p at : ℕ) (r : Result Move Reason) (s' starts' : List ℕ) : Type 0 where
