@@ -14,13 +14,6 @@ pub fn byte_at(s: &[u8], i: usize) -> u8
     s.get(i).copied().unwrap_or(0)
 }
 
-// A byte as an index or a length.
-pub fn wide(b: u8) -> usize
-    ensures { result ≡ b }
-{
-    usize::from(b)
-}
-
 // n zeros from `at` on.
 pub fn clear(s: &mut [u8], at: usize, n: usize)
     requires { at + n ≤ length s.old }
