@@ -156,7 +156,8 @@ fn record_up_to(table: &[u8], at: usize, kind: u8, next: usize) -> Result<Record
 }
 
 // What stands at an offset: the work beneath the reader. Each length of a body has a way of its own, so that where the
-// next record begins is foreseen, and need not wait for this one's kind.
+// next record begins is foreseen, and need not wait for this one's kind. By `table.get(at)` in a `let .. else` the proof
+// did not close.
 fn record_at(table: &[u8], at: usize) -> Result<Record, NoRecord>
     ensures { ParsedRecordIs table.now at result }
 {

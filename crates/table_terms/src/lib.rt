@@ -119,8 +119,8 @@ pub fn put_tokens(decoded: &mut [u8; DECODED], channel: usize, count: u8)
 // ---- measures
 
 // Both measures of a term in one number: the breadth, and 256 for each step of the length. The walk answers in this
-// form, because the compiler hands a number back in a register and a struct through memory: tried with the struct,
-// reading a table of expressions took 1.3 times as long.
+// form, because the compiler hands a number back in a register and a struct through memory: tried with the struct
+// and the look-up in a function of its own, reading a table of expressions took 1.3 times as long.
 fn packed(breadth: u8, length: u8) -> u16
     ensures breadth { breadth_in result ≡ breadth }
     ensures length { length_in result ≡ length }
