@@ -8,8 +8,8 @@ ghost use Rattle.answers.specs.Answers.{TurnIs};
 use answers::{Refusal, Turn};
 use table_terms::DECODED;
 
-// The turn of this number, counted from 0, of the opening of a table, if there is one. Refused by 1 to 9 alone, with the
-// table's place.
+// The turn of this number, counted from 0, of the opening of a table, if there is one. Refused by 1 to 9 alone, with
+// the table's place.
 pub fn opening_turn(table: &[u8], turn: usize) -> Result<Option<Turn>, Refusal>
     ensures value { TurnIs (turn_call table.now turn) result }
     ensures promised { Promised OnTurns }

@@ -48,10 +48,10 @@ pub fn waits(kind: u8) -> bool
     matches!(kind, TAKE | REPEATED_TAKE | ATOM)
 }
 
-// The tree that begins at an offset: the offset behind it. `pending` subtrees are still to come, and each has a branch at
-// least, so that a tree of too many branches is given up as soon as it shows: many forks in a row cost no more than few.
-// A fork and a leaf each have a way of their own through a turn: the numbers on it are known, and only a leaf ends a
-// tree.
+// The tree that begins at an offset: the offset behind it. `pending` subtrees are still to come, and each has a branch
+// at least, so that a tree of too many branches is given up as soon as it shows: many forks in a row cost no more than
+// few. A fork and a leaf each have a way of their own through a turn: the numbers on it are known, and only a leaf ends
+// a tree.
 pub fn tree_scan(decoded: &[u8; DECODED], n: usize, s: &[u8], tree: usize) -> Option<usize>
     requires { (n ≤ max_terms) × (tree ≤ length s.now) }
     ensures { TreeRead decoded.now n s.now tree result }
@@ -107,9 +107,9 @@ pub fn component_scan(decoded: &[u8; DECODED], n: usize, s: &[u8], at: usize) ->
     }
 }
 
-// How many components a well-formed hall has, for a decoded table of n terms: its bytes are counts, at most 64 components
-// up to the first zero byte or the end, and zeros behind them. Then `starts` says where each component begins and
-// where the last one ends.
+// How many components a well-formed hall has, for a decoded table of n terms: its bytes are counts, at most 64
+// components up to the first zero byte or the end, and zeros behind them. Then `starts` says where each component
+// begins and where the last one ends.
 pub fn well_formed(
     decoded: &[u8; DECODED],
     n: usize,

@@ -53,8 +53,8 @@ fn place_limit(place: u8) -> u8
 }
 
 // Whether the 16 bytes at an offset are a log of `size` actions, with zeros behind them. Each byte is held against
-// its limit with no way out of the loop, so that all are compared at once. The limits are computed: a table of them would
-// be stored for each log, and a load across two stores waits for both.
+// its limit with no way out of the loop, so that all are compared at once. The limits are computed: a table of them
+// would be stored for each log, and a load across two stores waits for both.
 pub fn is_log(s: &[u8], at: usize, size: usize) -> bool
     requires { (size ≤ log_size) × (at + log_size ≤ length s.now) }
     ensures { result ≡ is_log size (take log_size (drop at s.now)) }
