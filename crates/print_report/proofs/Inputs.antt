@@ -2,7 +2,7 @@
 -- Assumes nothing.
 use Prim.Native.Nat.{ℕ, ◌-◌, ◌≤◌, ◌<◌}
 use native.Mathlib.Omega.{arith}
-use mathlib.Core.Path.{◌≡◌, refl, sym}
+use mathlib.Core.Path.{◌≡◌, refl, sym, ◌∙◌}
 use mathlib.Core.List.{List, [], ◌∷◌}
 use lib.ListN.{length, get_or, take, drop, replicate, length-replicate, length-drop, take-append-drop}
 use lib.Seq.{length-take-le, take_all}
@@ -16,18 +16,22 @@ use Rattle.semantics.specs.Checks.PrintedRun.{PrintedLong, PrintedRefused, Print
 use Rattle.theorems.proofs.Lists.{all_left}
 use Rattle.theorems.proofs.PrintedRun.{printed_long, printed_refused, printed_as_calls}
 use Rattle.hall_layout.specs.Layout.{hall_bytes}
-use Rattle.buffer.specs.Splice.{written}
 use Rattle.hall_held.proofs.Holds.{slice_bytes}
+use Rattle.print_decimals.specs.Wrote.{Wrote}
+use Rattle.print_decimals.specs.declared.Page.{Page}
+use Rattle.print_decimals.specs.Page.{Begun, HasRoom, Room, Appended, Printed}
+use Rattle.print_decimals.proofs.Pages.{room_for, begun_room, page_written}
 use Rattle.print_sections.specs.Limits.{lines_most}
-use Rattle.print_sections.specs.Printed.{Printed}
 use Rattle.print_report.specs.Tables.{TableUpTo}
 use Rattle.print_report.specs.Runs.{RunTextPrinted}
 
-pub long_written : (input out out₁ : List ℕ) → max_input < length input →
-    out₁ ≡ written out 0 (108 ∷ 111 ∷ 110 ∷ 103 ∷ 10 ∷ []) 5 → Printed lines_most out 0 (printed_run input) out₁ 5
+pub long_fits : (p : Page) → HasRoom lines_most p → Room p (108 ∷ 111 ∷ 110 ∷ 103 ∷ 10 ∷ [])
+long_fits p r = room_for lines_most p _ r (omega arith)
+
+pub long_printed : (input : List ℕ) (p q : Page) → max_input < length input → Appended p (108 ∷ 111 ∷ 110 ∷ 103 ∷ 10 ∷ []) q →
+    Printed lines_most p (printed_run input) q
 unfolding PrintedLong
-long_written input out out₁ l e =
-    rw (printed_long input l) (record { wrote = record { end = omega arith; bytes = e }; short = omega arith })
+long_printed input p q l x = rw (printed_long input l) (record { wrote = x; short = omega arith })
 
 pub hall_size : hall_bytes ≡ length {A = ℕ} (replicate hall_bytes 0)
 hall_size = sym (length-replicate {A = ℕ} hall_bytes 0)
@@ -37,13 +41,13 @@ pub table_size_holds : (input : List ℕ) (end : ℕ) → TableUpTo input end �
 table_size_holds input end x = sym (length-take-le end input x.inside)
 
 module _ (input : List ℕ) (short : length input ≤ max_input) (bytes : (i : ℕ) → Fits w8 (get_or input i 0)) (end : ℕ)
-    (x : TableUpTo input end) (out out₁ : List ℕ) (r : ℕ) where
+    (x : TableUpTo input end) (p q : Page) where
   -- the choices are what is behind the table, all of it
-  pub run_written :
-      RunTextPrinted (take end input) (take (length input - end) (drop end input)) (replicate hall_bytes 0) out out₁ r →
-      Printed lines_most out 0 (printed_run input) out₁ r
+  pub run_printed :
+      RunTextPrinted (take end input) (take (length input - end) (drop end input)) (replicate hall_bytes 0) p q →
+      Printed lines_most p (printed_run input) q
   unfolding PrintedRefused PrintedAsCalls
-  run_written y = go (read_table (take end input)) refl
+  run_printed y = go (read_table (take end input)) refl
     where
       rest : take (length input - end) (drop end input) ≡ drop end input
       rest = take_all (length input - end) (drop end input) (let l = length-drop end input in omega arith)
@@ -53,11 +57,26 @@ module _ (input : List ℕ) (short : length input ≤ max_input) (bytes : (i : �
           all_left (λ b. b ≤ 255) (take end input) (drop end input)
           (rw (take-append-drop end input) (slice_bytes input bytes))
 
-      go : (a : TableAnswer) → read_table (take end input) ≡ a → Printed lines_most out 0 (printed_run input) out₁ r
-      go (refused_at n p) e = rw (printed_refused input short (take end input) x.part n p e) (y.refused n p e)
+      go : (a : TableAnswer) → read_table (take end input) ≡ a → Printed lines_most p (printed_run input) q
+      go (refused_at n i) e = rw (printed_refused input short (take end input) x.part n i e) (y.refused n i e)
       go (accepted t) e =
           let z : length (take end input) ≡ end = length-take-le end input x.inside in
-          let p =
+          let calls =
           printed_as_calls input short (take end input) x.part t (table_bytes, e) (replicate hall_bytes 0)
           (sym hall_size) in
-          y.done t (printed_run input) e (rw rest (rw z at p))
+          y.done t (printed_run input) e (rw rest (rw z at calls))
+
+module _ (name : ℕ) (s : List ℕ) (p : Page) (b : Begun name s p) where
+  pub output_fits : 1024 ≤ length s → HasRoom lines_most p
+  output_fits l = begun_room name s p b lines_most (omega arith)
+
+  -- the output is still the one that was lent; what it has afterwards, and how long the text is
+  module _ (v : List ℕ) (q : Page) (x : Printed lines_most p v q) where
+    pub same_output : name ≡ q.out.ghost_name
+    same_output = sym (x.wrote.same ∙ b.same)
+
+    pub output_written : (n : ℕ) → n ≡ q.end → Wrote s 0 v q.out.now n
+    output_written n g = rw g (page_written name s p b v q x.wrote)
+
+    pub output_short : (n : ℕ) → n ≡ q.end → n ≤ lines_most
+    output_short n g = let w = page_written name s p b v q x.wrote in let e = w.end in let l = x.short in omega arith

@@ -15,10 +15,11 @@ use lib.Seq.{drop-cons, drop-drop, take_all, take-length}
 use Rattle.semantics.specs.Definitions.Table.{Kind, kind_by_number, kinds, fields}
 use Rattle.semantics.specs.Checks.PrintedRun.{TableEnds, at_start, after_record, up_to_start, all_of_it}
 use Rattle.table_records.specs.declared.Record.{Record}
-use Rattle.table_records.specs.declared.ParsedRecord.{ParsedRecord}
-use Rattle.table_records.specs.declared.ParsedRecord.TheVariants.{End, UnknownKind, CutShort, Whole}
+use Rattle.std.specs.Prelude.{Ok, Err}
+use Rattle.table_records.specs.declared.NoRecord.{NoRecord}
+use Rattle.table_records.specs.declared.NoRecord.TheVariants.{End, UnknownKind, CutShort}
 use Rattle.table_records.specs.Shapes.{body_of}
-use Rattle.table_records.specs.ParsedRecords.{WholeRecord, ShortRecord, ParsedRecordIs}
+use Rattle.table_records.specs.ParsedRecords.{ShortRecord, ParsedRecordIs}
 use Rattle.table_records.proofs.Shapes.{body_of_kind}
 use Rattle.table_laws.proofs.KindBytes.{kind_at}
 use Rattle.print_report.specs.Tables.{TableUpTo}
@@ -59,10 +60,7 @@ not_yet s = record {
 
 module _ (s : List ℕ) (at : ℕ) (x : SteppedTo s at) where
   -- a whole record
-  module _ (p : ParsedRecord) (parsed : ParsedRecordIs s at p) (r : Record) (whole : p ≡ Whole r) where
-    w : WholeRecord s at r
-    w = rw whole at parsed
-
+  module _ (r : Record) (w : ParsedRecordIs s at (Ok r)) where
     pub less_left : length s - r.next < length s - at
     less_left = let b = w.behind in let i = w.inside in omega arith
 
@@ -144,12 +142,7 @@ module _ (s : List ℕ) (at : ℕ) (x : SteppedTo s at) where
           drop-drop size (suc at) s ∙ drop_of_length-le s {i = suc at + size} (omega arith) in
           no_end o.2 (rw end at o.3))
 
-  module _ (p : ParsedRecord) (parsed : ParsedRecordIs s at p) where
-    pub ended : p ≡ End → TableUpTo s (length s)
-    ended e = none_more (λ n y. no_end n (rw (drop_of_length-le s (rw e at parsed)) at y))
-
-    pub unknown : p ≡ UnknownKind → TableUpTo s (length s)
-    unknown e = let w = rw e at parsed in unknown_more w.0 w.1
-
-    pub cut_short : p ≡ CutShort → TableUpTo s (length s)
-    cut_short e = cut_more (rw e at parsed)
+  pub none_found : (e : NoRecord) → ParsedRecordIs s at (Err e) → TableUpTo s (length s)
+  none_found End x = none_more (λ n y. no_end n (rw (drop_of_length-le s x) at y))
+  none_found UnknownKind x = unknown_more x.0 x.1
+  none_found CutShort x = cut_more x

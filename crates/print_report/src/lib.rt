@@ -5,15 +5,15 @@
 mod printing;
 mod tables;
 
-ghost use Rattle.std.specs.Prelude.{◌≤◌, length};
+ghost use Rattle.std.specs.Prelude.{◌≤◌};
 ghost use Rattle.semantics.specs.Definitions.Report.{printed_run};
 ghost use Rattle.semantics.specs.Promises.{Promised, OnPrintedRuns};
 ghost use Rattle.print_decimals.specs.Wrote.{Wrote};
+ghost use Rattle.print_decimals.specs.Page.{HasRoom, Printed};
 ghost use Rattle.print_sections.specs.Limits.{lines_most};
-ghost use Rattle.print_sections.specs.Printed.{Printed};
 
-use buffer::write_at;
 use hall_layout::HALL_SIZE;
+use print_decimals::Page;
 
 // The bytes that a report is written into. No report is longer: none has more than 947 bytes.
 pub const OUTPUT: usize = 1024;
@@ -21,22 +21,18 @@ pub const OUTPUT: usize = 1024;
 // The longest input whose run is printed.
 pub const MAX_INPUT: usize = 16384;
 
-// What is printed of a longer one.
-const LONG: [u8; 5] = *b"long\n";
-
-// The report on an input, from offset 0 on: the answer is how many bytes it has.
-fn write_report(input: &[u8], out: &mut [u8]) -> usize
-    requires { lines_most ≤ length out.old }
-    ensures { Printed lines_most out.old 0 (printed_run input.now) out.new result }
+// The report on an input, behind what is written.
+fn write_report(input: &[u8], page: &mut Page<'_>)
+    requires { HasRoom lines_most page.old }
+    ensures { Printed lines_most page.old (printed_run input.now) page.new }
 {
     if MAX_INPUT < input.len() {
-        let text = LONG;
-        write_at(out, 0, &text);
-        return text.len();
+        page.text(b"long\n");
+        return;
     }
     let end = tables::table_end(input);
     let mut hall = [0u8; HALL_SIZE];
-    printing::print_run(&input[..end], &input[end..], &mut hall, out)
+    printing::print_run(&input[..end], &input[end..], &mut hall, page);
 }
 
 // Writes the printed run of an input: the table up to its first start record, the choices behind it. The bytes behind
@@ -46,5 +42,7 @@ pub fn report(input: &[u8], output: &mut [u8; OUTPUT]) -> usize
     ensures short { result ≤ lines_most }
     ensures promised { Promised OnPrintedRuns }
 {
-    write_report(input, output)
+    let mut page = Page::new(output);
+    write_report(input, &mut page);
+    page.len()
 }

@@ -1,12 +1,13 @@
 -- Writing the report on an input meets its contract.
 -- Assumes nothing.
-use borrow.Author.Rules.{rules}
-use Rattle.print_report.proofs.Inputs.{long_written, run_written}
+use Rattle.print_report.proofs.Inputs.{long_fits, long_printed, run_printed}
 use Rattle.print_report.proofs.write_report.Goals as goal
 
+pub text-requires : goal.text-requires
+text-requires c = search long_fits
+
 pub returns-then-input-gt-MAX_INPUT : goal.returns-then-input-gt-MAX_INPUT
-returns-then-input-gt-MAX_INPUT c = search long_written
+returns-then-input-gt-MAX_INPUT c = search long_printed
 
 pub returns : goal.returns
-returns c = run_written _ (search rules) c.shared_slice_known-1.given _ c.table_end-end.ensures _ _ _
-    c.print_run.ensures
+returns c = run_printed _ c.if-input-gt-MAX_INPUT.false c.type_inv.input _ c.table_end-end.ensures _ _ c.print_run.ensures
