@@ -1,4 +1,4 @@
-// Numbers in decimal, written into bytes.
+// A page: a lent slice that texts and numbers are written into, one behind another. The numbers are in decimal.
 #![tactic(auto)]
 
 ghost use Rattle.std.specs.Prelude.{◌≡◌, [], ◌∷◌};
@@ -6,7 +6,8 @@ ghost use Rattle.semantics.specs.Definitions.Run.{net};
 ghost use Rattle.semantics.specs.Definitions.Report.{decimal, signed};
 ghost use Rattle.print_decimals.specs.Page.{Begun, Room, Appended};
 
-// A lent slice that is written from its front on, and where the next byte goes.
+// A lent slice that is written from its front on, and where the next byte goes. It has its own digits: of std's
+// formatting no clause says that it does not fail where there is room.
 #[derive(Drop)]
 pub struct Page<'a> {
     out: &'a mut [u8],

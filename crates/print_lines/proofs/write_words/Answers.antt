@@ -1,7 +1,7 @@
 -- Writing words meets its contract.
 -- Assumes nothing.
 use Rattle.std.proofs.Common.{rules}
-use Rattle.print_lines.proofs.NumberWords.{none_yet, space_fits, number_fits, one_more, all_written}
+use Rattle.print_lines.proofs.NumberWords.{none_yet, space_fits, number_fits, one_more}
 use Rattle.print_lines.proofs.write_words.Goals as goal
 
 pub loop-word-init : goal.loop-word-init
@@ -15,6 +15,3 @@ decimal-requires c = search (number_fits, rules)
 
 pub loop-word-preserved : goal.loop-word-preserved
 loop-word-preserved c = search (one_more, rules)
-
-pub returns : goal.returns
-returns c = search all_written

@@ -3,9 +3,6 @@
 use Rattle.print_report.proofs.Inputs.{long_fits, long_printed, run_printed}
 use Rattle.print_report.proofs.write_report.Goals as goal
 
-pub text-requires : goal.text-requires
-text-requires c = search long_fits
-
 pub returns-then-input-gt-MAX_INPUT : goal.returns-then-input-gt-MAX_INPUT
 returns-then-input-gt-MAX_INPUT c = search long_printed
 

@@ -1,11 +1,7 @@
 -- Printing the lines of a run meets its contract.
 -- Assumes nothing.
-use Rattle.std.proofs.Common.{rules}
-use Rattle.print_sections.proofs.AllLines.{hall_long, run_fits, counters_fit, channels_fit, components_fit, lines_printed}
+use Rattle.print_sections.proofs.AllLines.{hall_long, counters_fit, channels_fit, components_fit, lines_printed}
 use Rattle.print_sections.proofs.print_lines.Goals as goal
-
-pub run_line-requires : goal.run_line-requires
-run_line-requires c = search (run_fits, rules)
 
 pub counters_line-requires : goal.counters_line-requires
 counters_line-requires c = counters_fit c.args.hall.now c.args.starts.now c.args.components c.args.first.now c.args.answer

@@ -2,7 +2,7 @@
 -- Assumes nothing.
 use Rattle.std.proofs.Common.{rules}
 use Rattle.theorems.proofs.Theorems.{promised, on_sentences}
-use Rattle.print_sentence.proofs.SentenceCalls.{short_refused, choice_fits, reply_fits, end_fits, sentence_told}
+use Rattle.print_sentence.proofs.SentenceCalls.{short_refused, reply_fits, end_fits, sentence_told}
 use Rattle.print_sentence.proofs.sentence.Goals as goal
 
 pub returns-then-buffer-lt-SENTENCE_BYTES-clause-buffer_after : goal.returns-then-buffer-lt-SENTENCE_BYTES-clause-buffer_after
@@ -10,9 +10,6 @@ returns-then-buffer-lt-SENTENCE_BYTES-clause-buffer_after c = search (short_refu
 
 pub returns-then-buffer-lt-SENTENCE_BYTES-clause-promised : goal.returns-then-buffer-lt-SENTENCE_BYTES-clause-promised
 returns-then-buffer-lt-SENTENCE_BYTES-clause-promised c = promised on_sentences
-
-pub write_choice-requires : goal.write_choice-requires
-write_choice-requires c = search (choice_fits, rules)
 
 pub write_reply-requires : goal.write_reply-requires
 write_reply-requires c = reply_fits _ _ _ _ _ _ c.new-page.ensures (search rules) _ c.write_choice.ensures

