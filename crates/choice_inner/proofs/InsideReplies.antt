@@ -2,6 +2,8 @@
 --
 -- p is the position as the code has it, and q the same as the entry has it.
 -- Assumes nothing.
+use Rattle.std.specs.Prelude.{Option, Some, None, Result, Ok, Err}
+use Rattle.std.specs.Option.{ok_or}
 use Prim.Native.Nat.{ℕ, ◌+◌, ◌≤◌, ◌<◌}
 use native.Mathlib.Omega.{arith}
 use mathlib.Core.Path.{◌≡◌, refl, sym, ◌∙◌}
@@ -14,13 +16,12 @@ use Rattle.semantics.specs.Definitions.Terms.{Term}
 use Rattle.semantics.specs.Definitions.Configuration.{Component, idle, transaction, Configuration}
 use Rattle.semantics.specs.Definitions.Stored.{component_bytes}
 use Rattle.semantics.specs.Definitions.Moves.{inside, acts_inside, at_position, apply_at, entry_answer, as_reply}
-use Rattle.hall_layout.specs.declared.NodeStart.{NodeStart}
-use Rattle.hall_layout.specs.declared.NodeStart.TheVariants.{At, Nowhere}
 use Rattle.hall_layout.specs.Layout.{transaction_kind, transaction_head, idle_size, index_size}
 use Rattle.hall_layout.specs.Nodes.{node_start}
-use Rattle.answers.specs.declared.replies.Reply.{Reply}
-use Rattle.answers.specs.declared.replies.Reply.TheVariants.{Refused}
-use Rattle.answers.specs.Answers.{reply_of}
+use Rattle.answers.specs.declared.refusals.Reason.{Reason}
+use Rattle.answers.specs.declared.refusals.Reason.TheVariants.{NoComponent, WrongComponent, NoNode}
+use Rattle.answers.specs.declared.replies.Move.{Move}
+use Rattle.answers.specs.Answers.{reason_number, reply_of}
 use Rattle.hall_held.specs.Holds.{Holds, Running}
 use Rattle.hall_held.specs.Choices.{EntryLooked}
 use Rattle.hall_held.proofs.AcceptedActs.{held_position}
@@ -31,8 +32,6 @@ use Rattle.move_inside.proofs.NodeReplies.{SomeTransactionAt, NodeReplied, some_
 use Rattle.move_inside.proofs.RedexMoves as transactions
 use Rattle.move_inside.proofs.RedexMoves.{held}
 use Rattle.choice_act.proofs.Occupancy.{kind_inside}
-use Rattle.choice_inner.specs.declared.NodeLookup.{NodeLookup}
-use Rattle.choice_inner.specs.declared.NodeLookup.TheVariants as node
 use Rattle.choice_inner.specs.NodeLookups.{CanFindNode, NodeBegins, NodeFound}
 
 -- at a transaction
@@ -53,23 +52,23 @@ can_find_node {d} x = record { decoded = d; running = x }
 
 module _ {d s starts : List ℕ} {n k : ℕ} where
   -- refusal 14 before refusal 15
-  pub inside_past : {p : ℕ} → n ≤ p → EntryLooked d s starts n (inside p k) (Refused 14)
-  unfolding entry_answer at_position as_reply reply_of
+  pub inside_past : {p : ℕ} → n ≤ p → EntryLooked d s starts n (inside p k) (Err NoComponent)
+  unfolding entry_answer at_position as_reply reason_number reply_of
   inside_past {p} l = record { found = λ ts h y x. rw (no_component x p l) refl }
 
   pub inside_idle : {p : ℕ} → p < n → (get_or s (get_or starts p 0) 0 ≡ transaction_kind → ⊥) →
-      EntryLooked d s starts n (inside p k) (Refused 15)
-  unfolding entry_answer at_position apply_at acts_inside component_bytes as_reply reply_of
+      EntryLooked d s starts n (inside p k) (Err WrongComponent)
+  unfolding entry_answer at_position apply_at acts_inside component_bytes as_reply reason_number reply_of
   inside_idle {p} l other = record { found = λ ts h y x. let (c, there) = component_at x p l in go ts h x c there }
     where
       go : (ts : List Term) (h : Configuration) → Holds ts h s starts n → (c : Component) →
           get_elem? h.components p ≡ some c →
-          reply_of (Refused 15) ≡ as_reply (entry_answer h (inside p k))
+          reply_of (Err WrongComponent) ≡ as_reply (entry_answer h (inside p k))
       go ts h x (idle c) there = rw there refl
       go ts h x (transaction m M σ t) there = absurd (other (kind_here x p (transaction m M σ t) there))
 
   module _ {p : ℕ} (l : p < n) (t : get_or s (get_or starts p 0) 0 ≡ transaction_kind) where
-    pub find_looked : {r : Reply} → NodeReplied d s (get_or starts p 0) k r → EntryLooked d s starts n (inside p k) r
+    pub find_looked : {r : Result Move Reason} → NodeReplied d s (get_or starts p 0) k r → EntryLooked d s starts n (inside p k) r
     find_looked f = record {
       found = λ ts h y x.
           f.found ts h starts n p (record { decoded = y; holds = x; there = l; begins = refl; kind = t });
@@ -79,11 +78,11 @@ module _ {d s starts : List ℕ} {n k : ℕ} where
 
 module _ {s starts : List ℕ} {n p : ℕ} where
   module _ {k : ℕ} where
-    pub found_past : n ≤ p → NodeFound s starts n p k (node.Refused 14)
+    pub found_past : n ≤ p → NodeFound s starts n p k (Err NoComponent)
     found_past l = record { found = λ d. inside_past l }
 
     pub found_idle : p < n → (get_or s (get_or starts p 0) 0 ≡ transaction_kind → ⊥) →
-        NodeFound s starts n p k (node.Refused 15)
+        NodeFound s starts n p k (Err WrongComponent)
     found_idle l other = record { found = λ d. inside_idle l other }
 
   module _ (x : CanFindNode s starts n) (l : p < n) where
@@ -97,23 +96,22 @@ module _ {s starts : List ℕ} {n p : ℕ} where
       pub nodes_fit : Fits w64 (get_or starts p 0 + transaction_head)
       nodes_fit = let i = nodes_inside in let z = hall_length x.running.holds in record { fits = omega arith }
 
-  module _ (l : p < n) (t : get_or s (get_or starts p 0) 0 ≡ transaction_kind) (k : ℕ) {place : NodeStart}
+  module _ (l : p < n) (t : get_or s (get_or starts p 0) 0 ≡ transaction_kind) (k : ℕ) {place : Option ℕ}
       (f : place ≡ node_start s (get_or starts p 0 + transaction_head) k) where
-    pub found_missing : place ≡ Nowhere → NodeFound s starts n p k (node.Refused 16)
-    found_missing g = record {
-      found = λ d. find_looked l t (search_missing d s (get_or starts p 0) k place f g);
-    }
-
-    pub found_there : {at : ℕ} → place ≡ At at → NodeFound s starts n p k (node.Found at)
-    found_there g = record { found = record { there = l; kind = t; place = sym f ∙ g } }
+    pub found_there : {r : Result ℕ Reason} → r ≡ ok_or place NoNode → NodeFound s starts n p k r
+    found_there e = rw e (go place refl)
+      where
+        go : (o : Option ℕ) → place ≡ o → NodeFound s starts n p k (ok_or o NoNode)
+        go (Some at) g = record { found = record { there = l; kind = t; place = sym f ∙ g } }
+        go None g = record { found = λ d. find_looked l t (search_missing d s (get_or starts p 0) k place f g) }
 
 -- ---- what was found
 
-module _ {s starts : List ℕ} {n p k : ℕ} {r : NodeLookup} (f : NodeFound s starts n p k r) where
-  pub refused_there : {m : ℕ} → r ≡ node.Refused m → {d : List ℕ} {q : ℕ} → p ≡ q → EntryLooked d s starts n (inside q k) (Refused m)
+module _ {s starts : List ℕ} {n p k : ℕ} {r : Result ℕ Reason} (f : NodeFound s starts n p k r) where
+  pub refused_there : {m : Reason} → r ≡ Err m → {d : List ℕ} {q : ℕ} → p ≡ q → EntryLooked d s starts n (inside q k) (Err m)
   refused_there is {d} e = let g = rw is at f in rw (← e) (g.found d)
 
-  module _ {at : ℕ} (is : r ≡ node.Found at) where
+  module _ {at : ℕ} (is : r ≡ Ok at) where
     pub node_there : NodeBegins s starts n p k at
     node_there = let g = rw is at f in g.found
 
@@ -139,8 +137,8 @@ module _ {s starts : List ℕ} {n p k : ℕ} {r : NodeLookup} (f : NodeFound s s
       pub snapshot_fits : Running d s starts n → Fits w64 (get_or starts p 0 + idle_size)
       snapshot_fits x = transactions.snapshot_fits d s starts n p at (can_move_node x)
 
-      pub node_looked : {q : ℕ} {a : Reply} → RuleFound d s (get_or starts p 0 + idle_size) at a → p ≡ q →
+      pub node_looked : {q : ℕ} {a : Result Move Reason} → RuleFound d s (get_or starts p 0 + idle_size) at a → p ≡ q →
           EntryLooked d s starts n (inside q k) a
       node_looked read e =
           let g = node_there in
-          rw (← e) (find_looked g.there g.kind (search_read d s (get_or starts p 0) k (At at) (sym g.place) refl read))
+          rw (← e) (find_looked g.there g.kind (search_read d s (get_or starts p 0) k (Some at) (sym g.place) refl read))

@@ -7,40 +7,30 @@ ghost use Rattle.hall_held.specs.Holds.{Running};
 ghost use Rattle.hall_held.specs.Choices.{EntryLooked, EntryMade};
 ghost use Rattle.choice_inner.specs.NodeLookups.{CanFindNode, NodeFound};
 
-use answers::{NO_COMPONENT, NO_NODE, Reply, WRONG_COMPONENT};
-use buffer::wide;
-use hall_layout::{IDLE_SIZE, INDEX_SIZE, KIND_TRANSACTION, NodeStart, TRANSACTION_HEAD};
+use answers::{Move, Reason};
+use hall_layout::{IDLE_SIZE, INDEX_SIZE, KIND_TRANSACTION, TRANSACTION_HEAD};
 use table_terms::DECODED;
 
-// Where the node that an entry names begins; or the entry's refusal, where there is no such node.
-#[derive(Clone, Copy)]
-pub enum NodeLookup {
-    Found { at: usize },
-    Refused(u8),
-}
-
-// The node of this number, in preorder, of the transaction at a position. Looks and moves both go by it.
+// Where the node of this number, in preorder, of the transaction at a position begins; or what refuses the entry that names
+// it. Looks and moves both go by it.
 fn find_node(
     hall: &[u8],
     starts: &[usize; INDEX_SIZE],
     components: usize,
     position: usize,
     node: u8,
-) -> NodeLookup
+) -> Result<usize, Reason>
     requires { CanFindNode hall.now starts.now components }
     ensures { NodeFound hall.now starts.now components position node result }
 {
     if components <= position {
-        return NodeLookup::Refused(NO_COMPONENT);
+        return Err(Reason::NoComponent);
     }
     let transaction = starts[position];
     if hall[transaction] != KIND_TRANSACTION {
-        return NodeLookup::Refused(WRONG_COMPONENT);
+        return Err(Reason::WrongComponent);
     }
-    match hall_layout::node_start(hall, transaction + TRANSACTION_HEAD, node) {
-        NodeStart::Nowhere => NodeLookup::Refused(NO_NODE),
-        NodeStart::At(at) => NodeLookup::Found { at },
-    }
+    hall_layout::node_start(hall, transaction + TRANSACTION_HEAD, node).ok_or(Reason::NoNode)
 }
 
 // What the entry is answered, by what stands at its node. Nothing changes.
@@ -51,19 +41,14 @@ pub fn look_inside(
     components: usize,
     position: u8,
     node: u8,
-) -> Reply
+) -> Result<Move, Reason>
     requires { Running decoded.now hall.now starts.now components }
     ensures { EntryLooked decoded.now hall.now starts.now components
         (inside position node) result }
 {
-    let p = wide(position);
-    match find_node(hall, starts, components, p, node) {
-        NodeLookup::Refused(number) => Reply::Refused(number),
-        NodeLookup::Found { at } => {
-            let snapshot = starts[p] + IDLE_SIZE;
-            move_inside::rule_at(decoded, hall, snapshot, at)
-        }
-    }
+    let p = usize::from(position);
+    let at = find_node(hall, starts, components, p, node)?;
+    move_inside::rule_at(decoded, hall, starts[p] + IDLE_SIZE, at)
 }
 
 // The entry made, where it is accepted, by what stands at its node. There are as many components afterwards.
@@ -74,16 +59,12 @@ pub fn act_inside(
     components: usize,
     position: u8,
     node: u8,
-) -> Reply
+) -> Result<Move, Reason>
     requires { Running decoded.now hall.old starts.old components }
     ensures { EntryMade decoded.now hall.old starts.old components
         (inside position node) result hall.new starts.new components }
 {
-    let p = wide(position);
-    match find_node(hall, starts, components, p, node) {
-        NodeLookup::Refused(number) => Reply::Refused(number),
-        NodeLookup::Found { at } => {
-            move_inside::move_at(decoded, hall, starts, components, p, at)
-        }
-    }
+    let p = usize::from(position);
+    let at = find_node(hall, starts, components, p, node)?;
+    move_inside::move_at(decoded, hall, starts, components, p, at)
 }

@@ -5,11 +5,12 @@
 #![tactic(auto)]
 
 ghost use Rattle.hall_held.specs.Holds.{Running};
-ghost use Rattle.hall_held.specs.Choices.{EntryLooked, EntryMade};
+ghost use Rattle.hall_held.specs.Choices.{EntryLooked};
+ghost use Rattle.choice_act.specs.Acts.{Acted};
 ghost use Rattle.answers.specs.Answers.{entry_of};
 
-use answers::{Entry, Reply};
-use choice_act::EntryResult;
+use answers::{Entry, Move, Reason};
+use choice_act::Made;
 use choice_inner::{act_inside, look_inside};
 use hall_layout::INDEX_SIZE;
 use table_terms::DECODED;
@@ -21,7 +22,7 @@ pub fn look(
     starts: &[usize; INDEX_SIZE],
     components: usize,
     entry: Entry,
-) -> Reply
+) -> Result<Move, Reason>
     requires { Running decoded.now hall.now starts.now components }
     ensures { EntryLooked decoded.now hall.now starts.now components
         (entry_of entry) result }
@@ -44,16 +45,16 @@ pub fn make(
     starts: &mut [usize; INDEX_SIZE],
     components: usize,
     entry: Entry,
-) -> EntryResult
+) -> Result<Made, Reason>
     requires { Running decoded.now hall.old starts.old components }
-    ensures { EntryMade decoded.now hall.old starts.old components
-        (entry_of entry) result.reply hall.new starts.new result.components }
+    ensures { Acted decoded.now hall.old starts.old components
+        (entry_of entry) result hall.new starts.new }
 {
     match entry {
         Entry::Act { position } => choice_act::act(decoded, hall, starts, components, position),
         Entry::Inside { position, node } => {
-            let reply = act_inside(decoded, hall, starts, components, position, node);
-            EntryResult { reply, components }
+            let by = act_inside(decoded, hall, starts, components, position, node)?;
+            Ok(Made { by, components })
         }
     }
 }

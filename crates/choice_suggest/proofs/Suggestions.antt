@@ -1,9 +1,11 @@
 -- A suggestion: which entries need to be looked at, and what the looks come to.
 -- Assumes nothing.
+use Rattle.std.specs.Prelude as std
+use Rattle.std.specs.Prelude.{Some, None, is_some, Result, Ok, Err, is_ok}
 use Prim.Native.Nat.{ℕ, suc, ◌+◌, ◌-◌, ◌≤◌, ◌<◌}
 use native.Mathlib.Omega.{arith}
-use mathlib.Core.Path.{◌≡◌, refl, sym, ap, ◌∙◌}
-use mathlib.Core.Bool.{true, false}
+use mathlib.Core.Path.{◌≡◌, refl, sym, ◌∙◌}
+use mathlib.Core.Bool.{Bool, true, false}
 use mathlib.Core.Option.{Option, none, some}
 use mathlib.Core.List.{List, map}
 use lib.ListN.{length, get_or, get_elem?}
@@ -12,7 +14,6 @@ use Rattle.semantics.specs.Definitions.Basics.{count_up}
 use Rattle.semantics.specs.Definitions.Terms.{Term}
 use Rattle.semantics.specs.Definitions.Configuration.{Component, idle, transaction, Configuration, nodes}
 use Rattle.semantics.specs.Definitions.Moves as moves
-use Rattle.semantics.specs.Definitions.Shortage as test
 use Rattle.semantics.specs.Definitions.Moves.{act, inside, inside_answer, acts_inside, EntryAnswer, does, refuses, moved_by, refused_by, apply_at, at_position, entry_answer, transition_of, transition, as_reply, is_moved, is_accepted}
 use Rattle.semantics.specs.Definitions.Stored.{ComponentOk}
 use Rattle.semantics.specs.Definitions.Suggestion.{entries_below, first_accepted}
@@ -20,10 +21,9 @@ use Rattle.theorems.proofs.FirstElements.{passes_alone, fails_alone, none_yet, n
 use Rattle.theorems.proofs.Suggestions.{nodes_grow, positions_grow, act_found, act_passed, none_at}
 use Rattle.hall_layout.specs.Layout.{transaction_kind, max_nodes}
 use Rattle.hall_laws.proofs.Nodes.{few_nodes, beyond_nodes, move_at_past}
-use Rattle.answers.specs.declared.replies.Reply.{Reply}
-use Rattle.answers.specs.declared.replies.Shortage.{Shortage}
-use Rattle.answers.specs.declared.replies.Reply.TheVariants.{Moved, Refused}
-use Rattle.answers.specs.Answers.{shortage_of, reply_of, entry_of}
+use Rattle.answers.specs.declared.refusals.Reason.{Reason}
+use Rattle.answers.specs.declared.replies.Move.{Move}
+use Rattle.answers.specs.Answers.{reply_of, entry_of}
 use Rattle.hall_held.specs.Holds.{Holds, Running}
 use Rattle.hall_held.specs.Choices.{EntryLooked}
 use Rattle.hall_held.proofs.Holds.{component_ok}
@@ -32,30 +32,22 @@ use Rattle.answers.specs.declared.choices.Entry.TheVariants as entry
 use Rattle.choice_act.proofs.Occupancy.{kind_inside, nothing_read}
 use Rattle.choice_act.proofs.ActReplies.{nothing_looked}
 use Rattle.choice_inner.proofs.InsideReplies.{inside_past, inside_idle}
-use Rattle.choice_suggest.specs.declared.Suggestion.{Suggestion}
-use Rattle.choice_suggest.specs.declared.Suggestion.TheVariants.{Accepted, Still}
 use Rattle.choice_suggest.specs.Suggestions.{Always, first_in, FirstFound, FirstFoundAt, FirstFoundInside}
 
 -- ---- a look and its answer
 
-reply_moved : (a : EntryAnswer) (rule : ℕ) (w : test.Shortage) → as_reply a ≡ moved_by rule w → is_moved (transition_of a) ≡ true
-unfolding as_reply is_moved transition_of
-reply_moved (does r v g) rule w e = refl
-reply_moved (refuses m) rule w e = let z : ◌≡◌ {A = ℕ} 0 1 = cc in absurd (omega arith)
+reply_tells : (a : EntryAnswer) (r : Result Move Reason) → reply_of r ≡ as_reply a → is_moved (transition_of a) ≡ is_ok r
+unfolding reply_of as_reply is_moved transition_of
+reply_tells (does r v g) (Ok m) e = refl
+reply_tells (does r v g) (Err m) e = let z : ◌≡◌ {A = ℕ} 0 1 = cc in absurd (omega arith)
+reply_tells (refuses k) (Ok m) e = let z : ◌≡◌ {A = ℕ} 0 1 = cc in absurd (omega arith)
+reply_tells (refuses k) (Err m) e = refl
 
-reply_refused : (a : EntryAnswer) (m : ℕ) → as_reply a ≡ refused_by m → is_moved (transition_of a) ≡ false
-unfolding as_reply is_moved transition_of
-reply_refused (does r w g) m e = let z : ◌≡◌ {A = ℕ} 0 1 = cc in absurd (omega arith)
-reply_refused (refuses k) m e = refl
-
-module _ {d s starts : List ℕ} {n : ℕ} {e : moves.Entry} {r : Reply} (l : EntryLooked d s starts n e r) where
-  looked_moved : (rule : ℕ) (w : Shortage) → r ≡ Moved rule w → Always d s starts n (λ h. is_accepted h e ≡ true)
-  unfolding reply_of is_accepted transition
-  looked_moved rule w q ts h y x = reply_moved (entry_answer h e) rule (shortage_of w) (sym (l.found ts h y x) ∙ ap reply_of q)
-
-  looked_refused : (m : ℕ) → r ≡ Refused m → Always d s starts n (λ h. is_accepted h e ≡ false)
-  unfolding reply_of is_accepted transition
-  looked_refused m q ts h y x = reply_refused (entry_answer h e) m (sym (l.found ts h y x) ∙ ap reply_of q)
+-- an entry is accepted where its look answers a move
+looked_tells : {d s starts : List ℕ} {n : ℕ} {e : moves.Entry} {r : Result Move Reason} → EntryLooked d s starts n e r →
+    Always d s starts n (λ h. is_accepted h e ≡ is_ok r)
+unfolding is_accepted transition
+looked_tells {e = e} {r} l ts h y x = reply_tells (entry_answer h e) r (l.found ts h y x)
 
 -- ---- entries that need no look
 
@@ -77,18 +69,18 @@ refused_beyond {h = h} x p k l = go (get_elem? h.components p) refl
 
 module _ {d s starts : List ℕ} {n p : ℕ} where
   -- of kind 2, where no transaction is open
-  idle_inside_quiet : p < n → (get_or s (get_or starts p 0) 0 ≡ transaction_kind → ⊥) → FirstFoundInside d s starts n p Still
+  idle_inside_quiet : p < n → (get_or s (get_or starts p 0) 0 ≡ transaction_kind → ⊥) → FirstFoundInside d s starts n p None
   idle_inside_quiet l other = record {
     found = λ ts h y x. none_below (is_accepted h) (nodes_grow p) (suc max_byte)
-        (λ k b. fails_alone (is_accepted h) (inside p k) (looked_refused (inside_idle l other) 15 refl ts h y x));
+        (λ k b. fails_alone (is_accepted h) (inside p k) (looked_tells (inside_idle l other) ts h y x));
   }
 
   -- at a position past the last component
-  behind_quiet : n ≤ p → FirstFoundAt d s starts n p Still
+  behind_quiet : n ≤ p → FirstFoundAt d s starts n p None
   behind_quiet l = record {
     found = λ ts h y x. none_at h p (record {
-      outside = looked_refused (nothing_looked (nothing_read l) refl refl) 14 refl ts h y x;
-      within = λ k b. looked_refused (inside_past l) 14 refl ts h y x;
+      outside = looked_tells (nothing_looked (nothing_read l) refl) ts h y x;
+      within = λ k b. looked_tells (inside_past l) ts h y x;
     });
   }
 
@@ -106,24 +98,25 @@ module _ {d s starts : List ℕ} {n p : ℕ} where
   pub no_node_yet : {k : ℕ} → k ≡ 0 → NoneBelow d s starts n p k
   no_node_yet z = record { found = λ ts h y x. rw z (none_yet (is_accepted h) (nodes_grow p)) }
 
-  pub next_node : {k m : ℕ} {r : Reply} → NoneBelow d s starts n p k → EntryLooked d s starts n (inside p k) r →
-      r ≡ Refused m → NoneBelow d s starts n p (k + 1)
-  next_node {k} {m} b l q = record {
+  pub next_node : {k : ℕ} {r : Result Move Reason} {b : Bool} → NoneBelow d s starts n p k →
+      EntryLooked d s starts n (inside p k) r → b ≡ is_ok r → b ≡ false → NoneBelow d s starts n p (k + 1)
+  next_node {k} below l b q = record {
     found = λ ts h y x.
         rw (after k)
-        (next_decides (is_accepted h) (nodes_grow p) k none (b.found ts h y x)
-        (fails_alone (is_accepted h) (inside p k) (looked_refused l m q ts h y x)));
+        (next_decides (is_accepted h) (nodes_grow p) k none (below.found ts h y x)
+        (fails_alone (is_accepted h) (inside p k) (looked_tells l ts h y x ∙ sym b ∙ q)));
   }
 
-  pub inside_suggested : {k rule : ℕ} {w : Shortage} {r : Reply} → NoneBelow d s starts n p k → EntryLooked d s starts n (inside p k) r →
-      r ≡ Moved rule w → k ≤ max_nodes → FirstFoundInside d s starts n p (Accepted (entry.Inside p k))
-  inside_suggested {k} {rule} {w} b l q c = record {
+  pub inside_suggested : {k : ℕ} {r : Result Move Reason} {b : Bool} → NoneBelow d s starts n p k →
+      EntryLooked d s starts n (inside p k) r → b ≡ is_ok r → b ≡ true → k < max_nodes →
+      FirstFoundInside d s starts n p (Some (entry.Inside p k))
+  inside_suggested {k} below l b q c = record {
     found = λ ts h y x.
-        next_found (is_accepted h) (nodes_grow p) k (suc max_byte) (inside p k) (omega arith) (b.found ts h y x)
-        (passes_alone (is_accepted h) (inside p k) (looked_moved l rule w q ts h y x));
+        next_found (is_accepted h) (nodes_grow p) k (suc max_byte) (inside p k) (omega arith) (below.found ts h y x)
+        (passes_alone (is_accepted h) (inside p k) (looked_tells l ts h y x ∙ sym b ∙ q));
   }
 
-  pub nodes_quiet : {k : ℕ} → NoneBelow d s starts n p k → k ≤ max_nodes → max_nodes ≤ k → FirstFoundInside d s starts n p Still
+  pub nodes_quiet : {k : ℕ} → NoneBelow d s starts n p k → k ≤ max_nodes → max_nodes ≤ k → FirstFoundInside d s starts n p None
   nodes_quiet {k} b c l = record {
     found = λ ts h y x.
         none_kept (is_accepted h) (nodes_grow p) k (suc max_byte) (omega arith) (b.found ts h y x)
@@ -136,26 +129,30 @@ module _ {d s starts : List ℕ} {n p : ℕ} where
 pub kind_inside_at : {d s starts : List ℕ} {n i p : ℕ} → Running d s starts n → p < n → i ≡ p → get_or starts i 0 < length s
 kind_inside_at x l e = kind_inside x (rw e l)
 
-module _ {d s starts : List ℕ} {n p : ℕ} {r : Reply} (l : EntryLooked d s starts n (act p) r) where
-  pub act_suggested : {rule : ℕ} {w : Shortage} → r ≡ Moved rule w → FirstFoundAt d s starts n p (Accepted (entry.Act p))
-  act_suggested {rule} {w} q = record {
-    found = λ ts h y x. act_found h (suc max_byte) p (looked_moved l rule w q ts h y x);
+module _ {d s starts : List ℕ} {n p : ℕ} {r : Result Move Reason} (l : EntryLooked d s starts n (act p) r) {b : Bool} (told : b ≡ is_ok r) where
+  pub act_suggested : b ≡ true → FirstFoundAt d s starts n p (Some (entry.Act p))
+  act_suggested q = record {
+    found = λ ts h y x. act_found h (suc max_byte) p (looked_tells l ts h y x ∙ sym told ∙ q);
   }
 
-  pub inside_at : {m : ℕ} {a : Suggestion} → FirstFoundInside d s starts n p a → r ≡ Refused m → FirstFoundAt d s starts n p a
-  inside_at {m} f q = record {
-    found = λ ts h y x. act_passed h (suc max_byte) p (looked_refused l m q ts h y x) ∙ f.found ts h y x;
+  pub inside_at : {a : std.Option Entry} → FirstFoundInside d s starts n p a → b ≡ false → FirstFoundAt d s starts n p a
+  inside_at f q = record {
+    found = λ ts h y x. act_passed h (suc max_byte) p (looked_tells l ts h y x ∙ sym told ∙ q) ∙ f.found ts h y x;
   }
 
   -- i is the position as the code has it
-  pub idle_quiet : {i m : ℕ} → r ≡ Refused m → Running d s starts n × (p < n) → i ≡ p →
-      (get_or s (get_or starts i 0) 0 ≡ transaction_kind → ⊥) → FirstFoundAt d s starts n p Still
-  idle_quiet q b same other = inside_at (idle_inside_quiet b.1 (λ z. other (rw same z))) q
+  pub idle_quiet : {i : ℕ} → b ≡ false → Running d s starts n × (p < n) → i ≡ p →
+      (get_or s (get_or starts i 0) 0 ≡ transaction_kind → ⊥) → FirstFoundAt d s starts n p None
+  idle_quiet q x same other = inside_at (idle_inside_quiet x.1 (λ z. other (rw same z))) q
 
 -- ---- the positions, the lowest first
 
 few_positions : {d s starts : List ℕ} {n : ℕ} → Running d s starts n → n ≤ max_byte
 few_positions c = let few = c.holds.form.few in let same = c.holds.counted in omega arith
+
+none_there : (a : std.Option Entry) → is_some a ≡ false → a ≡ None
+none_there (Some e) q = absurd (let z : ◌≡◌ {A = ℕ} 0 1 = cc in omega arith)
+none_there None q = refl
 
 -- no entry is accepted at a position below p
 pub record QuietBelow (d s starts : List ℕ) (n p : ℕ) : Type 0 where
@@ -165,33 +162,34 @@ module _ {d s starts : List ℕ} {n : ℕ} where
   pub no_position_yet : {p : ℕ} → p ≡ 0 → QuietBelow d s starts n p
   no_position_yet z = record { found = λ ts h y x. rw z (none_yet (is_accepted h) (positions_grow (suc max_byte))) }
 
-  pub next_position : {p : ℕ} {a : Suggestion} → QuietBelow d s starts n p → FirstFoundAt d s starts n p a → a ≡ Still →
-      QuietBelow d s starts n (p + 1)
-  next_position {p} b f e =
-      let g = rw e at f in
+  pub next_position : {p : ℕ} {a : std.Option Entry} {b : Bool} → QuietBelow d s starts n p → FirstFoundAt d s starts n p a →
+      b ≡ is_some a → b ≡ false → QuietBelow d s starts n (p + 1)
+  next_position {p} {a} below f told q =
+      let g = rw (none_there a (sym told ∙ q)) at f in
       record {
         found = λ ts h y x.
             rw (after p)
-            (next_decides (is_accepted h) (positions_grow (suc max_byte)) p none (b.found ts h y x) (g.found ts h y x));
+            (next_decides (is_accepted h) (positions_grow (suc max_byte)) p none (below.found ts h y x) (g.found ts h y x));
       }
 
-  pub position_suggested : {p : ℕ} {a : Suggestion} {e : Entry} → QuietBelow d s starts n p → FirstFoundAt d s starts n p a →
-      a ≡ Accepted e → Running d s starts n → p ≤ n → FirstFound d s starts n (Accepted e)
+  pub position_suggested : {p : ℕ} {a : std.Option Entry} {b : Bool} → QuietBelow d s starts n p → FirstFoundAt d s starts n p a →
+      b ≡ is_some a → b ≡ true → Running d s starts n → p < n → FirstFound d s starts n a
   unfolding first_accepted
-  position_suggested {p} {e = e} b f q c l =
-      let g = rw q at f in
-      let few = few_positions c in
-      record {
-        found = λ ts h y x.
-            next_found (is_accepted h) (positions_grow (suc max_byte)) p (suc max_byte) (entry_of e) (omega arith)
-            (b.found ts h y x) (g.found ts h y x);
-      }
+  position_suggested {p} {a} below f told q c l = go a f (sym told ∙ q)
+    where
+      go : (o : std.Option Entry) → FirstFoundAt d s starts n p o → is_some o ≡ true → FirstFound d s starts n o
+      go (Some e) g t =
+          let few = few_positions c in
+          record {
+            found = λ ts h y x.
+                next_found (is_accepted h) (positions_grow (suc max_byte)) p (suc max_byte) (entry_of e) (omega arith)
+                (below.found ts h y x) (g.found ts h y x);
+          }
+      go None g t = absurd (let z : ◌≡◌ {A = ℕ} 0 1 = cc in omega arith)
 
-  -- i is the position as the code has it
-  pub all_quiet : {p i : ℕ} → QuietBelow d s starts n p → n ≤ i → i ≡ p → Running d s starts n →
-      p ≤ n → FirstFound d s starts n Still
+  pub all_quiet : {p : ℕ} → QuietBelow d s starts n p → n ≤ p → Running d s starts n → p ≤ n → FirstFound d s starts n None
   unfolding first_accepted
-  all_quiet {p} b l same c m = record {
+  all_quiet {p} b l c m = record {
     found = λ ts h y x.
         let few = few_positions c in
         none_kept (is_accepted h) (positions_grow (suc max_byte)) p (suc max_byte) (omega arith) (b.found ts h y x)

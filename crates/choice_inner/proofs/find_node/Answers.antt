@@ -1,5 +1,5 @@
 -- `find_node` meets its contract. Assumes nothing.
-use Rattle.choice_inner.proofs.InsideReplies.{found_past, found_idle, begin_inside, nodes_inside, found_missing}
+use Rattle.choice_inner.proofs.InsideReplies.{found_past, found_idle, begin_inside, nodes_inside, found_there}
 use Rattle.choice_inner.proofs.find_node.Goals as goal
 
 pub returns-then-components-position : goal.returns-then-components-position
@@ -14,5 +14,5 @@ returns-then-hall-transaction-ne-KIND_TRANSACTION c = search found_idle
 pub node_start-requires : goal.node_start-requires
 node_start-requires c = search nodes_inside
 
-pub returns-in-Nowhere : goal.returns-in-Nowhere
-returns-in-Nowhere c = search found_missing
+pub returns : goal.returns
+returns c = search found_there
