@@ -1,3 +1,2 @@
 pub mod MadeEntries
 pub mod RunSteps
-pub mod RunEnds

@@ -9,11 +9,7 @@ use Rattle.semantics.specs.Definitions.Configuration.{Configuration}
 use Rattle.semantics.specs.Definitions.Run.{Counters, run}
 use Rattle.semantics.specs.Definitions.Calls.{run_result}
 use Rattle.table_terms.specs.Decoded.{Decoded}
-use Rattle.answers.specs.declared.replies.Reply.{Reply}
-use Rattle.answers.specs.declared.replies.Reply.TheVariants as reply
-use Rattle.answers.specs.declared.tallies.Counters as code
 use Rattle.answers.specs.declared.runs.RunAnswer.{RunAnswer}
-use Rattle.answers.specs.declared.runs.RunAnswer.TheVariants.{Completed, Refused}
 use Rattle.answers.specs.Answers.{run_call_of, RunCaseDecided}
 use Rattle.hall_held.specs.Holds.{Holds}
 
@@ -23,8 +19,3 @@ pub record Ran (d s starts : List ℕ) (n : ℕ) (choices : List ℕ) (t : Count
   pub found : (ts : List Term) (h : Configuration) → Decoded ts d → Holds ts h s starts n →
       run_call_of r s' ≡ run_result (run h t choices)
   pub decided : RunCaseDecided r
-
--- the answer of a run that ends with this reply to its last entry: completed by one that moved, refused by a refusal
-abbrev pub ends_with : Reply → (place done : ℕ) → code.Counters → RunAnswer
-ends_with (reply.Moved r w) p d c = Completed p d c
-ends_with (reply.Refused n) p d c = Refused n p d c

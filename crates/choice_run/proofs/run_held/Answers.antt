@@ -4,17 +4,17 @@ use borrow.Author.Rules.{rules}
 use Rattle.choice_run.proofs.RunSteps.{run_begins, run_ends, run_malformed, run_refused, run_goes_on}
 use Rattle.choice_run.proofs.run_held.Goals as goal
 
-pub loop-number-init : goal.loop-number-init
-loop-number-init c = (search rules, search run_begins)
+pub loop-read-init : goal.loop-read-init
+loop-read-init c = (search rules, search run_begins)
 
-pub returns-in-End : goal.returns-in-End
-returns-in-End c = search run_ends
+pub returns-in-Err : goal.returns-in-Err
+returns-in-Err c = search run_malformed
 
-pub returns-in-Malformed : goal.returns-in-Malformed
-returns-in-Malformed c = search run_malformed
+pub returns-in-Err-make : goal.returns-in-Err-make
+returns-in-Err-make c = search (run_refused, c.in-Err-make.ensures)
 
-pub returns-in_default : goal.returns-in_default
-returns-in_default c = search run_refused
+pub loop-read-preserved : goal.loop-read-preserved
+loop-read-preserved c = (search rules, search (run_goes_on, c.in-Ok-make.ensures))
 
-pub loop-number-preserved : goal.loop-number-preserved
-loop-number-preserved c = (search rules, search run_goes_on)
+pub returns : goal.returns
+returns c = search run_ends

@@ -8,9 +8,9 @@ use Rattle.answers.specs.Answers.{counters_of}
 use Rattle.choice_run.proofs.RunSteps.{Going}
 use Rattle.choice_run.proofs.run_held.Given as goal
 
-abbrev pub invariant-loop-number : goal.invariant-loop-number
-invariant-loop-number l = Fits w64 (length l.schedule) ×
-    Going l.decoded l.initial.hall l.initial.starts l.initial.held l.schedule (counters_of l.initial.tally) l.hall l.starts l.held l.at l.done (counters_of l.tally)
+abbrev pub invariant-loop-read : goal.invariant-loop-read
+invariant-loop-read l = Fits w64 (length l.schedule) ×
+    Going l.decoded l.initial.hall l.initial.starts l.initial.held l.schedule (counters_of l.initial.run.counters) l.hall l.starts l.held l.run
 
-abbrev pub decreases-loop-number : goal.decreases-loop-number
-decreases-loop-number l = length l.schedule - l.at
+abbrev pub decreases-loop-read : goal.decreases-loop-read
+decreases-loop-read l = length l.schedule - l.run.place
