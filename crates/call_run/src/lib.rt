@@ -7,7 +7,6 @@ ghost use Rattle.semantics.specs.Promises.{Promised, OnRuns, Demands};
 ghost use Rattle.answers.specs.Answers.{run_call_of, RunCaseDecided, buffers_of};
 
 use answers::{Counters, RunAnswer};
-use call_admit::Admission;
 use hall_layout::INDEX_SIZE;
 use table_terms::DECODED;
 
@@ -23,12 +22,12 @@ pub fn run(table: &[u8], hall: &mut [u8], choices: &[u8], counters: Counters) ->
     let mut decoded = [0u8; DECODED];
     let mut starts = [0usize; INDEX_SIZE];
     match call_admit::admit(table, hall, &mut decoded, &mut starts) {
-        Admission::Admitted { components } => {
+        Ok(components) => {
             choice_run::run_held(&decoded, hall, &mut starts, components, choices, counters)
         }
-        Admission::Refused { number, place } => RunAnswer::Refused {
-            number,
-            place,
+        Err(refusal) => RunAnswer {
+            outcome: Err(refusal.reason),
+            place: refusal.place,
             done: 0,
             counters,
         },

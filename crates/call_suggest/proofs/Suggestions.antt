@@ -1,5 +1,6 @@
 -- What a suggestion gives, by the answer of the admission before it and by what was found in the configuration that it holds.
 -- Assumes nothing.
+use Rattle.std.specs.Prelude.{Option, Some, None, Ok, Err}
 use Prim.Native.Nat.{ℕ}
 use mathlib.Core.Path.{◌≡◌, sym, ap, ◌∙◌}
 use mathlib.Core.List.{List}
@@ -7,32 +8,27 @@ use Rattle.semantics.specs.Definitions.Calls.{admission}
 use Rattle.semantics.specs.Definitions.Suggestion.{suggest_found, suggest_call}
 use Rattle.theorems.proofs.Suggestions.{admitted_suggests, refused_suggests}
 use Rattle.answers.specs.declared.choices.Entry.{Entry}
-use Rattle.answers.specs.declared.suggestions.SuggestAnswer.TheVariants.{Suggested, Still, Refused}
-use Rattle.answers.specs.Answers.{suggest_answer_of}
-use Rattle.call_admit.specs.declared.Admission.{Admission}
-use Rattle.call_admit.specs.declared.Admission.TheVariants as admit
+use Rattle.answers.specs.declared.refusals.Refusal.{Refusal}
+use Rattle.answers.specs.Answers.{reason_number, suggest_answer_of}
 use Rattle.call_admit.specs.Admissions.{AdmissionIs}
 use Rattle.call_admit.proofs.Admissions.{admitted_hall, refused_hall}
-use Rattle.choice_suggest.specs.declared.Suggestion.{Suggestion}
-use Rattle.choice_suggest.specs.declared.Suggestion.TheVariants as suggestion
 use Rattle.choice_suggest.specs.Suggestions.{found_of, FirstFound}
 
-module _ (d table hall starts : List ℕ) (a : Admission) (w : AdmissionIs a d hall starts (admission table hall)) where
+module _ (d table hall starts : List ℕ) where
   -- 1 to 11
-  pub suggestion_turned_down : (n p : ℕ) → a ≡ admit.Refused n p → suggest_answer_of (Refused n p) ≡ suggest_call table hall
+  pub suggestion_turned_down : (e : Refusal) → AdmissionIs (Err e) d hall starts (admission table hall) →
+      suggest_answer_of (Err e) ≡ suggest_call table hall
   unfolding suggest_answer_of
-  suggestion_turned_down n p e = sym (refused_suggests table hall n p (refused_hall d table hall starts a w n p e))
+  suggestion_turned_down e w =
+      sym (refused_suggests table hall (reason_number e.reason) e.place (refused_hall d table hall starts e w))
 
-  module _ (n : ℕ) (e : a ≡ admit.Admitted n) {r : Suggestion} (f : FirstFound d hall starts n r) where
-    found_told : suggest_call table hall ≡ suggest_found (found_of r)
-    found_told = admitted_hall d table hall starts a w n e
-        (λ t h q x. admitted_suggests table hall t h q ∙ ap suggest_found (f.found t.terms h x.decoded x.holds))
-
-    pub choice_suggested : {o : Entry} → r ≡ suggestion.Accepted o →
-        suggest_answer_of (Suggested o) ≡ suggest_call table hall
-    unfolding suggest_answer_of suggest_found
-    choice_suggested z = sym (found_told ∙ ap (λ x. suggest_found (found_of x)) z)
-
-    pub still_suggested : r ≡ suggestion.Still → suggest_answer_of Still ≡ suggest_call table hall
-    unfolding suggest_answer_of suggest_found
-    still_suggested z = sym (found_told ∙ ap (λ x. suggest_found (found_of x)) z)
+  pub suggestion_told : (n : ℕ) → AdmissionIs (Ok n) d hall starts (admission table hall) → {r : Option Entry} →
+      FirstFound d hall starts n r → suggest_answer_of (Ok r) ≡ suggest_call table hall
+  unfolding suggest_answer_of suggest_found
+  suggestion_told n w {r} f = go r (admitted_hall d table hall starts n w
+      (λ t h q x. admitted_suggests table hall t h q ∙ ap suggest_found (f.found t.terms h x.decoded x.holds)))
+    where
+      go : (o : Option Entry) → suggest_call table hall ≡ suggest_found (found_of o) →
+          suggest_answer_of (Ok o) ≡ suggest_call table hall
+      go (Some e) q = sym q
+      go None q = sym q

@@ -6,26 +6,17 @@ ghost use Rattle.semantics.specs.Definitions.Suggestion.{suggest_call};
 ghost use Rattle.semantics.specs.Promises.{Promised, OnSuggestions};
 ghost use Rattle.answers.specs.Answers.{suggest_answer_of};
 
-use answers::SuggestAnswer;
-use call_admit::Admission;
-use choice_suggest::Suggestion;
+use answers::{Entry, Refusal};
 use hall_layout::INDEX_SIZE;
 use table_terms::DECODED;
 
-// Suggests the first choice that is accepted: at the lowest position, there at the lowest node.
-pub fn suggest(table: &[u8], hall: &[u8]) -> SuggestAnswer
+// Suggests the first choice that is accepted: at the lowest position, there at the lowest node; none where none is.
+pub fn suggest(table: &[u8], hall: &[u8]) -> Result<Option<Entry>, Refusal>
     ensures result_value { suggest_answer_of result ≡ suggest_call table.now hall.now }
     ensures promised { Promised OnSuggestions }
 {
     let mut decoded = [0u8; DECODED];
     let mut starts = [0usize; INDEX_SIZE];
-    match call_admit::admit(table, hall, &mut decoded, &mut starts) {
-        Admission::Admitted { components } => {
-            match choice_suggest::first_accepted(&decoded, hall, &starts, components) {
-                Suggestion::Accepted(entry) => SuggestAnswer::Suggested(entry),
-                Suggestion::Still => SuggestAnswer::Still,
-            }
-        }
-        Admission::Refused { number, place } => SuggestAnswer::Refused { number, place },
-    }
+    let components = call_admit::admit(table, hall, &mut decoded, &mut starts)?;
+    Ok(choice_suggest::first_accepted(&decoded, hall, &starts, components))
 }

@@ -4,23 +4,23 @@ use Rattle.call_run.proofs.Runs.{run_turned_down, run_said}
 use Rattle.theorems.proofs.Theorems.{promised, on_runs, demands}
 use Rattle.call_run.proofs.run.Goals as goal
 
-pub returns-in-Admitted-clause-demands : goal.returns-in-Admitted-clause-demands
-returns-in-Admitted-clause-demands c = promised demands
+pub returns-in-Ok-clause-demands : goal.returns-in-Ok-clause-demands
+returns-in-Ok-clause-demands c = promised demands
 
-pub returns-in-Admitted-clause-equation : goal.returns-in-Admitted-clause-equation
-returns-in-Admitted-clause-equation c = search run_said
+pub returns-in-Ok-clause-equation : goal.returns-in-Ok-clause-equation
+returns-in-Ok-clause-equation c = search (run_said, c.in-Ok.ensures)
 
-pub returns-in-Admitted-clause-promised : goal.returns-in-Admitted-clause-promised
-returns-in-Admitted-clause-promised c = promised on_runs
+pub returns-in-Ok-clause-promised : goal.returns-in-Ok-clause-promised
+returns-in-Ok-clause-promised c = promised on_runs
 
-pub returns-in-Refused-clause-decided : goal.returns-in-Refused-clause-decided
-returns-in-Refused-clause-decided c = search number_told
+pub returns-in-Err-clause-decided : goal.returns-in-Err-clause-decided
+returns-in-Err-clause-decided c = search number_told
 
-pub returns-in-Refused-clause-demands : goal.returns-in-Refused-clause-demands
-returns-in-Refused-clause-demands c = promised demands
+pub returns-in-Err-clause-demands : goal.returns-in-Err-clause-demands
+returns-in-Err-clause-demands c = promised demands
 
-pub returns-in-Refused-clause-equation : goal.returns-in-Refused-clause-equation
-returns-in-Refused-clause-equation c = search run_turned_down
+pub returns-in-Err-clause-equation : goal.returns-in-Err-clause-equation
+returns-in-Err-clause-equation c = search (run_turned_down, c.in-Err.ensures)
 
-pub returns-in-Refused-clause-promised : goal.returns-in-Refused-clause-promised
-returns-in-Refused-clause-promised c = promised on_runs
+pub returns-in-Err-clause-promised : goal.returns-in-Err-clause-promised
+returns-in-Err-clause-promised c = promised on_runs

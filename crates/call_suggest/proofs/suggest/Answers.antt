@@ -1,22 +1,19 @@
 -- `suggest` meets its contract, return by return. Assumes nothing.
-use Rattle.call_suggest.proofs.Suggestions.{suggestion_turned_down, choice_suggested, still_suggested}
+use Rattle.std.proofs.lemmas.Result.{err_from_is_err_and}
+use Rattle.call_suggest.proofs.Suggestions.{suggestion_turned_down, suggestion_told}
 use Rattle.theorems.proofs.Theorems.{promised, on_suggestions}
 use Rattle.call_suggest.proofs.suggest.Goals as goal
 
-pub returns-in-Accepted-clause-promised : goal.returns-in-Accepted-clause-promised
-returns-in-Accepted-clause-promised c = promised on_suggestions
+pub returns-in_err-components-clause-promised : goal.returns-in_err-components-clause-promised
+returns-in_err-components-clause-promised c = promised on_suggestions
 
-pub returns-in-Accepted-clause-result_value : goal.returns-in-Accepted-clause-result_value
-returns-in-Accepted-clause-result_value c = search choice_suggested
+pub returns-in_err-components-clause-result_value : goal.returns-in_err-components-clause-result_value
+returns-in_err-components-clause-result_value c =
+    let p = err_from_is_err_and c.from_residual.result c.from_residual.ensures.1 in
+    rw (p.1, p.2) (search (suggestion_turned_down, c.in_err-components.ensures))
 
-pub returns-in-Still-clause-promised : goal.returns-in-Still-clause-promised
-returns-in-Still-clause-promised c = promised on_suggestions
+pub returns-clause-promised : goal.returns-clause-promised
+returns-clause-promised c = promised on_suggestions
 
-pub returns-in-Still-clause-result_value : goal.returns-in-Still-clause-result_value
-returns-in-Still-clause-result_value c = search still_suggested
-
-pub returns-in-Refused-clause-promised : goal.returns-in-Refused-clause-promised
-returns-in-Refused-clause-promised c = promised on_suggestions
-
-pub returns-in-Refused-clause-result_value : goal.returns-in-Refused-clause-result_value
-returns-in-Refused-clause-result_value c = search suggestion_turned_down
+pub returns-clause-result_value : goal.returns-clause-result_value
+returns-clause-result_value c = search (suggestion_told, c.in_ok-components.ensures)
