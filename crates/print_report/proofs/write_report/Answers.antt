@@ -1,6 +1,6 @@
 -- Writing the report on an input meets its contract.
 -- Assumes nothing.
-use Rattle.print_report.proofs.Inputs.{long_fits, long_printed, run_printed}
+use Rattle.print_report.proofs.Inputs.{long_printed, run_printed}
 use Rattle.print_report.proofs.write_report.Goals as goal
 
 pub returns-then-input-gt-MAX_INPUT : goal.returns-then-input-gt-MAX_INPUT
