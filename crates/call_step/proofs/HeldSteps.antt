@@ -1,5 +1,6 @@
 -- A step on a configuration that is held: its choice was looked at, and where that moves a run of its bytes was made.
 -- Assumes nothing.
+use Rattle.std.specs.Prelude.{Result, Ok, Err}
 use Prim.Native.Nat.{ℕ, ◌+◌}
 use native.Mathlib.Omega.{arith}
 use mathlib.Core.Path.{◌≡◌, refl, sym, ap, ◌∙◌}
@@ -12,18 +13,15 @@ use Rattle.semantics.specs.Definitions.Shortage.{Shortage}
 use Rattle.semantics.specs.Definitions.Moves.{Entry, EntryAnswer, does, refuses, entry_answer, moved, transition_of, transition, rule_number, moved_by, refused_by, as_reply}
 use Rattle.semantics.specs.Definitions.Run.{Counters, counted, continue_run, run_from, run}
 use Rattle.semantics.specs.Definitions.Calls.{Buffers, run_result, step_refused, step_entry}
-use Rattle.answers.specs.declared.replies.Shortage as shortage
-use Rattle.answers.specs.declared.replies.Reply.{Reply}
-use Rattle.answers.specs.declared.replies.Reply.TheVariants as reply
-use Rattle.answers.specs.Answers.{shortage_of, reply_of, counters_of, run_call_of, counters_left}
+use Rattle.answers.specs.declared.refusals.Reason.{Reason}
+use Rattle.answers.specs.declared.refusals.Refusal.{Refusal}
+use Rattle.answers.specs.declared.replies.Move.{Move}
+use Rattle.answers.specs.Answers.{number_of_rule, reason_number, shortage_of, reply_of, counters_of, run_call_of}
 use Rattle.answers.specs.declared.tallies.Counters as code
-use Rattle.hall_held.specs.Holds.{Running}
 use Rattle.hall_held.specs.Choices.{EntryLooked}
 use Rattle.answers.specs.declared.runs.RunAnswer.{RunAnswer}
-use Rattle.answers.specs.declared.runs.RunAnswer.TheVariants as ran
 use Rattle.choice_run.specs.Answers.{Ran}
-use Rattle.choice_run.proofs.MadeEntries.{refused_positive}
-use Rattle.answers.specs.declared.steps.StepAnswer.TheVariants as step
+use Rattle.call_admit.proofs.Admissions.{number_told}
 use Rattle.call_step.specs.Steps.{OneEntry, HeldStepped}
 
 -- ---- the answer that a look tells
@@ -68,14 +66,6 @@ run_of_one : (h g : Configuration) (t : Counters) (bytes : List ℕ) (e : Entry)
 unfolding run run_from continue_run
 run_of_one h g t bytes e by one q = rw (one.says, q)
 
--- an answer of the code with the hall behind it, whichever its case
-abbrev left : RunAnswer → List ℕ → Buffers
-left a s = record { hall = s; counters = counters_of (counters_left a) }
-
-leaves : (a : RunAnswer) (s : List ℕ) → (run_call_of a s).buffers ≡ left a s
-leaves (ran.Completed p d c) s = refl
-leaves (ran.Refused n p d c) s = refl
-
 -- ---- a step
 
 moved_said : (h g : Configuration) (l b : Buffers) (size rule : ℕ) (w : Shortage) (e : Entry) (by : Rule) →
@@ -84,30 +74,29 @@ moved_said : (h g : Configuration) (l b : Buffers) (size rule : ℕ) (w : Shorta
 unfolding step_entry
 moved_said h g l b size rule w e by answer number leaves = rw (answer, ← number, leaves)
 
-module _ {d s starts : List ℕ} {n : ℕ} {e : Entry} {t : code.Counters} {r : Reply} (look : EntryLooked d s starts n e r) where
-  pub step_moved : {bytes : List ℕ} → OneEntry bytes e → {rule : ℕ} {w : shortage.Shortage} → r ≡ reply.Moved rule w →
-      {a : RunAnswer} {s' : List ℕ} → Ran d s starts n bytes (counters_of t) a s' → {u : code.Counters} → u ≡ counters_left a →
-      HeldStepped d s starts n e (length bytes) (counters_of t) (step.Moved rule w (length bytes) u) s'
+module _ {d s starts : List ℕ} {n : ℕ} {e : Entry} {t : code.Counters} {r : Result Move Reason} (look : EntryLooked d s starts n e r) where
+  pub step_moved : {bytes : List ℕ} → OneEntry bytes e → {m : Move} → r ≡ Ok m → {a : RunAnswer} {s' : List ℕ} →
+      Ran d s starts n bytes (counters_of t) a s' →
+      HeldStepped d s starts n e (length bytes) (counters_of t)
+      (Ok (record { made = m; place = length bytes; counters = a.counters })) s'
   unfolding reply_of run_result transition transition_of
-  step_moved {bytes} one {rule} {w} z {a} {s'} f after = record {
+  step_moved {bytes} one {m} z {a} {s'} f = record {
     found = λ ts h y x.
-        let q = looked_does h e rule (shortage_of w) (sym (look.found ts h y x) ∙ ap reply_of z) in
+        let rule = number_of_rule m.rule in
+        let w = shortage_of m.short in
+        let q = looked_does h e rule w (sym (look.found ts h y x) ∙ ap reply_of z) in
         let whole = f.found ts h y x ∙ ap run_result
         (run_of_one h q.result (counters_of t) bytes e q.by one (ap transition_of q.response)) in
-        let behind = sym (leaves a s') ∙ ap (λ c. c.buffers) whole in
-        rw after
-        (moved_said h q.result (record { hall = s; counters = counters_of t }) (left a s') (length bytes) rule
-        (shortage_of w) e q.by q.response q.numbered behind);
+        moved_said h q.result (record { hall = s; counters = counters_of t }) (run_call_of a s').buffers (length bytes) rule w e
+        q.by q.response q.numbered (ap (λ c. c.buffers) whole);
     decided = tt;
   }
 
-  pub step_refused_holds : {m : ℕ} → r ≡ reply.Refused m → Running d s starts n → {size : ℕ} →
-      HeldStepped d s starts n e size (counters_of t) (step.Refused m 0) s
+  pub step_refused_holds : {x : Reason} → r ≡ Err x → {size : ℕ} {f : Refusal} → f ≡ record { reason = x; place = 0 } →
+      HeldStepped d s starts n e size (counters_of t) (Err f) s
   unfolding reply_of transition transition_of step_entry step_refused
-  step_refused_holds {m} z g = record {
-    found = λ ts h y x. let q = looked_refuses h e m (sym (look.found ts h y x) ∙ ap reply_of z) in rw (q, ← x.bytes);
-    decided =
-        let h = g.configuration in
-        refused_positive h e m
-        (ap transition_of (looked_refuses h e m (sym (look.found g.terms h g.decoded g.holds) ∙ ap reply_of z)));
-  }
+  step_refused_holds {x} z at_0 = rw at_0 (record {
+    found = λ ts h y v.
+        let q = looked_refuses h e (reason_number x) (sym (look.found ts h y v) ∙ ap reply_of z) in rw (q, ← v.bytes);
+    decided = number_told x;
+  })

@@ -6,12 +6,23 @@ ghost use Rattle.semantics.specs.Definitions.Calls.{step_call};
 ghost use Rattle.semantics.specs.Promises.{Promised, OnSteps};
 ghost use Rattle.answers.specs.Answers.{counters_of, entry_of, buffers_of, step_call_of, StepCaseDecided};
 ghost use Rattle.hall_held.specs.Holds.{Running};
-ghost use Rattle.call_step.specs.Steps.{OneEntry, HeldStepped};
+ghost use Rattle.call_step.specs.Steps.{NamedBy, OneEntry, HeldStepped};
 
-use answers::{Counters, Entry, KIND_ACT, KIND_INSIDE, Reply, StepAnswer, UNKNOWN_KIND};
-use call_admit::Admission;
+use answers::{Counters, Entry, KIND_ACT, KIND_INSIDE, Reason, Refusal, Step};
+use choice_read::{ACT_SIZE, INSIDE_SIZE};
 use hall_layout::INDEX_SIZE;
 use table_terms::DECODED;
+
+// The choice that a kind, a position and a node name, and how many bytes it has; kind 1 has no node.
+fn named(kind: u8, position: u8, node: u8) -> Result<(Entry, usize), Refusal>
+    ensures { NamedBy kind position node result }
+{
+    match kind {
+        KIND_ACT => Ok((Entry::Act { position }, ACT_SIZE)),
+        KIND_INSIDE => Ok((Entry::Inside { position, node }, INSIDE_SIZE)),
+        _ => Err(Reason::UnknownKind.at(0)),
+    }
+}
 
 // The choice that these bytes are, made on a configuration that is held: looked at, which tells its rule and what is
 // short, and then run, where it moves; a refusal stands at the choice's first byte.
@@ -23,24 +34,22 @@ fn step_held(
     entry: Entry,
     bytes: &[u8],
     counters: Counters,
-) -> StepAnswer
+) -> Result<Step, Refusal>
     requires running { Running decoded.now hall.old starts.old components }
     requires one_entry { OneEntry bytes.now (entry_of entry) }
     ensures { HeldStepped decoded.now hall.old starts.old components
         (entry_of entry) (length bytes.now) (counters_of counters) result hall.new }
 {
-    match choice_make::look(decoded, hall, starts, components, entry) {
-        Reply::Moved(rule, shortage) => {
-            let answer = choice_run::run_held(decoded, hall, starts, components, bytes, counters);
-            StepAnswer::Moved {
-                rule,
-                shortage,
-                place: bytes.len(),
-                counters: answers::counters_left(answer),
-            }
-        }
-        Reply::Refused(number) => StepAnswer::Refused { number, place: 0 },
-    }
+    let made = match choice_make::look(decoded, hall, starts, components, entry) {
+        Ok(made) => made,
+        Err(reason) => return Err(reason.at(0)),
+    };
+    let run = choice_run::run_held(decoded, hall, starts, components, bytes, counters);
+    Ok(Step {
+        made,
+        place: bytes.len(),
+        counters: run.counters,
+    })
 }
 
 // Makes the choice of this kind, at a position and, for kind 2, at a node: a run of that one choice, which tells the
@@ -52,7 +61,7 @@ pub fn step(
     position: u8,
     node: u8,
     counters: Counters,
-) -> StepAnswer
+) -> Result<Step, Refusal>
     ensures equation { step_call_of result (buffers_of hall.new counters)
         ≡ step_call table.now (buffers_of hall.old counters) kind position node }
     ensures decided { StepCaseDecided result }
@@ -60,39 +69,16 @@ pub fn step(
 {
     let mut decoded = [0u8; DECODED];
     let mut starts = [0usize; INDEX_SIZE];
-    match call_admit::admit(table, hall, &mut decoded, &mut starts) {
-        Admission::Admitted { components } => match kind {
-            KIND_ACT => {
-                let bytes = [KIND_ACT, position];
-                let entry = Entry::Act { position };
-                step_held(
-                    &decoded,
-                    hall,
-                    &mut starts,
-                    components,
-                    entry,
-                    &bytes,
-                    counters,
-                )
-            }
-            KIND_INSIDE => {
-                let bytes = [KIND_INSIDE, position, node];
-                let entry = Entry::Inside { position, node };
-                step_held(
-                    &decoded,
-                    hall,
-                    &mut starts,
-                    components,
-                    entry,
-                    &bytes,
-                    counters,
-                )
-            }
-            _ => StepAnswer::Refused {
-                number: UNKNOWN_KIND,
-                place: 0,
-            },
-        },
-        Admission::Refused { number, place } => StepAnswer::Refused { number, place },
-    }
+    let components = call_admit::admit(table, hall, &mut decoded, &mut starts)?;
+    let (entry, size) = named(kind, position, node)?;
+    let bytes = [kind, position, node];
+    step_held(
+        &decoded,
+        hall,
+        &mut starts,
+        components,
+        entry,
+        &bytes[..size],
+        counters,
+    )
 }

@@ -1,38 +1,44 @@
 -- `step` meets its contract: by its kind where the hall is admitted, and turned down otherwise. Assumes nothing.
+use Rattle.std.proofs.lemmas.Result.{err_from_is_err_and}
 use Rattle.call_admit.proofs.Admissions.{number_told}
-use Rattle.call_step.proofs.Steps.{stepped_turned_down, stepped_unknown, act_written, inside_written, stepped_act, stepped_inside}
+use Rattle.call_step.proofs.Steps.{stepped_turned_down, stepped_unknown, named_written, stepped_named}
 use Rattle.theorems.proofs.Theorems.{promised, on_steps}
 use Rattle.call_step.proofs.step.Goals as goal
 
+pub returns-in_err-components-clause-decided : goal.returns-in_err-components-clause-decided
+returns-in_err-components-clause-decided c =
+    let p = err_from_is_err_and c.from_residual.result c.from_residual.ensures.1 in
+    rw (p.1, p.2) (number_told c.in_err-components.field-0.0.reason)
+
+pub returns-in_err-components-clause-equation : goal.returns-in_err-components-clause-equation
+returns-in_err-components-clause-equation c =
+    let p = err_from_is_err_and c.from_residual.result c.from_residual.ensures.1 in
+    rw (p.1, p.2) (search (stepped_turned_down, c.in_err-components.ensures))
+
+pub returns-in_err-components-clause-promised : goal.returns-in_err-components-clause-promised
+returns-in_err-components-clause-promised c = promised on_steps
+
+pub returns-in_err-entry-clause-decided : goal.returns-in_err-entry-clause-decided
+returns-in_err-entry-clause-decided c =
+    let residual = c.from_residual-in_err-entry in
+    let p = err_from_is_err_and residual.result residual.ensures.1 in
+    rw (p.1, p.2) (number_told c.in_err-entry.field-0.0.reason)
+
+pub returns-in_err-entry-clause-equation : goal.returns-in_err-entry-clause-equation
+returns-in_err-entry-clause-equation c =
+    let residual = c.from_residual-in_err-entry in
+    let p = err_from_is_err_and residual.result residual.ensures.1 in
+    let e = c.in_err-entry.ensures in
+    rw (p.1, p.2, e.0) (search (stepped_unknown, e.1, e.2, c.in_ok-components.ensures))
+
+pub returns-in_err-entry-clause-promised : goal.returns-in_err-entry-clause-promised
+returns-in_err-entry-clause-promised c = promised on_steps
+
 pub step_held-requires-clause-one_entry : goal.step_held-requires-clause-one_entry
-step_held-requires-clause-one_entry c = search act_written
+step_held-requires-clause-one_entry c = search (named_written, c.in_ok-entry.ensures)
 
-pub step_held-requires-in-2-clause-one_entry : goal.step_held-requires-in-2-clause-one_entry
-step_held-requires-in-2-clause-one_entry c = search inside_written
+pub returns-clause-equation : goal.returns-clause-equation
+returns-clause-equation c = search (stepped_named, c.in_ok-entry.ensures, c.in_ok-components.ensures)
 
-pub returns-in-1-clause-equation : goal.returns-in-1-clause-equation
-returns-in-1-clause-equation c = search stepped_act
-
-pub returns-in-1-clause-promised : goal.returns-in-1-clause-promised
-returns-in-1-clause-promised c = promised on_steps
-
-pub returns-in-2-clause-equation : goal.returns-in-2-clause-equation
-returns-in-2-clause-equation c = search stepped_inside
-
-pub returns-in-2-clause-promised : goal.returns-in-2-clause-promised
-returns-in-2-clause-promised c = promised on_steps
-
-pub returns-in_default-clause-equation : goal.returns-in_default-clause-equation
-returns-in_default-clause-equation c = search stepped_unknown
-
-pub returns-in_default-clause-promised : goal.returns-in_default-clause-promised
-returns-in_default-clause-promised c = promised on_steps
-
-pub returns-in-Refused-clause-decided : goal.returns-in-Refused-clause-decided
-returns-in-Refused-clause-decided c = search number_told
-
-pub returns-in-Refused-clause-equation : goal.returns-in-Refused-clause-equation
-returns-in-Refused-clause-equation c = search stepped_turned_down
-
-pub returns-in-Refused-clause-promised : goal.returns-in-Refused-clause-promised
-returns-in-Refused-clause-promised c = promised on_steps
+pub returns-clause-promised : goal.returns-clause-promised
+returns-clause-promised c = promised on_steps

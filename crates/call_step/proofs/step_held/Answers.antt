@@ -2,8 +2,8 @@
 use Rattle.call_step.proofs.HeldSteps.{step_moved, step_refused_holds}
 use Rattle.call_step.proofs.step_held.Goals as goal
 
-pub returns-in-Moved : goal.returns-in-Moved
-returns-in-Moved c = search step_moved
+pub returns-in-Err : goal.returns-in-Err
+returns-in-Err c = search step_refused_holds
 
-pub returns-in-Refused : goal.returns-in-Refused
-returns-in-Refused c = search step_refused_holds
+pub returns : goal.returns
+returns c = search step_moved
