@@ -1,6 +1,6 @@
 -- What the admission of a table and a stored hall says, in the terms of the definitions.
 --
--- d is the decoded table, hall the stored bytes, starts the index of where each component begins.
+-- d is the decoded table, hall the stored bytes.
 -- Assumes nothing.
 use Rattle.std.specs.Prelude.{ℕ, ◌≡◌, List, length, eqb, Result, Ok, Err}
 use Rattle.semantics.specs.Definitions.Table.{Table}
@@ -10,21 +10,22 @@ use Rattle.semantics.specs.Definitions.Calls.{Admission, admitted, not_admitted,
 use Rattle.answers.specs.declared.refusals.Refusal.{Refusal}
 use Rattle.answers.specs.Answers.{reason_number}
 use Rattle.table_terms.specs.Decoded.{Decoded}
+use Rattle.hall_layout.specs.declared.Index.{Index}
 use Rattle.hall_held.specs.Holds.{Holds}
 
--- the table is decoded, and the configuration is held with its n components
-pub record TableAndHallHeld (t : Table) (h : Configuration) (d hall starts : List ℕ) (n : ℕ) : Type 0 where
+-- the table is decoded, and the configuration is held with its index
+pub record TableAndHallHeld (t : Table) (h : Configuration) (d hall : List ℕ) (x : Index) : Type 0 where
   pub decoded : Decoded t.terms d
-  pub holds : Holds t.terms h hall starts n
+  pub holds : Holds t.terms h hall x.starts x.components
 
 -- an admitted table and configuration are held; a refusal has its number and its place
-abbrev pub AdmissionIs : Result ℕ Refusal → (d hall starts : List ℕ) → Admission → Type 0
-AdmissionIs (Ok n) d hall starts (admitted t h) = TableAndHallHeld t h d hall starts n
-AdmissionIs (Ok n) d hall starts (not_admitted m q) = ⊥
-AdmissionIs (Err e) d hall starts (admitted t h) = ⊥
-AdmissionIs (Err e) d hall starts (not_admitted m q) = (reason_number e.reason ≡ m) × (e.place ≡ q)
+abbrev pub AdmissionIs : Result Index Refusal → (d hall : List ℕ) → Admission → Type 0
+AdmissionIs (Ok x) d hall (admitted t h) = TableAndHallHeld t h d hall x
+AdmissionIs (Ok x) d hall (not_admitted m q) = ⊥
+AdmissionIs (Err e) d hall (admitted t h) = ⊥
+AdmissionIs (Err e) d hall (not_admitted m q) = (reason_number e.reason ≡ m) × (e.place ≡ q)
 
 -- the tests on a hall behind any table whose n terms d decodes
-pub record HallAdmitted (d : List ℕ) (n : ℕ) (hall starts : List ℕ) (r : Result ℕ Refusal) : Type 0 where
+pub record HallAdmitted (d : List ℕ) (n : ℕ) (hall : List ℕ) (r : Result Index Refusal) : Type 0 where
   pub found : (t : Table) → Decoded t.terms d → length t.terms ≡ n →
-      AdmissionIs r d hall starts (size_tested t hall (eqb (length hall) hall_bytes))
+      AdmissionIs r d hall (size_tested t hall (eqb (length hall) hall_bytes))

@@ -8,6 +8,7 @@ use mathlib.Core.Option as math
 use mathlib.Core.Option.{none, some}
 use mathlib.Core.List.{List, [], ◌∷◌, ◌++◌}
 use Rattle.std.specs.Prelude.{Option, None, Some}
+use Rattle.hall_layout.specs.declared.Index.{Index}
 use Rattle.std.specs.Bool.{then_some}
 use lib.ListN.{length, get_or, take, drop, set, length-append, length-drop, length-set}
 use lib.Dec.{ltb}
@@ -67,8 +68,8 @@ module _ (d : List ℕ) (n : ℕ) (s : List ℕ) where
     pub sized : length starts ≡ index_size
     found : EachTable d n (ReadBefore s starts components at)
 
-  pub hall_short : (starts : List ℕ) → length starts ≡ index_size → length s < channels → HallRead d n s starts None
-  hall_short starts l h = record { sized = l; found = λ ts x c. rw (configuration_short ts s h) tt }
+  pub hall_short : length s < channels → HallRead d n s None
+  hall_short h = record { sized = tt; found = λ ts x c. rw (configuration_short ts s h) tt }
 
   pub hall_begun : (starts : List ℕ) → length starts ≡ index_size → channels ≤ length s → HallSoFar (set starts 0 channels) 0 channels
   unfolding start_of used_of all_bytes flatten
@@ -87,14 +88,14 @@ module _ (d : List ℕ) (n : ℕ) (s : List ℕ) where
     };
   }
 
-  module _ (starts : List ℕ) (k at : ℕ) (x : HallSoFar starts k at) where
+  module _ (index : Index) (at : ℕ) (x : HallSoFar index.starts index.components at) where
     -- the index says where the last component ends
-    ends_there : (ts : List Term) (w : ReadBefore s starts k at ts) → get_or starts k 0 ≡ used_of w.read
+    ends_there : (ts : List Term) (w : ReadBefore s index.starts index.components at ts) → get_or index.starts index.components 0 ≡ used_of w.read
     ends_there ts w = let l = w.counted in
-        w.index k (omega arith) ∙ ap (start_of w.read) (sym l) ∙ start_all w.read
+        w.index index.components (omega arith) ∙ ap (start_of w.read) (sym l) ∙ start_all w.read
 
     -- no component follows: the hall is what was read
-    hall_is : EachTable d n (λ ts. (f : ℕ) → components_from (suc f) ts (drop at s) ≡ some []) → HallRead d n s starts (Some k)
+    hall_is : EachTable d n (λ ts. (f : ℕ) → components_from (suc f) ts (drop at s) ≡ some []) → HallRead d n s (Some index)
     hall_is e = record {
       sized = x.sized;
       found = λ ts y c.
@@ -105,21 +106,21 @@ module _ (d : List ℕ) (n : ℕ) (s : List ℕ) where
     }
 
     -- what follows is malformed, and so is the hall
-    hall_none : EachTable d n (λ ts. (read : List Component) (f : ℕ) → length read ≡ k →
-        configured (take channels s) read (components_from (suc f) ts (drop at s)) ≡ none) → HallRead d n s starts None
-    hall_none e = record { sized = x.sized; found = λ ts y c. let w = x.found ts y c in rw (w.rest, e ts y c w.read w.bound w.counted) tt }
+    hall_none : EachTable d n (λ ts. (read : List Component) (f : ℕ) → length read ≡ index.components →
+        configured (take channels s) read (components_from (suc f) ts (drop at s)) ≡ none) → HallRead d n s None
+    hall_none e = record { sized = tt; found = λ ts y c. let w = x.found ts y c in rw (w.rest, e ts y c w.read w.bound w.counted) tt }
 
     -- the bytes are over
-    pub hall_over : length s ≤ at → HallRead d n s starts (Some k)
+    pub hall_over : length s ≤ at → HallRead d n s (Some index)
     hall_over h = hall_is (λ ts y c f. components_end ts s at f h)
 
     module _ (h : at < length s) where
       -- a zero byte
-      pub hall_zeros : get_or s at 0 ≡ 0 → (b : Bool) → b ≡ zeros (drop at s) → (r : Option ℕ) → r ≡ then_some b k → HallRead d n s starts r
+      pub hall_zeros : get_or s at 0 ≡ 0 → (b : Bool) → b ≡ zeros (drop at s) → (r : Option Index) → r ≡ then_some b index → HallRead d n s r
       unfolding only_if configured bind
       hall_zeros e b z r p = rw p (go b z)
         where
-          go : (b : Bool) → b ≡ zeros (drop at s) → HallRead d n s starts (then_some b k)
+          go : (b : Bool) → b ≡ zeros (drop at s) → HallRead d n s (then_some b index)
           go true z = hall_is (λ ts y c f. components_zeros ts s at f h e ∙ rw (← z))
           go false z = hall_none (λ ts y c read f l. rw (components_zeros ts s at f h e, ← z))
 
@@ -129,7 +130,7 @@ module _ (d : List ℕ) (n : ℕ) (s : List ℕ) where
         Behind : List Component → ℕ → List Term → math.Option (Component × List ℕ) → math.Option Configuration
         Behind read f ts o = configured (take channels s) read (bind o (λ c. bind (components_from f ts c.1) (λ cs. some (c.0 ∷ cs))))
 
-        pub hall_full : k ≡ max_components → HallRead d n s starts None
+        pub hall_full : index.components ≡ max_components → HallRead d n s None
         unfolding Behind bind configured
         hall_full g = hall_none (λ ts y c read f l. rw (components_first ts s at f h e) (go ts read f (omega arith) (first_component ts (drop at s))))
           where
@@ -137,7 +138,7 @@ module _ (d : List ℕ) (n : ℕ) (s : List ℕ) where
             go ts read f l none = refl
             go ts read f l (some c) = configured_many (take channels s) read c.0 l (components_from f ts c.1)
 
-        pub hall_broken : ComponentRead d n s at None → HallRead d n s starts None
+        pub hall_broken : ComponentRead d n s at None → HallRead d n s None
         unfolding Behind bind configured
         hall_broken w =
             hall_none (λ ts y c read f l. rw (components_first ts s at f h e) (go ts read f (first_component ts (drop at s)) (w.found ts y c)))
@@ -150,17 +151,17 @@ module _ (d : List ℕ) (n : ℕ) (s : List ℕ) where
           next_inside : (suc at ≤ i) × (i ≤ length s)
           next_inside = w.ends
 
-          pub hall_next : (k ≡ max_components → ⊥) → HallSoFar (set starts (k + 1) i) (k + 1) i
+          pub hall_next : (index.components ≡ max_components → ⊥) → HallSoFar (set index.starts (index.components + 1) i) (index.components + 1) i
           unfolding bind
           hall_next m = record {
             inside = next_inside.1;
             few = let o = x.few in omega arith;
-            sized = length-set starts (k + 1) i ∙ x.sized;
+            sized = length-set index.starts (index.components + 1) i ∙ x.sized;
             found = λ ts y c. let v = x.found ts y c in go ts y v (first_component ts (drop at s)) refl (w.found ts y c);
           }
             where
-              go : (ts : List Term) → Decoded ts d → (v : ReadBefore s starts k at ts) → (o : math.Option (Component × List ℕ)) → first_component ts (drop at s) ≡ o →
-                  ComponentIs s (Some i) o → ReadBefore s (set starts (k + 1) i) (k + 1) i ts
+              go : (ts : List Term) → Decoded ts d → (v : ReadBefore s index.starts index.components at ts) → (o : math.Option (Component × List ℕ)) → first_component ts (drop at s) ≡ o →
+                  ComponentIs s (Some i) o → ReadBefore s (set index.starts (index.components + 1) i) (index.components + 1) i ts
               go ts y v none p q = absurd q
               go ts y v (some c) p q =
                   let o = next_inside in
@@ -177,7 +178,7 @@ module _ (d : List ℕ) (n : ℕ) (s : List ℕ) where
                     read = v.read ++ (c.0 ∷ []);
                     counted = length-append v.read (c.0 ∷ []) ∙ omega arith;
                     ends = ends;
-                    index = let few = x.few in let size = x.sized in index_more starts v.read c.0 k i v.index z (omega arith) ends;
+                    index = let few = x.few in let size = x.sized in index_more index.starts v.read c.0 index.components i v.index z (omega arith) ends;
                     bound = v.bound - 1;
                     enough = omega arith;
                     rest = v.rest ∙ rw (components_first ts s at v.bound h e, p)

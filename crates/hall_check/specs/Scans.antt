@@ -3,7 +3,7 @@
 --
 -- d is a decoded table of n terms, s has the bytes.
 -- Assumes nothing.
-use Rattle.std.specs.Prelude.{ℕ, suc, ◌-◌, ◌≤◌, ◌<◌, ◌≡◌, List, length, get_or, drop, Option, None, Some}
+use Rattle.std.specs.Prelude.{ℕ, suc, ◌-◌, ◌≤◌, ◌<◌, ◌≡◌, List, length, get_or, drop, Option, None, Some, IfSome}
 use Rattle.std.proofs.Math.Option as math
 use Rattle.std.proofs.Math.Option.{none, some}
 use Rattle.std.proofs.Math.ListN.{get_elem?}
@@ -11,6 +11,7 @@ use Rattle.semantics.specs.Definitions.Terms.{Term}
 use Rattle.semantics.specs.Definitions.Configuration.{Tree, Component, Configuration, branches_of}
 use Rattle.semantics.specs.Definitions.Stored.{tree_from, configuration_of}
 use Rattle.hall_layout.specs.Layout.{max_branches, index_size}
+use Rattle.hall_layout.specs.declared.Index.{Index}
 use Rattle.hall_laws.specs.Positions.{used_of, IsIndex}
 use Rattle.hall_laws.specs.ReadParts.{kind_in, first_component}
 use Rattle.hall_nodes.specs.NodeTests.{EachTable}
@@ -61,14 +62,15 @@ pub record ComponentRead (d : List ℕ) (n : ℕ) (s : List ℕ) (at : ℕ) (r :
 -- ---- the hall
 
 -- the configuration that the bytes store: how many components it has, how many bytes it uses, where each component
--- begins; or there is none, and the index may hold anything
-abbrev pub HallIs : Option ℕ → List ℕ → math.Option Configuration → Type 0
-HallIs (Some components) starts (some h) =
-    (components ≡ length h.components) × (get_or starts components 0 ≡ used_of h.components) × IsIndex starts h.components
-HallIs (Some components) starts none = ⊥
-HallIs None starts (some h) = ⊥
-HallIs None starts none = Unit {0}
+-- begins; or there is none
+abbrev pub HallIs : Option Index → math.Option Configuration → Type 0
+HallIs (Some x) (some h) =
+    (x.components ≡ length h.components) × (get_or x.starts x.components 0 ≡ used_of h.components) ×
+    IsIndex x.starts h.components
+HallIs (Some x) none = ⊥
+HallIs None (some h) = ⊥
+HallIs None none = Unit {0}
 
-pub record HallRead (d : List ℕ) (n : ℕ) (s starts : List ℕ) (r : Option ℕ) : Type 0 where
-  pub sized : length starts ≡ index_size
-  pub found : EachTable d n (λ ts. HallIs r starts (configuration_of ts s))
+pub record HallRead (d : List ℕ) (n : ℕ) (s : List ℕ) (r : Option Index) : Type 0 where
+  pub sized : IfSome r (λ x. length x.starts ≡ index_size)
+  pub found : EachTable d n (λ ts. HallIs r (configuration_of ts s))

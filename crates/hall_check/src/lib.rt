@@ -8,12 +8,11 @@
 ghost use Rattle.std.specs.Prelude.{◌≡◌, ◌≤◌, ◌<◌, length, drop};
 ghost use Rattle.semantics.specs.Definitions.Layout.{max_terms};
 ghost use Rattle.semantics.specs.Definitions.Basics.{zeros};
-ghost use Rattle.hall_layout.specs.Layout.{index_size};
 ghost use Rattle.hall_laws.specs.ReadParts.{waits};
 ghost use Rattle.hall_check.specs.Scans.{KindRead, TreeRead, ComponentRead, HallRead};
 
 use hall_layout::{
-    CHANNELS, COMPONENT_BODY, IDLE_SIZE, INDEX_SIZE, KIND_FORK, KIND_OUTPUT, KIND_TRANSACTION,
+    CHANNELS, COMPONENT_BODY, IDLE_SIZE, INDEX_SIZE, Index, KIND_FORK, KIND_OUTPUT, KIND_TRANSACTION,
     KIND_WAITING, MAX_COMPONENTS, TRANSACTION_HEAD, node_size, pending_behind,
 };
 use hall_nodes::node_at;
@@ -107,34 +106,31 @@ pub fn component_scan(decoded: &[u8; DECODED], n: usize, s: &[u8], at: usize) ->
     }
 }
 
-// How many components a well-formed hall has, for a decoded table of n terms: its bytes are counts, at most 64
-// components up to the first zero byte or the end, and zeros behind them. Then `starts` says where each component
-// begins and where the last one ends.
-pub fn well_formed(
-    decoded: &[u8; DECODED],
-    n: usize,
-    s: &[u8],
-    starts: &mut [usize; INDEX_SIZE],
-) -> Option<usize>
-    requires { (n ≤ max_terms) × (length starts.old ≡ index_size) }
-    ensures { HallRead decoded.now n s.now starts.new result }
+// The index of a hall that is well formed for a decoded table of n terms: its bytes are counts, at most 64 components up to
+// the first zero byte or the end, and zeros behind them.
+pub fn well_formed(decoded: &[u8; DECODED], n: usize, s: &[u8]) -> Option<Index>
+    requires { n ≤ max_terms }
+    ensures { HallRead decoded.now n s.now result }
 {
     if s.len() < CHANNELS {
         return None;
     }
-    let mut components: usize = 0;
+    let mut index = Index {
+        starts: [0; INDEX_SIZE],
+        components: 0,
+    };
     let mut at = CHANNELS;
-    starts[0] = CHANNELS;
+    index.starts[0] = CHANNELS;
     while at < s.len() {
         if s[at] == 0 {
-            return zeros_from(s, at).then_some(components);
+            return zeros_from(s, at).then_some(index);
         }
-        if components == MAX_COMPONENTS {
+        if index.components == MAX_COMPONENTS {
             return None;
         }
         at = component_scan(decoded, n, s, at)?;
-        components += 1;
-        starts[components] = at;
+        index.components += 1;
+        index.starts[index.components] = at;
     }
-    Some(components)
+    Some(index)
 }

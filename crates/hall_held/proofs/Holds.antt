@@ -27,6 +27,7 @@ use Rattle.hall_laws.specs.Positions.{all_bytes, used_of, start_of, Context, bef
 use Rattle.hall_laws.proofs.Cursors.{over}
 use Rattle.hall_laws.proofs.Configurations.{well_formed_fits, zeros_behind, bytes_length, component_cursor, node_cursor, hall_node, hall_no_node}
 use Rattle.hall_laws.proofs.Starts.{start_all, start_below, start_next, idle_size_holds}
+use Rattle.hall_layout.specs.declared.Index.{Index}
 use Rattle.hall_check.specs.Scans.{HallIs, HallRead}
 use Rattle.hall_held.specs.Holds.{Holds}
 
@@ -43,27 +44,27 @@ slice_bytes [] f = tt
 slice_bytes (x ∷ s) f = (let b : Fits w8 x = f 0 in omega arith, slice_bytes s (λ i. f (suc i)))
 
 -- what the scan tells of the configuration that was read
-pub read_holds : (ts : List Term) (s starts : List ℕ) (n : ℕ) (h : Configuration) → GoodTable ts → Bytes s →
-    length s ≡ hall_bytes → length starts ≡ index_size → configuration_of ts s ≡ some h →
-    HallIs (Some n) starts (some h) → Holds ts h s starts n
-read_holds ts s starts n h good b l sized e f =
+pub read_holds : (ts : List Term) (s : List ℕ) (x : Index) (h : Configuration) → GoodTable ts → Bytes s →
+    length s ≡ hall_bytes → length x.starts ≡ index_size → configuration_of ts s ≡ some h →
+    HallIs (Some x) (some h) → Holds ts h s x.starts x.components
+read_holds ts s x h good b l sized e f =
     let w = read_is_well_formed ts s h good b l e in
     record { good = good; form = w.0; bytes = sym w.1; counted = f.0; sized = sized; index = f.2 }
 
 -- there is one
-pub record HeldConfiguration (ts : List Term) (s starts : List ℕ) (n : ℕ) : Type 0 where
+pub record HeldConfiguration (ts : List Term) (s : List ℕ) (x : Index) : Type 0 where
   pub configuration : Configuration
   pub stored : configuration_of ts s ≡ some configuration
-  pub holds : Holds ts configuration s starts n
+  pub holds : Holds ts configuration s x.starts x.components
 
-pub well_formed_holds : (d s starts : List ℕ) (k n : ℕ) (ts : List Term) → HallRead d k s starts (Some n) →
-    Decoded ts d → length ts ≡ k → length s ≡ hall_bytes → Bytes s → HeldConfiguration ts s starts n
-well_formed_holds d s starts k n ts x y c l b = go (configuration_of ts s) refl (x.found ts y c)
+pub well_formed_holds : (d s : List ℕ) (k : ℕ) (index : Index) (ts : List Term) → HallRead d k s (Some index) →
+    Decoded ts d → length ts ≡ k → length s ≡ hall_bytes → Bytes s → HeldConfiguration ts s index
+well_formed_holds d s k index ts x y c l b = go (configuration_of ts s) refl (x.found ts y c)
   where
-    go : (o : Option Configuration) → configuration_of ts s ≡ o → HallIs (Some n) starts o → HeldConfiguration ts s starts n
+    go : (o : Option Configuration) → configuration_of ts s ≡ o → HallIs (Some index) o → HeldConfiguration ts s index
     go none e f = absurd f
     go (some h) e f =
-        record { configuration = h; stored = e; holds = read_holds ts s starts n h y.good b l x.sized e f }
+        record { configuration = h; stored = e; holds = read_holds ts s index h y.good b l x.sized e f }
 
 -- ---- what a component begins with
 

@@ -6,13 +6,13 @@
 // are touched.
 #![tactic(auto)]
 
-ghost use Rattle.std.specs.Prelude.{◌+◌, ◌≤◌, get_or};
+ghost use Rattle.std.specs.Prelude.{◌≡◌, ◌+◌, ◌-◌, ◌≤◌, get_or};
 ghost use Rattle.hall_layout.specs.Layout.{index_size};
 ghost use Rattle.hall_held.specs.Starts.{StartsSet, moved, spaced, CanMoveStarts, CanSpaceStarts, CanRenumber, Renumbered};
 ghost use Rattle.hall_held.specs.Holds.{CanReplace, Replaced, CanReplacePart, ReplacedPart};
 
 use buffer::splice;
-use hall_layout::{IDLE_SIZE, INDEX_SIZE};
+use hall_layout::{IDLE_SIZE, INDEX_SIZE, Index};
 
 // The n entries from `from` on, moved to the same or a lower place: the lowest first. Each becomes lower by `less` and
 // then higher by `more`.
@@ -94,42 +94,43 @@ fn renumber(
 }
 
 // The component at a position gives way to as many others as `pieces` says, whose bytes are `new`: idle ones, or one of
-// any kind. The answer is how many components there are now.
+// any kind.
 pub fn replace_component(
     hall: &mut [u8],
-    starts: &mut [usize; INDEX_SIZE],
-    components: usize,
+    index: &mut Index,
     position: usize,
     new: &[u8],
     pieces: usize,
-) -> usize
-    requires { CanReplace hall.old starts.old components position new.now pieces }
-    ensures { Replaced hall.old starts.old components position new.now pieces
-        hall.new starts.new result }
+)
+    requires { CanReplace hall.old index.old.starts index.old.components position new.now pieces }
+    ensures component { Replaced hall.old index.old.starts index.old.components position new.now pieces
+        hall.new index.new.starts index.new.components }
+    ensures count { index.new.components ≡ index.old.components - 1 + pieces }
 {
-    let begin = starts[position];
-    let end = starts[position + 1];
-    let used = starts[components];
+    let begin = index.starts[position];
+    let end = index.starts[position + 1];
+    let used = index.starts[index.components];
     splice(hall, begin, end, used, new);
-    renumber(starts, components, position, pieces, end - begin, new.len());
-    components - 1 + pieces
+    let less = end - begin;
+    renumber(&mut index.starts, index.components, position, pieces, less, new.len());
+    index.components = index.components - 1 + pieces;
 }
 
 // The bytes from..to, inside the component at a position, give way to `new`.
 pub fn replace_part(
     hall: &mut [u8],
-    starts: &mut [usize; INDEX_SIZE],
-    components: usize,
+    index: &mut Index,
     position: usize,
     from: usize,
     to: usize,
     new: &[u8],
 )
-    requires { CanReplacePart hall.old starts.old components position from to new.now }
-    ensures { ReplacedPart hall.old starts.old components position from to
-        new.now hall.new starts.new }
+    requires { CanReplacePart hall.old index.old.starts index.old.components position from to new.now }
+    ensures part { ReplacedPart hall.old index.old.starts index.old.components position from to
+        new.now hall.new index.new.starts }
+    ensures components { index.new.components ≡ index.old.components }
 {
-    let used = starts[components];
+    let used = index.starts[index.components];
     splice(hall, from, to, used, new);
-    renumber(starts, components, position, 1, to - from, new.len());
+    renumber(&mut index.starts, index.components, position, 1, to - from, new.len());
 }

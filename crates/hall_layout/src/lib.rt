@@ -65,8 +65,15 @@ pub const NO_TERM: u8 = 255;
 // A hall has room for what the widest process opens into.
 pub const MAX_COMPONENTS: usize = MAX_WIDTH as usize;
 
-// An index of where components begin: an entry for each, and one for where the last one ends.
+// The entries of an index: where each component begins, and one more for where the last one ends.
 pub const INDEX_SIZE: usize = MAX_COMPONENTS + 1;
+
+// The index of a hall's components (stations): where each begins and where the last one ends, and how many there are.
+#[derive(Clone, Copy)]
+pub struct Index {
+    pub starts: [usize; INDEX_SIZE],
+    pub components: usize,
+}
 
 // The nodes of a transaction of as many branches as there may be: a fork for each leaf but one.
 pub const MAX_NODES: u8 = 2 * MAX_BRANCHES - 1;

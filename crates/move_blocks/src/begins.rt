@@ -8,7 +8,7 @@ ghost use Rattle.move_blocks.specs.TransactionBegin.{first_leaf, begun_bytes};
 use buffer::write_at;
 use hall_held::replace_component;
 use hall_layout::{
-    CHANNELS, COMPONENT_BODY, IDLE_SIZE, INDEX_SIZE, KIND_LEAF, KIND_TRANSACTION, LEAF_LOG,
+    CHANNELS, COMPONENT_BODY, IDLE_SIZE, Index, KIND_LEAF, KIND_TRANSACTION, LEAF_LOG,
     LEAF_LOG_LENGTH, LEAF_SIZE, LEAF_TERM, TRANSACTION_HEAD,
 };
 use move_logs::Log;
@@ -49,17 +49,16 @@ fn begun(hall: &[u8], block: u8, expression: u8) -> [u8; BEGUN]
 pub fn begin(
     decoded: &[u8; DECODED],
     hall: &mut [u8],
-    starts: &mut [usize; INDEX_SIZE],
-    components: usize,
+    index: &mut Index,
     position: usize,
 )
-    requires { CanApply decoded.now hall.old starts.old components (act position) 4 }
-    ensures { Applied decoded.now hall.old starts.old components
-        (act position) 4 hall.new starts.new components }
+    requires { CanApply decoded.now hall.old index.old.starts index.old.components (act position) 4 }
+    ensures { Applied decoded.now hall.old index.old.starts index.old.components
+        (act position) 4 hall.new index.new.starts index.new.components }
 {
-    let at = starts[position];
+    let at = index.starts[position];
     let block = hall[at + COMPONENT_BODY];
     let expression = table_terms::first_at(decoded, usize::from(block));
     let new = begun(hall, block, expression);
-    replace_component(hall, starts, components, position, &new, 1);
+    replace_component(hall, index, position, &new, 1);
 }

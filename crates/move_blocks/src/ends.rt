@@ -1,11 +1,12 @@
 // A transaction (attempt) ends: ATRE, ATFAIL and ATOK.
+ghost use Rattle.std.specs.Prelude.{◌≡◌};
 ghost use Rattle.move_blocks.specs.TransactionEnd.{CanLookCommit, CommitLooked, CanLookEnd, EndLooked};
 ghost use Rattle.move_blocks.specs.TransactionEnd.{CanRestart, Restarted, CanCommit, Committed};
 
 use answers::{Move, Reason, Rule};
 use hall_held::replace_component;
 use hall_layout::{
-    COMPONENT_BODY, IDLE_SIZE, INDEX_SIZE, KIND_WAITING, LEAF_LOG, LEAF_LOG_LENGTH, MAX_COMPONENTS,
+    COMPONENT_BODY, IDLE_SIZE, Index, KIND_WAITING, LEAF_LOG, LEAF_LOG_LENGTH, MAX_COMPONENTS,
     TRANSACTION_HEAD,
 };
 use table_records::{END, RETRY};
@@ -55,37 +56,35 @@ pub fn look_end(
 // ATRE and ATFAIL: the transaction at a position gives way to its block.
 pub fn restart(
     hall: &mut [u8],
-    starts: &mut [usize; INDEX_SIZE],
-    components: usize,
+    index: &mut Index,
     position: usize,
 )
-    requires { CanRestart hall.old starts.old components position }
-    ensures { Restarted hall.old starts.old components position
-        hall.new starts.new }
+    requires { CanRestart hall.old index.old.starts index.old.components position }
+    ensures block { Restarted hall.old index.old.starts index.old.components position
+        hall.new index.new.starts }
+    ensures components { index.new.components ≡ index.old.components }
 {
-    let at = starts[position];
+    let at = index.starts[position];
     let new = [KIND_WAITING, hall[at + COMPONENT_BODY]];
-    replace_component(hall, starts, components, position, &new, 1);
+    replace_component(hall, index, position, &new, 1);
 }
 
-// ATOK: the reads are taken from the counts, and each write becomes an output. The answer is how many components there
-// are now.
+// ATOK: the reads are taken from the counts, and each write becomes an output.
 pub fn commit(
     hall: &mut [u8],
-    starts: &mut [usize; INDEX_SIZE],
-    components: usize,
+    index: &mut Index,
     position: usize,
-) -> usize
-    requires { CanCommit hall.old starts.old components position }
-    ensures { Committed hall.old starts.old components position
-        hall.new starts.new result }
+)
+    requires { CanCommit hall.old index.old.starts index.old.components position }
+    ensures { Committed hall.old index.old.starts index.old.components position
+        hall.new index.new.starts index.new.components }
 {
-    let leaf = starts[position] + TRANSACTION_HEAD;
+    let leaf = index.starts[position] + TRANSACTION_HEAD;
     let size = usize::from(hall[leaf + LEAF_LOG_LENGTH]);
     let need = move_logs::needs_of(hall, leaf + LEAF_LOG, size);
     let outputs = move_logs::outputs_of(hall, leaf + LEAF_LOG, size);
     move_logs::take_needs(hall, need);
     let count = outputs.count;
     let bytes = &outputs.bytes[..count * IDLE_SIZE];
-    replace_component(hall, starts, components, position, bytes, count)
+    replace_component(hall, index, position, bytes, count);
 }

@@ -7,7 +7,7 @@ ghost use Rattle.move_inside.specs.LeafBytes.{left_size, fork_bytes, left_bytes,
 
 use buffer::write_at;
 use hall_held::replace_part;
-use hall_layout::{FORK_SIZE, INDEX_SIZE, KIND_FORK, LEAF_SIZE, LEAF_TERM};
+use hall_layout::{FORK_SIZE, Index, KIND_FORK, LEAF_SIZE, LEAF_TERM};
 use table_terms::DECODED;
 
 // A fork and the leaf that is its left side.
@@ -48,50 +48,50 @@ fn fork_bytes(decoded: &[u8; DECODED], hall: &[u8], at: usize) -> [u8; SPLIT_SIZ
 pub fn split(
     decoded: &[u8; DECODED],
     hall: &mut [u8],
-    starts: &mut [usize; INDEX_SIZE],
-    components: usize,
+    index: &mut Index,
     position: usize,
     at: usize,
 )
-    requires { CanSplit hall.old at × CanReplacePart hall.old starts.old components position at (at + leaf_size)
+    requires { CanSplit hall.old at × CanReplacePart hall.old index.old.starts index.old.components position at (at + leaf_size)
         (fork_bytes decoded.now hall.old at) }
-    ensures { ReplacedPart hall.old starts.old components position at (at + leaf_size)
-        (fork_bytes decoded.now hall.old at) hall.new starts.new }
+    ensures part { ReplacedPart hall.old index.old.starts index.old.components position at (at + leaf_size)
+        (fork_bytes decoded.now hall.old at) hall.new index.new.starts }
+    ensures components { index.new.components ≡ index.old.components }
 {
     let new = fork_bytes(decoded, hall, at);
-    replace_part(hall, starts, components, position, at, at + LEAF_SIZE, &new);
+    replace_part(hall, index, position, at, at + LEAF_SIZE, &new);
 }
 
 // AOF: the fork and its left side, a retry leaf, give way to its right side.
 pub fn drop_left(
     hall: &mut [u8],
-    starts: &mut [usize; INDEX_SIZE],
-    components: usize,
+    index: &mut Index,
     position: usize,
     at: usize,
 )
     requires { (at + left_size ≤ length hall.old)
-        × CanReplacePart hall.old starts.old components position at (at + left_size) [] }
-    ensures { ReplacedPart hall.old starts.old components position at
-        (at + left_size) [] hall.new starts.new }
+        × CanReplacePart hall.old index.old.starts index.old.components position at (at + left_size) [] }
+    ensures part { ReplacedPart hall.old index.old.starts index.old.components position at
+        (at + left_size) [] hall.new index.new.starts }
+    ensures components { index.new.components ≡ index.old.components }
 {
-    replace_part(hall, starts, components, position, at, at + LEFT_SIZE, &[]);
+    replace_part(hall, index, position, at, at + LEFT_SIZE, &[]);
 }
 
 // AOE: the fork gives way to its left side, an end leaf.
 pub fn keep_left(
     hall: &mut [u8],
-    starts: &mut [usize; INDEX_SIZE],
-    components: usize,
+    index: &mut Index,
     position: usize,
     at: usize,
 )
-    requires { (at + left_size ≤ length hall.old) × CanReplacePart hall.old starts.old components position at
+    requires { (at + left_size ≤ length hall.old) × CanReplacePart hall.old index.old.starts index.old.components position at
         (tree_end hall.old at) (left_bytes hall.old at) }
-    ensures { ReplacedPart hall.old starts.old components position at
-        (tree_end hall.old at) (left_bytes hall.old at) hall.new starts.new }
+    ensures part { ReplacedPart hall.old index.old.starts index.old.components position at
+        (tree_end hall.old at) (left_bytes hall.old at) hall.new index.new.starts }
+    ensures components { index.new.components ≡ index.old.components }
 {
     let end = hall_layout::tree_end(hall, at);
     let new = leaf_bytes(hall, at + FORK_SIZE);
-    replace_part(hall, starts, components, position, at, end, &new);
+    replace_part(hall, index, position, at, end, &new);
 }

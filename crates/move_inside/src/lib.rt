@@ -10,11 +10,12 @@ mod alternatives;
 mod reads;
 mod redexes;
 
+ghost use Rattle.std.specs.Prelude.{◌≡◌};
 ghost use Rattle.move_inside.specs.FoundMoves.{CanReadRule, RuleFound};
 ghost use Rattle.move_inside.specs.MadeMoves.{CanMoveNode, NodeMoved};
 
 use answers::{Move, Reason, Rule};
-use hall_layout::{IDLE_SIZE, INDEX_SIZE, WRITE_OFFSET};
+use hall_layout::{IDLE_SIZE, Index, WRITE_OFFSET};
 use redexes::{Redex, redex_at};
 use table_terms::DECODED;
 
@@ -43,18 +44,18 @@ pub fn rule_at(
 pub fn move_at(
     decoded: &[u8; DECODED],
     hall: &mut [u8],
-    starts: &mut [usize; INDEX_SIZE],
-    components: usize,
+    index: &mut Index,
     position: usize,
     at: usize,
 ) -> Result<Move, Reason>
-    requires { CanMoveNode decoded.now hall.old starts.old components position at }
-    ensures { NodeMoved decoded.now hall.old starts.old components position at result
-        hall.new starts.new }
+    requires { CanMoveNode decoded.now hall.old index.old.starts index.old.components position at }
+    ensures node { NodeMoved decoded.now hall.old index.old.starts index.old.components position at result
+        hall.new index.new.starts }
+    ensures components { index.new.components ≡ index.old.components }
 {
     match redex_at(decoded, hall, at) {
         Some(Redex::Read { channel }) => {
-            let snapshot = starts[position] + IDLE_SIZE;
+            let snapshot = index.starts[position] + IDLE_SIZE;
             Ok(reads::make_read(decoded, hall, snapshot, at, channel))
         }
         Some(Redex::Write { channel }) => {
@@ -62,15 +63,15 @@ pub fn move_at(
             Ok(Move::by(Rule::Awr))
         }
         Some(Redex::OrElse) => {
-            alternatives::split(decoded, hall, starts, components, position, at);
+            alternatives::split(decoded, hall, index, position, at);
             Ok(Move::by(Rule::Aoi))
         }
         Some(Redex::LeftEnds) => {
-            alternatives::keep_left(hall, starts, components, position, at);
+            alternatives::keep_left(hall, index, position, at);
             Ok(Move::by(Rule::Aoe))
         }
         Some(Redex::LeftRetries) => {
-            alternatives::drop_left(hall, starts, components, position, at);
+            alternatives::drop_left(hall, index, position, at);
             Ok(Move::by(Rule::Aof))
         }
         None => Err(Reason::NoRule),

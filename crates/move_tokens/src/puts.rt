@@ -3,7 +3,7 @@ ghost use Rattle.move_tokens.specs.Tokens.{CanLookOutput, OutputLooked, CanPut, 
 
 use answers::{Move, Reason, Rule};
 use hall_held::replace_component;
-use hall_layout::{COMPONENT_BODY, INDEX_SIZE, MAX_COUNT};
+use hall_layout::{COMPONENT_BODY, Index, MAX_COUNT};
 
 // What OUT is answered at an output of this channel: refused where the channel is full.
 pub fn look_output(hall: &[u8], channel: u8) -> Result<Move, Reason>
@@ -16,19 +16,17 @@ pub fn look_output(hall: &[u8], channel: u8) -> Result<Move, Reason>
     Ok(Move::by(Rule::Out))
 }
 
-// OUT at a position. The answer is how many components there are now.
+// OUT at a position.
 pub fn put(
     hall: &mut [u8],
-    starts: &mut [usize; INDEX_SIZE],
-    components: usize,
+    index: &mut Index,
     position: usize,
-) -> usize
-    requires { CanPut hall.old starts.old components position }
-    ensures { TokenPut hall.old starts.old components position hall.new
-        starts.new result }
+)
+    requires { CanPut hall.old index.old.starts index.old.components position }
+    ensures { TokenPut hall.old index.old.starts index.old.components position hall.new index.new.starts index.new.components }
 {
-    let begin = starts[position];
+    let begin = index.starts[position];
     let channel = usize::from(hall[begin + COMPONENT_BODY]);
     hall[channel] += 1;
-    replace_component(hall, starts, components, position, &[], 0)
+    replace_component(hall, index, position, &[], 0);
 }

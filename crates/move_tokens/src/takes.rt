@@ -6,7 +6,7 @@ ghost use Rattle.move_tokens.specs.Tokens.{take_number, repeats, CanLookTake, Ta
 
 use answers::{Move, Reason, Rule};
 use hall_held::replace_component;
-use hall_layout::{COMPONENT_BODY, IDLE_SIZE, INDEX_SIZE, KIND_WAITING, MAX_COMPONENTS};
+use hall_layout::{COMPONENT_BODY, IDLE_SIZE, Index, KIND_WAITING, MAX_COMPONENTS};
 use hall_open::{component_count, write_components, write_idle};
 use table_records::{PAR, REPEATED_TAKE};
 use table_terms::DECODED;
@@ -91,51 +91,43 @@ fn write_successors(decoded: &[u8; DECODED], term: u8, successors: &mut [u8]) ->
 fn take_by(
     decoded: &[u8; DECODED],
     hall: &mut [u8],
-    starts: &mut [usize; INDEX_SIZE],
-    components: usize,
+    index: &mut Index,
     position: usize,
     successors: &mut [u8],
-) -> usize
-    requires can_take { CanTake decoded.now hall.old starts.old components position }
-    requires can_write_successors { CanWriteSuccessors decoded.now (term_of hall.old starts.old position) successors.old }
-    ensures { TokenTaken decoded.now hall.old starts.old components position
-        hall.new starts.new result }
+)
+    requires can_take { CanTake decoded.now hall.old index.old.starts index.old.components position }
+    requires can_write_successors { CanWriteSuccessors decoded.now (term_of hall.old index.old.starts position) successors.old }
+    ensures { TokenTaken decoded.now hall.old index.old.starts index.old.components position
+        hall.new index.new.starts index.new.components }
 {
-    let begin = starts[position];
+    let begin = index.starts[position];
     let term = hall[begin + COMPONENT_BODY];
     let channel = usize::from(table_terms::first_at(decoded, usize::from(term)));
     hall[channel] -= 1;
     let end = write_successors(decoded, term, successors);
-    replace_component(
-        hall,
-        starts,
-        components,
-        position,
-        &successors[..end],
-        end / IDLE_SIZE,
-    )
+    replace_component(hall, index, position, &successors[..end], end / IDLE_SIZE);
 }
 
-// IN or REP at a position. The answer is how many components there are now. A continuation that is not two side by side
-// opens into one component at most: only the others take a buffer for as many as may be.
+// IN or REP at a position. A continuation that is not two side by side opens into one component at most: only the others
+// take a buffer for as many as may be.
 pub fn take(
     decoded: &[u8; DECODED],
     hall: &mut [u8],
-    starts: &mut [usize; INDEX_SIZE],
-    components: usize,
+    index: &mut Index,
     position: usize,
-) -> usize
-    requires { CanTake decoded.now hall.old starts.old components position }
-    ensures { TokenTaken decoded.now hall.old starts.old components position
-        hall.new starts.new result }
+)
+    requires { CanTake decoded.now hall.old index.old.starts index.old.components position }
+    ensures { TokenTaken decoded.now hall.old index.old.starts index.old.components position
+        hall.new index.new.starts index.new.components }
 {
-    let begin = starts[position];
+    let begin = index.starts[position];
     let term = usize::from(hall[begin + COMPONENT_BODY]);
     let continuation = usize::from(table_terms::second_at(decoded, term));
     if table_terms::kind_at(decoded, continuation) == PAR {
         let mut successors = [0u8; SUCCESSORS_SIZE];
-        return take_by(decoded, hall, starts, components, position, &mut successors);
+        take_by(decoded, hall, index, position, &mut successors);
+    } else {
+        let mut successors = [0u8; SUCCESSOR_SIZE];
+        take_by(decoded, hall, index, position, &mut successors);
     }
-    let mut successors = [0u8; SUCCESSOR_SIZE];
-    take_by(decoded, hall, starts, components, position, &mut successors)
 }

@@ -11,8 +11,8 @@ loop-at-init c = search hall_begun
 pub returns-then-s-at-eq0 : goal.returns-then-s-at-eq0
 returns-then-s-at-eq0 c = search hall_zeros
 
-pub returns-then-components-eq-MAX_COMPONENTS : goal.returns-then-components-eq-MAX_COMPONENTS
-returns-then-components-eq-MAX_COMPONENTS c = search hall_full
+pub returns-then-index-eq-MAX_COMPONENTS : goal.returns-then-index-eq-MAX_COMPONENTS
+returns-then-index-eq-MAX_COMPONENTS c = search hall_full
 
 pub returns-in_err-at : goal.returns-in_err-at
 returns-in_err-at c = rw c.from_residual.ensures (search (hall_broken, c.in_err-at.ensures))

@@ -6,14 +6,14 @@ use Rattle.hall_held.proofs.replace_component.Goals as goal
 pub splice-requires : goal.splice-requires
 splice-requires c = (search component_ordered, search component_room)
 
-pub overflow_sub-end : goal.overflow_sub-end
-overflow_sub-end c = search component_ordered
+pub overflow_sub-less : goal.overflow_sub-less
+overflow_sub-less c = search component_ordered
 
 pub renumber-requires : goal.renumber-requires
 renumber-requires c = search can_renumber
 
-pub overflow_add-result : goal.overflow_add-result
-overflow_add-result c = omega (arith, (can_renumber c.requires).room)
+pub overflow_add-index : goal.overflow_add-index
+overflow_add-index c = omega (arith, (can_renumber c.requires).room)
 
-pub returns : goal.returns
-returns c = search component_replaced
+pub returns-clause-component : goal.returns-clause-component
+returns-clause-component c = search component_replaced

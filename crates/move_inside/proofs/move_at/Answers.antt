@@ -36,20 +36,20 @@ keep_left-requires c = (search (keep_inside, held, some_is), search (keep_can, s
 pub drop_left-requires : goal.drop_left-requires
 drop_left-requires c = (search (drop_inside, held, some_is), search (drop_can, some_is))
 
-pub returns-in-Some-Read : goal.returns-in-Some-Read
-returns-in-Some-Read c = search (read_moved, some_is)
+pub returns-in-Some-Read-clause-node : goal.returns-in-Some-Read-clause-node
+returns-in-Some-Read-clause-node c = search (read_moved, some_is)
 
-pub returns-in-Some-Write : goal.returns-in-Some-Write
-returns-in-Some-Write c = search (write_moved, some_is)
+pub returns-in-Some-Write-clause-node : goal.returns-in-Some-Write-clause-node
+returns-in-Some-Write-clause-node c = search (write_moved, some_is)
 
-pub returns-in-Some-OrElse : goal.returns-in-Some-OrElse
-returns-in-Some-OrElse c = search (split_moved, some_is)
+pub returns-in-Some-OrElse-clause-node : goal.returns-in-Some-OrElse-clause-node
+returns-in-Some-OrElse-clause-node c = search (split_moved, some_is)
 
-pub returns-in-Some-LeftEnds : goal.returns-in-Some-LeftEnds
-returns-in-Some-LeftEnds c = search (keep_moved, some_is)
+pub returns-in-Some-LeftEnds-clause-node : goal.returns-in-Some-LeftEnds-clause-node
+returns-in-Some-LeftEnds-clause-node c = search (keep_moved, some_is)
 
-pub returns-in-Some-LeftRetries : goal.returns-in-Some-LeftRetries
-returns-in-Some-LeftRetries c = search (drop_moved, some_is)
+pub returns-in-Some-LeftRetries-clause-node : goal.returns-in-Some-LeftRetries-clause-node
+returns-in-Some-LeftRetries-clause-node c = search (drop_moved, some_is)
 
-pub returns-in-None : goal.returns-in-None
-returns-in-None c = search stays
+pub returns-in-None-clause-node : goal.returns-in-None-clause-node
+returns-in-None-clause-node c = search stays

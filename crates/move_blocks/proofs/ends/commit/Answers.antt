@@ -6,11 +6,11 @@ use Rattle.move_blocks.proofs.TransactionEnd.{commit_looks, commit_position, com
 use borrow.Author.Rules.{rules}
 use Rattle.move_blocks.proofs.ends.commit.Goals as goal
 
-pub offset_bounds-starts-position : goal.offset_bounds-starts-position
-offset_bounds-starts-position c = let l = commit_position _ _ _ _ c.requires in search rules
+pub offset_bounds-index-position : goal.offset_bounds-index-position
+offset_bounds-index-position c = let l = commit_position _ _ _ _ c.requires in search rules
 
-pub bounds-starts-position : goal.bounds-starts-position
-bounds-starts-position c = search commit_position
+pub bounds-index-position : goal.bounds-index-position
+bounds-index-position c = search commit_position
 
 pub overflow_add-leaf : goal.overflow_add-leaf
 overflow_add-leaf c = let l = commit_inside _ _ _ _ c.requires in search rules

@@ -3,11 +3,11 @@ use native.Mathlib.Omega.{arith}
 use Rattle.move_tokens.proofs.TokenPuts.{put_position, put_body, put_channel, put_room, can_replace_output, token_put}
 use Rattle.move_tokens.proofs.puts.put.Goals as goal
 
-pub offset_bounds-starts-position : goal.offset_bounds-starts-position
-offset_bounds-starts-position c = omega (arith, put_position _ _ _ _ c.requires)
+pub offset_bounds-index-position : goal.offset_bounds-index-position
+offset_bounds-index-position c = omega (arith, put_position _ _ _ _ c.requires)
 
-pub bounds-starts-position : goal.bounds-starts-position
-bounds-starts-position c = omega (arith, put_position _ _ _ _ c.requires)
+pub bounds-index-position : goal.bounds-index-position
+bounds-index-position c = omega (arith, put_position _ _ _ _ c.requires)
 
 pub overflow_add-begin : goal.overflow_add-begin
 overflow_add-begin c = omega (arith, put_body _ _ _ _ c.requires)

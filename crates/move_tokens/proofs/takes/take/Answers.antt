@@ -4,11 +4,11 @@ use native.Mathlib.Omega.{arith}
 use borrow.Author.Rules.{rules}
 use Rattle.move_tokens.proofs.takes.take.Goals as goal
 
-pub offset_bounds-starts-position : goal.offset_bounds-starts-position
-offset_bounds-starts-position c = omega (arith, take_position _ _ _ _ _ c.requires)
+pub offset_bounds-index-position : goal.offset_bounds-index-position
+offset_bounds-index-position c = omega (arith, take_position _ _ _ _ _ c.requires)
 
-pub bounds-starts-position : goal.bounds-starts-position
-bounds-starts-position c = omega (arith, take_position _ _ _ _ _ c.requires)
+pub bounds-index-position : goal.bounds-index-position
+bounds-index-position c = omega (arith, take_position _ _ _ _ _ c.requires)
 
 pub overflow_add-begin : goal.overflow_add-begin
 overflow_add-begin c = omega (arith, take_body_inside _ _ _ _ _ c.requires)
@@ -26,6 +26,6 @@ pub take_by-requires-clause-can_write_successors : goal.take_by-requires-clause-
 take_by-requires-clause-can_write_successors c =
     can_write_many _ _ _ _ _ c.requires _ _ _ c.from-term.ensures c.second_at.ensures c.from-continuation.ensures _ (search rules)
 
-pub take_by-requires-2-clause-can_write_successors : goal.take_by-requires-2-clause-can_write_successors
-take_by-requires-2-clause-can_write_successors c =
+pub take_by-requires-else-kind_at-eq-PAR-clause-can_write_successors : goal.take_by-requires-else-kind_at-eq-PAR-clause-can_write_successors
+take_by-requires-else-kind_at-eq-PAR-clause-can_write_successors c =
     can_write_few _ _ _ _ _ c.requires _ _ _ c.from-term.ensures c.second_at.ensures c.from-continuation.ensures _ c.kind_at.ensures c.if-kind_at-eq-PAR.false _ (search rules)

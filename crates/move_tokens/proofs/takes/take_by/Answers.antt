@@ -3,11 +3,11 @@ use Rattle.move_tokens.proofs.TokenTakes.{take_position, take_body_inside, take_
 use native.Mathlib.Omega.{arith}
 use Rattle.move_tokens.proofs.takes.take_by.Goals as goal
 
-pub offset_bounds-starts-position : goal.offset_bounds-starts-position
-offset_bounds-starts-position c = omega (arith, take_position _ _ _ _ _ c.requires.can_take)
+pub offset_bounds-index-position : goal.offset_bounds-index-position
+offset_bounds-index-position c = omega (arith, take_position _ _ _ _ _ c.requires.can_take)
 
-pub bounds-starts-position : goal.bounds-starts-position
-bounds-starts-position c = omega (arith, take_position _ _ _ _ _ c.requires.can_take)
+pub bounds-index-position : goal.bounds-index-position
+bounds-index-position c = omega (arith, take_position _ _ _ _ _ c.requires.can_take)
 
 pub overflow_add-term : goal.overflow_add-term
 overflow_add-term c = omega (arith, take_body_inside _ _ _ _ _ c.requires.can_take)
