@@ -122,8 +122,8 @@ module _ {d s starts : List ℕ} {n p : ℕ} where
     unfolding number_of_rule
     can_begin x = looked_can_apply x block_begun refl
 
-    pub act_begin : {q : ℕ} {s' starts' : List ℕ} → Applied d s starts n (act p) 4 s' starts' n → p ≡ q → {m : Move} →
-        m ≡ record { rule = Atst; short = None } → EntryMade d s starts n (act q) (Ok m) s' starts' n
+    pub act_begin : {q : ℕ} {s' starts' : List ℕ} {n' : ℕ} → Applied d s starts n (act p) 4 s' starts' n' → p ≡ q → {m : Move} →
+        m ≡ record { rule = Atst; short = None } → EntryMade d s starts n (act q) (Ok m) s' starts' n'
     unfolding number_of_rule
     act_begin t e made = rw made (act_named (entry_made_moved block_begun refl t) e)
 
@@ -176,7 +176,7 @@ module _ {d s starts : List ℕ} {n p : ℕ} where
       pub can_restart : CanRestart s starts n p
       can_restart = record { decoded = d; rule = number_of_rule m.rule; either = restarts; accepts = end_can_apply }
 
-      pub act_restart : {s' starts' : List ℕ} → Restarted s starts n p s' starts' →
-          EntryMade d s starts n (act p) (Ok m) s' starts' n
-      act_restart t =
-          entry_made_moved (end_looked f g refl) moves (t.found d (number_of_rule m.rule) restarts)
+      pub act_restart : {s' starts' : List ℕ} {n' : ℕ} → Restarted s starts n p s' starts' → n' ≡ n →
+          EntryMade d s starts n (act p) (Ok m) s' starts' n'
+      act_restart t same =
+          rw same (entry_made_moved (end_looked f g refl) moves (t.found d (number_of_rule m.rule) restarts))

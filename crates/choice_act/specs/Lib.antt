@@ -1,2 +1,1 @@
 pub mod Occupants
-pub mod Acts

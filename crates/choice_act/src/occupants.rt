@@ -2,7 +2,7 @@
 ghost use Rattle.hall_held.specs.Holds.{Running};
 ghost use Rattle.choice_act.specs.Occupants.{OccupantRead};
 
-use hall_layout::{COMPONENT_BODY, INDEX_SIZE, KIND_OUTPUT, KIND_TRANSACTION};
+use hall_layout::{COMPONENT_BODY, Index, KIND_OUTPUT, KIND_TRANSACTION};
 use table_records::ATOM;
 use table_terms::DECODED;
 
@@ -21,18 +21,17 @@ pub enum Occupant {
 pub fn occupant_at(
     decoded: &[u8; DECODED],
     hall: &[u8],
-    starts: &[usize; INDEX_SIZE],
-    components: usize,
+    index: &Index,
     position: usize,
 ) -> Option<Occupant>
-    requires { Running decoded.now hall.now starts.now components }
-    ensures { OccupantRead decoded.now hall.now starts.now components position
+    requires { Running decoded.now hall.now index.now.starts index.now.components }
+    ensures { OccupantRead decoded.now hall.now index.now.starts index.now.components position
         result }
 {
-    if components <= position {
+    if index.components <= position {
         return None;
     }
-    let begin = starts[position];
+    let begin = index.starts[position];
     let kind = hall[begin];
     if kind == KIND_TRANSACTION {
         return Some(Occupant::Transaction);

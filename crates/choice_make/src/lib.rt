@@ -5,34 +5,31 @@
 #![tactic(auto)]
 
 ghost use Rattle.hall_held.specs.Holds.{Running};
-ghost use Rattle.hall_held.specs.Choices.{EntryLooked};
-ghost use Rattle.choice_act.specs.Acts.{Acted};
+ghost use Rattle.hall_held.specs.Choices.{EntryLooked, EntryMade};
 ghost use Rattle.answers.specs.Answers.{entry_of};
 
 use answers::{Entry, Move, Reason};
-use choice_act::Made;
 use choice_inner::{act_inside, look_inside};
-use hall_layout::INDEX_SIZE;
+use hall_layout::Index;
 use table_terms::DECODED;
 
 // What an entry of either kind is answered. Nothing changes.
 pub fn look(
     decoded: &[u8; DECODED],
     hall: &[u8],
-    starts: &[usize; INDEX_SIZE],
-    components: usize,
+    index: &Index,
     entry: Entry,
 ) -> Result<Move, Reason>
-    requires { Running decoded.now hall.now starts.now components }
-    ensures { EntryLooked decoded.now hall.now starts.now components
+    requires { Running decoded.now hall.now index.now.starts index.now.components }
+    ensures { EntryLooked decoded.now hall.now index.now.starts index.now.components
         (entry_of entry) result }
 {
     match entry {
         Entry::Act { position } => choice_act::look_act(
-            decoded, hall, starts, components, position,
+            decoded, hall, index, position,
         ),
         Entry::Inside { position, node } => {
-            look_inside(decoded, hall, starts, components, position, node)
+            look_inside(decoded, hall, index, position, node)
         }
     }
 }
@@ -42,19 +39,17 @@ pub fn look(
 pub fn make(
     decoded: &[u8; DECODED],
     hall: &mut [u8],
-    starts: &mut [usize; INDEX_SIZE],
-    components: usize,
+    index: &mut Index,
     entry: Entry,
-) -> Result<Made, Reason>
-    requires { Running decoded.now hall.old starts.old components }
-    ensures { Acted decoded.now hall.old starts.old components
-        (entry_of entry) result hall.new starts.new }
+) -> Result<Move, Reason>
+    requires { Running decoded.now hall.old index.old.starts index.old.components }
+    ensures { EntryMade decoded.now hall.old index.old.starts index.old.components
+        (entry_of entry) result hall.new index.new.starts index.new.components }
 {
     match entry {
-        Entry::Act { position } => choice_act::act(decoded, hall, starts, components, position),
+        Entry::Act { position } => choice_act::act(decoded, hall, index, position),
         Entry::Inside { position, node } => {
-            let by = act_inside(decoded, hall, starts, components, position, node)?;
-            Ok(Made { by, components })
+            act_inside(decoded, hall, index, position, node)
         }
     }
 }

@@ -116,7 +116,7 @@ module _ {d s₀ starts₀ : List ℕ} {n₀ : ℕ} {choices : List ℕ} {t₀ :
           let l = stands.held in let m = g.few in omega arith
 
       -- the entry is refused
-      pub run_refused : {e : Reason} {s' starts' : List ℕ} → EntryMade d s starts n (entry_of p.entry) (Err e) s' starts' n →
+      pub run_refused : {e : Reason} {s' starts' : List ℕ} {n' : ℕ} → EntryMade d s starts n (entry_of p.entry) (Err e) s' starts' n' →
           Ran d s₀ starts₀ n₀ choices t₀ (record { outcome = Err e; place = k.place; done = k.done; counters = k.counters }) s'
       unfolding outcome_number run_from run_result continue_run
       run_refused {e} c = record {

@@ -6,21 +6,20 @@ ghost use Rattle.answers.specs.Answers.{counters_of};
 ghost use Rattle.hall_held.specs.Holds.{Running};
 ghost use Rattle.choice_run.specs.Answers.{Ran};
 
-use answers::{Counters, RunAnswer};
-use hall_layout::INDEX_SIZE;
+use answers::{Counters, RunAnswer, count_rule};
+use hall_layout::Index;
 use table_terms::DECODED;
 
 // Runs a schedule. A refused entry ends the run and is not counted.
 pub fn run_held(
     decoded: &[u8; DECODED],
     hall: &mut [u8],
-    starts: &mut [usize; INDEX_SIZE],
-    components: usize,
+    index: &mut Index,
     schedule: &[u8],
     counters: Counters,
 ) -> RunAnswer
-    requires { Running decoded.now hall.old starts.old components }
-    ensures { Ran decoded.now hall.old starts.old components
+    requires { Running decoded.now hall.old index.old.starts index.old.components }
+    ensures { Ran decoded.now hall.old index.old.starts index.old.components
         schedule.now (counters_of counters) result hall.new }
 {
     let mut run = RunAnswer {
@@ -29,28 +28,17 @@ pub fn run_held(
         done: 0,
         counters,
     };
-    let mut held = components;
     while let Some(read) = choice_read::parse_entry(schedule, run.place) {
-        let parsed = match read {
-            Ok(parsed) => parsed,
-            Err(malformed) => {
-                return RunAnswer {
-                    outcome: Err(malformed),
-                    ..run
-                };
-            }
+        let Ok(parsed) = read else {
+            run.outcome = read.and(Ok(()));
+            return run;
         };
-        let made = match choice_make::make(decoded, hall, starts, held, parsed.entry) {
-            Ok(made) => made,
-            Err(refused) => {
-                return RunAnswer {
-                    outcome: Err(refused),
-                    ..run
-                };
-            }
+        let reply = choice_make::make(decoded, hall, index, parsed.entry);
+        let Ok(made) = reply else {
+            run.outcome = reply.and(Ok(()));
+            return run;
         };
-        held = made.components;
-        run.counters = run.counters.count(made.by.rule.number());
+        count_rule(&mut run.counters, made.rule.number());
         run.place = parsed.next;
         run.done += 1;
     }

@@ -9,23 +9,22 @@ ghost use Rattle.choice_suggest.specs.Suggestions.{FirstFound, FirstFoundInside,
 use answers::Entry;
 use choice_act::look_act;
 use choice_inner::look_inside;
-use hall_layout::{INDEX_SIZE, KIND_TRANSACTION, MAX_NODES};
+use hall_layout::{Index, KIND_TRANSACTION, MAX_NODES};
 use table_terms::DECODED;
 
 // The first entry of kind 2 that is accepted at the position of a transaction, whose tree has at most MAX_NODES nodes.
 fn first_inside(
     decoded: &[u8; DECODED],
     hall: &[u8],
-    starts: &[usize; INDEX_SIZE],
-    components: usize,
+    index: &Index,
     position: u8,
 ) -> Option<Entry>
-    requires { Running decoded.now hall.now starts.now components }
-    ensures { FirstFoundInside decoded.now hall.now starts.now components
+    requires { Running decoded.now hall.now index.now.starts index.now.components }
+    ensures { FirstFoundInside decoded.now hall.now index.now.starts index.now.components
         position result }
 {
     for node in 0..MAX_NODES {
-        if look_inside(decoded, hall, starts, components, position, node).is_ok() {
+        if look_inside(decoded, hall, index, position, node).is_ok() {
             return Some(Entry::Inside { position, node });
         }
     }
@@ -36,35 +35,33 @@ fn first_inside(
 fn first_at(
     decoded: &[u8; DECODED],
     hall: &[u8],
-    starts: &[usize; INDEX_SIZE],
-    components: usize,
+    index: &Index,
     position: u8,
 ) -> Option<Entry>
-    requires { Running decoded.now hall.now starts.now components × (position < components) }
-    ensures { FirstFoundAt decoded.now hall.now starts.now components position
+    requires { Running decoded.now hall.now index.now.starts index.now.components × (position < index.now.components) }
+    ensures { FirstFoundAt decoded.now hall.now index.now.starts index.now.components position
         result }
 {
-    if look_act(decoded, hall, starts, components, position).is_ok() {
+    if look_act(decoded, hall, index, position).is_ok() {
         return Some(Entry::Act { position });
     }
-    if hall[starts[usize::from(position)]] != KIND_TRANSACTION {
+    if hall[index.starts[usize::from(position)]] != KIND_TRANSACTION {
         return None;
     }
-    first_inside(decoded, hall, starts, components, position)
+    first_inside(decoded, hall, index, position)
 }
 
 // The first entry that is accepted; none where none is (document 01's still: quiescent).
 pub fn first_accepted(
     decoded: &[u8; DECODED],
     hall: &[u8],
-    starts: &[usize; INDEX_SIZE],
-    components: usize,
+    index: &Index,
 ) -> Option<Entry>
-    requires { Running decoded.now hall.now starts.now components }
-    ensures { FirstFound decoded.now hall.now starts.now components result }
+    requires { Running decoded.now hall.now index.now.starts index.now.components }
+    ensures { FirstFound decoded.now hall.now index.now.starts index.now.components result }
 {
-    for position in 0..components as u8 {
-        let first = first_at(decoded, hall, starts, components, position);
+    for position in 0..index.components as u8 {
+        let first = first_at(decoded, hall, index, position);
         if first.is_some() {
             return first;
         }

@@ -12,8 +12,8 @@ pub returns-in_err-by-in-Output : goal.returns-in_err-by-in-Output
 returns-in_err-by-in-Output c = let p = err_from_is_err_and c.from_residual.result c.from_residual.ensures.1 in
     rw (p.1, p.2) (search (entry_made_refused, occupant_is, output_looked, c.in_err-by-in-Output.was))
 
-pub put-components-requires : goal.put-components-requires
-put-components-requires c = search (occupant_is, can_put, c.in_ok-by-in-Output.was)
+pub put-requires : goal.put-requires
+put-requires c = search (occupant_is, can_put, c.in_ok-by-in-Output.was)
 
 pub begin-requires : goal.begin-requires
 begin-requires c = search (occupant_is, can_begin)
@@ -30,8 +30,8 @@ returns-in_err-by-in-Take c =
     let p = err_from_is_err_and residual.result residual.ensures.1 in
     rw (p.1, p.2) (search (entry_made_refused, occupant_is, take_looked, c.in_err-by-in-Take.was))
 
-pub take-components-requires : goal.take-components-requires
-take-components-requires c = search (occupant_is, can_take, c.in_ok-by-in-Take.was)
+pub take-requires : goal.take-requires
+take-requires c = search (occupant_is, can_take, c.in_ok-by-in-Take.was)
 
 pub returns-in_ok-by-in-Take : goal.returns-in_ok-by-in-Take
 returns-in_ok-by-in-Take c = search (occupant_is, act_take, c.in_ok-by-in-Take.was)

@@ -5,8 +5,8 @@ use Rattle.choice_act.proofs.look_act.Goals as goal
 pub returns-in_default : goal.returns-in_default
 returns-in_default c = let f = rw c.in_default.is at c.occupant_at.ensures in search nothing_looked
 
-pub bounds-starts-p : goal.bounds-starts-p
-bounds-starts-p c = search (occupant_is, transaction_position)
+pub bounds-index-p : goal.bounds-index-p
+bounds-index-p c = search (occupant_is, transaction_position)
 
 pub look_end-requires : goal.look_end-requires
 look_end-requires c = search (occupant_is, end_held)

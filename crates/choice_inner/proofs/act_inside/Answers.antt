@@ -12,4 +12,4 @@ pub move_at-requires : goal.move_at-requires
 move_at-requires c = search (can_move_node, c.in_ok-at.was)
 
 pub returns : goal.returns
-returns c = search (node_entry_made, c.in_ok-at.was)
+returns c = rw c.move_at.ensures.components (search (node_entry_made, c.in_ok-at.was))

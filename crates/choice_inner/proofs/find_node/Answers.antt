@@ -2,8 +2,8 @@
 use Rattle.choice_inner.proofs.InsideReplies.{found_past, found_idle, begin_inside, nodes_inside, found_there}
 use Rattle.choice_inner.proofs.find_node.Goals as goal
 
-pub returns-then-components-position : goal.returns-then-components-position
-returns-then-components-position c = search found_past
+pub returns-then-index-position : goal.returns-then-index-position
+returns-then-index-position c = search found_past
 
 pub bounds-hall-transaction : goal.bounds-hall-transaction
 bounds-hall-transaction c = search begin_inside

@@ -7,14 +7,15 @@ use Rattle.choice_run.proofs.run_held.Goals as goal
 pub loop-read-init : goal.loop-read-init
 loop-read-init c = (search rules, search run_begins)
 
-pub returns-in-Err : goal.returns-in-Err
-returns-in-Err c = search run_malformed
+pub returns-in_default-read : goal.returns-in_default-read
+returns-in_default-read c = rw (c.and-run.ensures, c.in_default-read.is) (search run_malformed)
 
-pub returns-in-Err-make : goal.returns-in-Err-make
-returns-in-Err-make c = search (run_refused, c.in-Err-make.ensures)
+pub returns-in_default-reply : goal.returns-in_default-reply
+returns-in_default-reply c =
+    rw (c.and-run-in_default-reply.ensures, c.in_default-reply.is) (search (run_refused, c.in_default-reply.ensures))
 
 pub loop-read-preserved : goal.loop-read-preserved
-loop-read-preserved c = (search rules, search (run_goes_on, c.in-Ok-make.ensures))
+loop-read-preserved c = (search rules, search (run_goes_on, c.in-Ok-reply.ensures))
 
 pub returns : goal.returns
 returns c = search run_ends

@@ -10,7 +10,7 @@ use Rattle.choice_run.proofs.run_held.Given as goal
 
 abbrev pub invariant-loop-read : goal.invariant-loop-read
 invariant-loop-read l = Fits w64 (length l.schedule) ×
-    Going l.decoded l.initial.hall l.initial.starts l.initial.held l.schedule (counters_of l.initial.run.counters) l.hall l.starts l.held l.run
+    Going l.decoded l.initial.hall l.initial.index.starts l.initial.index.components l.schedule (counters_of l.initial.run.counters) l.hall l.index.starts l.index.components l.run
 
 abbrev pub decreases-loop-read : goal.decreases-loop-read
 decreases-loop-read l = length l.schedule - l.run.place

@@ -3,4 +3,4 @@ use Rattle.choice_suggest.proofs.Suggestions.{QuietBelow}
 use Rattle.choice_suggest.proofs.first_accepted.Given as goal
 
 abbrev pub invariant-loop-position : goal.invariant-loop-position
-invariant-loop-position l = QuietBelow l.decoded l.hall l.starts l.components l.position
+invariant-loop-position l = QuietBelow l.decoded l.hall l.index.starts l.index.components l.position

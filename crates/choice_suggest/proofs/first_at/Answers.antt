@@ -5,11 +5,11 @@ use Rattle.choice_suggest.proofs.first_at.Goals as goal
 pub returns-then-is_ok : goal.returns-then-is_ok
 returns-then-is_ok c = search act_suggested
 
-pub bounds-hall-starts : goal.bounds-hall-starts
-bounds-hall-starts c = search kind_inside_at
+pub bounds-hall-index : goal.bounds-hall-index
+bounds-hall-index c = search kind_inside_at
 
-pub returns-then-hall-starts-ne-KIND_TRANSACTION : goal.returns-then-hall-starts-ne-KIND_TRANSACTION
-returns-then-hall-starts-ne-KIND_TRANSACTION c = search idle_quiet
+pub returns-then-hall-index-ne-KIND_TRANSACTION : goal.returns-then-hall-index-ne-KIND_TRANSACTION
+returns-then-hall-index-ne-KIND_TRANSACTION c = search idle_quiet
 
 pub returns : goal.returns
 returns c = search inside_at

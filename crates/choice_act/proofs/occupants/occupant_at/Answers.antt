@@ -2,8 +2,8 @@
 use Rattle.choice_act.proofs.Occupancy.{kind_inside, body_inside, body_fits, nothing_read, transaction_read, output_read, waiting_term, block_read, take_read}
 use Rattle.choice_act.proofs.occupants.occupant_at.Goals as goal
 
-pub returns-then-components-position : goal.returns-then-components-position
-returns-then-components-position c = search nothing_read
+pub returns-then-index-position : goal.returns-then-index-position
+returns-then-index-position c = search nothing_read
 
 pub bounds-hall-begin : goal.bounds-hall-begin
 bounds-hall-begin c = search kind_inside
