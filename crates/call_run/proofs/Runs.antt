@@ -9,21 +9,22 @@ use Rattle.answers.specs.declared.tallies.Counters.{Counters}
 use Rattle.answers.specs.declared.runs.RunAnswer.{RunAnswer}
 use Rattle.answers.specs.declared.refusals.Refusal.{Refusal}
 use Rattle.answers.specs.Answers.{counters_of, buffers_of, outcome_number, run_call_of}
+use Rattle.hall_layout.specs.declared.Index.{Index}
 use Rattle.call_admit.specs.Admissions.{AdmissionIs}
 use Rattle.call_admit.proofs.Admissions.{admitted_hall, refused_hall}
 use Rattle.choice_run.specs.Answers.{Ran}
 
-module _ (d table hall starts : List ℕ) where
+module _ (d table hall : List ℕ) where
   -- 1 to 11
-  pub run_turned_down : (e : Refusal) → AdmissionIs (Err e) d hall starts (admission table hall) → (choices : List ℕ) (c : Counters) →
+  pub run_turned_down : (e : Refusal) → AdmissionIs (Err e) d hall (admission table hall) → (choices : List ℕ) (c : Counters) →
       run_call_of (record { outcome = Err e.reason; place = e.place; done = 0; counters = c }) hall
       ≡ run_call table (buffers_of hall c) choices
   unfolding outcome_number run_call run_admitted
-  run_turned_down e w choices c = rw (refused_hall d table hall starts e w)
+  run_turned_down e w choices c = rw (refused_hall d table hall e w)
 
-  pub run_said : (n : ℕ) → AdmissionIs (Ok n) d hall starts (admission table hall) →
+  pub run_said : (index : Index) → AdmissionIs (Ok index) d hall (admission table hall) →
       {choices : List ℕ} {c : Counters} {r : RunAnswer} {s' : List ℕ} →
-      Ran d hall starts n choices (counters_of c) r s' → run_call_of r s' ≡ run_call table (buffers_of hall c) choices
+      Ran d hall index.starts index.components choices (counters_of c) r s' → run_call_of r s' ≡ run_call table (buffers_of hall c) choices
   unfolding run_call run_admitted
-  run_said n w f = admitted_hall d table hall starts n w
+  run_said index w f = admitted_hall d table hall index w
       (λ t h q x. f.found t.terms h x.decoded x.holds ∙ rw q)

@@ -7,7 +7,6 @@ ghost use Rattle.semantics.specs.Promises.{Promised, OnRuns, Demands};
 ghost use Rattle.answers.specs.Answers.{run_call_of, RunCaseDecided, buffers_of};
 
 use answers::{Counters, RunAnswer};
-use hall_layout::INDEX_SIZE;
 use table_terms::DECODED;
 
 // Runs a schedule, choice by choice, up to its end or to the first that is refused, and counts what was done. Refused
@@ -20,11 +19,8 @@ pub fn run(table: &[u8], hall: &mut [u8], choices: &[u8], counters: Counters) ->
     ensures demands { Promised Demands }
 {
     let mut decoded = [0u8; DECODED];
-    let mut starts = [0usize; INDEX_SIZE];
-    match call_admit::admit(table, hall, &mut decoded, &mut starts) {
-        Ok(components) => {
-            choice_run::run_held(&decoded, hall, &mut starts, components, choices, counters)
-        }
+    match call_admit::admit(table, hall, &mut decoded) {
+        Ok(mut index) => choice_run::run_held(&decoded, hall, &mut index, choices, counters),
         Err(refusal) => RunAnswer {
             outcome: Err(refusal.reason),
             place: refusal.place,

@@ -10,7 +10,7 @@ ghost use Rattle.call_step.specs.Steps.{NamedBy, OneEntry, HeldStepped};
 
 use answers::{Counters, Entry, KIND_ACT, KIND_INSIDE, Reason, Refusal, Step};
 use choice_read::{ACT_SIZE, INSIDE_SIZE};
-use hall_layout::INDEX_SIZE;
+use hall_layout::Index;
 use table_terms::DECODED;
 
 // The choice that a kind, a position and a node name, and how many bytes it has; kind 1 has no node.
@@ -29,22 +29,21 @@ fn named(kind: u8, position: u8, node: u8) -> Result<(Entry, usize), Refusal>
 fn step_held(
     decoded: &[u8; DECODED],
     hall: &mut [u8],
-    starts: &mut [usize; INDEX_SIZE],
-    components: usize,
+    index: &mut Index,
     entry: Entry,
     bytes: &[u8],
     counters: Counters,
 ) -> Result<Step, Refusal>
-    requires running { Running decoded.now hall.old starts.old components }
+    requires running { Running decoded.now hall.old index.old.starts index.old.components }
     requires one_entry { OneEntry bytes.now (entry_of entry) }
-    ensures { HeldStepped decoded.now hall.old starts.old components
+    ensures { HeldStepped decoded.now hall.old index.old.starts index.old.components
         (entry_of entry) (length bytes.now) (counters_of counters) result hall.new }
 {
-    let made = match choice_make::look(decoded, hall, starts, components, entry) {
+    let made = match choice_make::look(decoded, hall, index, entry) {
         Ok(made) => made,
         Err(reason) => return Err(reason.at(0)),
     };
-    let run = choice_run::run_held(decoded, hall, starts, components, bytes, counters);
+    let run = choice_run::run_held(decoded, hall, index, bytes, counters);
     Ok(Step {
         made,
         place: bytes.len(),
@@ -68,15 +67,13 @@ pub fn step(
     ensures promised { Promised OnSteps }
 {
     let mut decoded = [0u8; DECODED];
-    let mut starts = [0usize; INDEX_SIZE];
-    let components = call_admit::admit(table, hall, &mut decoded, &mut starts)?;
+    let mut index = call_admit::admit(table, hall, &mut decoded)?;
     let (entry, size) = named(kind, position, node)?;
     let bytes = [kind, position, node];
     step_held(
         &decoded,
         hall,
-        &mut starts,
-        components,
+        &mut index,
         entry,
         &bytes[..size],
         counters,

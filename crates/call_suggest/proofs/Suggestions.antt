@@ -10,22 +10,23 @@ use Rattle.theorems.proofs.Suggestions.{admitted_suggests, refused_suggests}
 use Rattle.answers.specs.declared.choices.Entry.{Entry}
 use Rattle.answers.specs.declared.refusals.Refusal.{Refusal}
 use Rattle.answers.specs.Answers.{reason_number, suggest_answer_of}
+use Rattle.hall_layout.specs.declared.Index.{Index}
 use Rattle.call_admit.specs.Admissions.{AdmissionIs}
 use Rattle.call_admit.proofs.Admissions.{admitted_hall, refused_hall}
 use Rattle.choice_suggest.specs.Suggestions.{found_of, FirstFound}
 
-module _ (d table hall starts : List ℕ) where
+module _ (d table hall : List ℕ) where
   -- 1 to 11
-  pub suggestion_turned_down : (e : Refusal) → AdmissionIs (Err e) d hall starts (admission table hall) →
+  pub suggestion_turned_down : (e : Refusal) → AdmissionIs (Err e) d hall (admission table hall) →
       suggest_answer_of (Err e) ≡ suggest_call table hall
   unfolding suggest_answer_of
   suggestion_turned_down e w =
-      sym (refused_suggests table hall (reason_number e.reason) e.place (refused_hall d table hall starts e w))
+      sym (refused_suggests table hall (reason_number e.reason) e.place (refused_hall d table hall e w))
 
-  pub suggestion_told : (n : ℕ) → AdmissionIs (Ok n) d hall starts (admission table hall) → {r : Option Entry} →
-      FirstFound d hall starts n r → suggest_answer_of (Ok r) ≡ suggest_call table hall
+  pub suggestion_told : (index : Index) → AdmissionIs (Ok index) d hall (admission table hall) → {r : Option Entry} →
+      FirstFound d hall index.starts index.components r → suggest_answer_of (Ok r) ≡ suggest_call table hall
   unfolding suggest_answer_of suggest_found
-  suggestion_told n w {r} f = go r (admitted_hall d table hall starts n w
+  suggestion_told index w {r} f = go r (admitted_hall d table hall index w
       (λ t h q x. admitted_suggests table hall t h q ∙ ap suggest_found (f.found t.terms h x.decoded x.holds)))
     where
       go : (o : Option Entry) → suggest_call table hall ≡ suggest_found (found_of o) →

@@ -7,7 +7,6 @@ ghost use Rattle.semantics.specs.Promises.{Promised, OnSuggestions};
 ghost use Rattle.answers.specs.Answers.{suggest_answer_of};
 
 use answers::{Entry, Refusal};
-use hall_layout::INDEX_SIZE;
 use table_terms::DECODED;
 
 // Suggests the first choice that is accepted: at the lowest position, there at the lowest node; none where none is.
@@ -16,7 +15,6 @@ pub fn suggest(table: &[u8], hall: &[u8]) -> Result<Option<Entry>, Refusal>
     ensures promised { Promised OnSuggestions }
 {
     let mut decoded = [0u8; DECODED];
-    let mut starts = [0usize; INDEX_SIZE];
-    let components = call_admit::admit(table, hall, &mut decoded, &mut starts)?;
-    Ok(choice_suggest::first_accepted(&decoded, hall, &starts, components))
+    let index = call_admit::admit(table, hall, &mut decoded)?;
+    Ok(choice_suggest::first_accepted(&decoded, hall, &index))
 }

@@ -24,6 +24,7 @@ use Rattle.answers.specs.declared.tallies.Counters.{Counters}
 use Rattle.answers.specs.declared.refusals.Refusal.{Refusal}
 use Rattle.answers.specs.declared.runs.RunAnswer.{RunAnswer}
 use Rattle.answers.specs.Answers.{reason_number, counters_of, run_call_of, open_answer_of, opening_of, buffers_of}
+use Rattle.hall_layout.specs.declared.Index.{Index}
 use Rattle.call_admit.specs.Admissions.{TableAndHallHeld, AdmissionIs}
 use Rattle.call_admit.proofs.Admissions.{admitted_hall, refused_hall}
 use Rattle.print_decimals.specs.declared.Page.{Page}
@@ -40,25 +41,25 @@ admission_is : (table s : List ℕ) (t : Table) (l : Configuration) → read_tab
 unfolding admission table_tested size_tested form_tested
 admission_is table s t l reads size stored = rw (reads, eq-eqb (length s) 11344 size, stored) refl
 
-module _ (d table s starts : List ℕ) where
-  module _ (n : ℕ) (w : AdmissionIs (Ok n) d s starts (admission table s)) where
-    pub admitted_standing : CanPrintComponents s starts n
-    admitted_standing = admitted_hall d table s starts n w
+module _ (d table s : List ℕ) where
+  module _ (index : Index) (w : AdmissionIs (Ok index) d s (admission table s)) where
+    pub admitted_standing : CanPrintComponents s index.starts index.components
+    admitted_standing = admitted_hall d table s index w
         (λ t h q x. record { terms = t.terms; configuration = h; holds = x.holds })
 
-    pub admitted_printed : (first : List ℕ) (o : RunAnswer) (p q : Page) → LinesPrinted s starts n first o p q →
+    pub admitted_printed : (first : List ℕ) (o : RunAnswer) (p q : Page) → LinesPrinted s index.starts index.components first o p q →
         HallPrinted table s first o p q
     admitted_printed first o p q x = record {
       found = λ t f l reads c size stored.
-          let held : TableAndHallHeld t l d s starts n = rw (admission_is table s t l reads size stored) at w in
+          let held : TableAndHallHeld t l d s index = rw (admission_is table s t l reads size stored) at w in
           x.found t.terms f l c held.holds;
     }
 
-  pub never_refused : (e : Refusal) → AdmissionIs (Err e) d s starts (admission table s) → (first : List ℕ) (o : RunAnswer)
+  pub never_refused : (e : Refusal) → AdmissionIs (Err e) d s (admission table s) → (first : List ℕ) (o : RunAnswer)
       (p q : Page) → HallPrinted table s first o p q
   never_refused e w first o p q = record {
     found = λ t f l reads c size stored.
-        let r = refused_hall d table s starts e w in
+        let r = refused_hall d table s e w in
         let m = admission_is table s t l reads size stored in
         let z : ◌≡◌ {A = ℕ} 0 1 = cc in absurd (omega arith);
   }

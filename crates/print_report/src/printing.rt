@@ -6,7 +6,6 @@ ghost use Rattle.print_sections.specs.Limits.{lines_most};
 ghost use Rattle.print_report.specs.Runs.{HallPrinted, RunTextPrinted};
 
 use answers::RunAnswer;
-use hall_layout::INDEX_SIZE;
 use print_decimals::Page;
 use print_sections::{counts_of, print_lines, run_line};
 use table_terms::DECODED;
@@ -17,9 +16,8 @@ fn print_hall(table: &[u8], hall: &[u8], first: &[u8], answer: RunAnswer, page: 
     ensures { HallPrinted table.now hall.now first.now answer page.old page.new }
 {
     let mut decoded = [0u8; DECODED];
-    let mut starts = [0usize; INDEX_SIZE];
-    if let Ok(components) = call_admit::admit(table, hall, &mut decoded, &mut starts) {
-        print_lines(hall, &starts, components, first, answer, page);
+    if let Ok(index) = call_admit::admit(table, hall, &mut decoded) {
+        print_lines(hall, &index, first, answer, page);
     }
 }
 

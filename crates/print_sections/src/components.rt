@@ -6,7 +6,7 @@ ghost use Rattle.print_sections.specs.Printed.{CanPrintComponents, ComponentPrin
 
 use buffer::byte_at;
 use hall_layout::{
-    COMPONENT_BODY, INDEX_SIZE, KIND_OUTPUT, KIND_WAITING, MAX_NODES, TRANSACTION_HEAD,
+    COMPONENT_BODY, Index, KIND_OUTPUT, KIND_WAITING, MAX_NODES, TRANSACTION_HEAD,
 };
 use print_decimals::Page;
 use print_lines::{LETTER_OUTPUT, LETTER_TRANSACTION, LETTER_WAITING, write_line};
@@ -15,16 +15,15 @@ use print_lines::{LETTER_OUTPUT, LETTER_TRANSACTION, LETTER_WAITING, write_line}
 // transaction and how many nodes it has.
 fn component_line(
     hall: &[u8],
-    starts: &[usize; INDEX_SIZE],
-    components: usize,
+    index: &Index,
     position: usize,
     page: &mut Page<'_>,
 )
-    requires { CanPrintComponents hall.now starts.now components × (position < components)
+    requires { CanPrintComponents hall.now index.now.starts index.now.components × (position < index.now.components)
         × HasRoom component_most page.old }
-    ensures { ComponentPrinted hall.now starts.now components position page.old page.new }
+    ensures { ComponentPrinted hall.now index.now.starts index.now.components position page.old page.new }
 {
-    let begin = starts[position];
+    let begin = index.starts[position];
     let kind = byte_at(hall, begin);
     let body = usize::from(byte_at(hall, begin + COMPONENT_BODY));
     if kind == KIND_OUTPUT {
@@ -41,14 +40,13 @@ fn component_line(
 // The lines of all components, in order.
 pub fn component_lines(
     hall: &[u8],
-    starts: &[usize; INDEX_SIZE],
-    components: usize,
+    index: &Index,
     page: &mut Page<'_>,
 )
-    requires { CanPrintComponents hall.now starts.now components × HasRoom components_most page.old }
-    ensures { ComponentsPrinted hall.now starts.now components page.old page.new }
+    requires { CanPrintComponents hall.now index.now.starts index.now.components × HasRoom components_most page.old }
+    ensures { ComponentsPrinted hall.now index.now.starts index.now.components page.old page.new }
 {
-    for position in 0..components {
-        component_line(hall, starts, components, position, page);
+    for position in 0..index.components {
+        component_line(hall, index, position, page);
     }
 }

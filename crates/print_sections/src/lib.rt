@@ -17,7 +17,7 @@ use answers::{RunAnswer, outcome_number};
 use channels::channel_lines;
 pub use channels::counts_of;
 use components::component_lines;
-use hall_layout::INDEX_SIZE;
+use hall_layout::Index;
 use print_decimals::Page;
 use totals::counters_line;
 pub use totals::run_line;
@@ -25,15 +25,14 @@ pub use totals::run_line;
 // The lines of a run whose last hall is held, all sections in order.
 pub fn print_lines(
     hall: &[u8],
-    starts: &[usize; INDEX_SIZE],
-    components: usize,
+    index: &Index,
     first: &[u8],
     answer: RunAnswer,
     page: &mut Page<'_>,
 )
-    requires { CanPrintComponents hall.now starts.now components × (Layout·channels ≤ length first.now)
+    requires { CanPrintComponents hall.now index.now.starts index.now.components × (Layout·channels ≤ length first.now)
         × HasRoom lines_most page.old }
-    ensures { LinesPrinted hall.now starts.now components first.now answer page.old page.new }
+    ensures { LinesPrinted hall.now index.now.starts index.now.components first.now answer page.old page.new }
 {
     run_line(
         page,
@@ -43,5 +42,5 @@ pub fn print_lines(
     );
     counters_line(page, answer.counters);
     channel_lines(page, first, hall);
-    component_lines(hall, starts, components, page);
+    component_lines(hall, index, page);
 }

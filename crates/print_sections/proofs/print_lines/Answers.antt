@@ -4,21 +4,21 @@ use Rattle.print_sections.proofs.AllLines.{hall_long, counters_fit, channels_fit
 use Rattle.print_sections.proofs.print_lines.Goals as goal
 
 pub counters_line-requires : goal.counters_line-requires
-counters_line-requires c = counters_fit c.args.hall.now c.args.starts.now c.args.components c.args.first.now c.args.answer
+counters_line-requires c = counters_fit c.args.hall.now c.args.index.now.starts c.args.index.now.components c.args.first.now c.args.answer
     _ c.requires.2 _ c.outcome_number.ensures _ c.run_line.ensures
 
 pub channel_lines-requires : goal.channel_lines-requires
 channel_lines-requires c = (
   c.requires.1,
   search hall_long,
-  channels_fit c.args.hall.now c.args.starts.now c.args.components c.args.first.now c.args.answer
+  channels_fit c.args.hall.now c.args.index.now.starts c.args.index.now.components c.args.first.now c.args.answer
       _ c.requires.2 _ c.outcome_number.ensures _ c.run_line.ensures _ c.counters_line.ensures,
 )
 
 pub component_lines-requires : goal.component_lines-requires
 component_lines-requires c = (
   c.requires.0,
-  components_fit c.args.hall.now c.args.starts.now c.args.components c.args.first.now c.args.answer
+  components_fit c.args.hall.now c.args.index.now.starts c.args.index.now.components c.args.first.now c.args.answer
       _ c.requires.2 _ c.outcome_number.ensures _ c.run_line.ensures _ c.counters_line.ensures _ c.channel_lines.ensures,
 )
 
