@@ -5,7 +5,7 @@ use Prim.Native.Nat.{ℕ}
 use mathlib.Core.Path.{◌≡◌, refl, sym, ◌∙◌}
 use mathlib.Core.List.{List, [], ◌∷◌}
 use lib.ListN.{length, take}
-use Rattle.semantics.specs.Definitions.Moves.{Entry, act, inside}
+use Rattle.semantics.specs.Definitions.Moves.{Entry}
 use Rattle.semantics.specs.Definitions.Run.{schedule}
 use Rattle.semantics.specs.Definitions.Calls.{admission, step_refused, step_call}
 use Rattle.semantics.specs.Checks.Steps.{Names, names_act, names_inside}
@@ -15,17 +15,12 @@ use Rattle.answers.specs.declared.refusals.Reason.TheVariants.{UnknownKind}
 use Rattle.answers.specs.declared.refusals.Refusal.{Refusal}
 use Rattle.answers.specs.declared.steps.Step.{Step}
 use Rattle.answers.specs.Answers.{reason_number, counters_of, buffers_of, step_call_of}
+use Rattle.hall_layout.specs.declared.Index.{Index}
 use Rattle.call_admit.specs.Admissions.{AdmissionIs}
 use Rattle.call_admit.proofs.Admissions.{admitted_hall, refused_hall}
 use Rattle.call_step.specs.Steps.{OneEntry, HeldStepped}
 
--- ---- the choice that a kind names, and its bytes
-
-pub named_act : {kind position node : ℕ} → kind ≡ 1 → Names kind position node (act position) 2
-named_act e = rw e names_act
-
-pub named_inside : {kind position node : ℕ} → kind ≡ 2 → Names kind position node (inside position node) 3
-named_inside e = rw e names_inside
+-- ---- the bytes of a choice
 
 pub named_written : {kind position node size : ℕ} {o : Entry} → Names kind position node o size →
     OneEntry (take size (kind ∷ position ∷ node ∷ [])) o
@@ -40,27 +35,27 @@ named_length names_inside = refl
 
 -- ---- behind the admission
 
-module _ (d table hall starts : List ℕ) where
+module _ (d table hall : List ℕ) where
   -- 1 to 11
-  pub stepped_turned_down : (e : Refusal) → AdmissionIs (Err e) d hall starts (admission table hall) → (kind position node : ℕ)
+  pub stepped_turned_down : (e : Refusal) → AdmissionIs (Err e) d hall (admission table hall) → (kind position node : ℕ)
       (c : code.Counters) →
       step_call_of (Err e) (buffers_of hall c) ≡ step_call table (buffers_of hall c) kind position node
   unfolding step_refused
   stepped_turned_down e w kind position node c =
-      sym (step_turned_down table (buffers_of hall c) (reason_number e.reason) e.place kind position node (refused_hall d table hall starts e w))
+      sym (step_turned_down table (buffers_of hall c) (reason_number e.reason) e.place kind position node (refused_hall d table hall e w))
 
-  module _ (n : ℕ) (w : AdmissionIs (Ok n) d hall starts (admission table hall)) where
+  module _ (index : Index) (w : AdmissionIs (Ok index) d hall (admission table hall)) where
     -- 12
     pub stepped_unknown : {kind : ℕ} → (kind ≡ 1 → ⊥) → (kind ≡ 2 → ⊥) → (position node : ℕ) (c : code.Counters) →
         step_call_of (Err (record { reason = UnknownKind; place = 0 })) (buffers_of hall c) ≡ step_call table (buffers_of hall c) kind position node
     unfolding reason_number step_refused
-    stepped_unknown {kind} one two position node c = admitted_hall d table hall starts n w
+    stepped_unknown {kind} one two position node c = admitted_hall d table hall index w
         (λ t h q x. sym (step_unknown table (buffers_of hall c) t h q kind position node one two))
 
     pub stepped_named : {kind position node size : ℕ} {o : Entry} → Names kind position node o size →
         {c : code.Counters} {r : Result Step Refusal} {s' : List ℕ} →
-        HeldStepped d hall starts n o (length (take size (kind ∷ position ∷ node ∷ []))) (counters_of c) r s' →
+        HeldStepped d hall index.starts index.components o (length (take size (kind ∷ position ∷ node ∷ []))) (counters_of c) r s' →
         step_call_of r (buffers_of s' c) ≡ step_call table (buffers_of hall c) kind position node
     unfolding answered
-    stepped_named named {c} f = admitted_hall d table hall starts n w
+    stepped_named named {c} f = admitted_hall d table hall index w
         (λ t h q x. (rw (named_length named) at f).found t.terms h x.decoded x.holds ∙ sym (step_answered table (buffers_of hall c) t h q x.holds.bytes named))
