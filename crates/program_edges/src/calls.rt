@@ -13,86 +13,37 @@
 // A missing byte of the first choice counts as 0, and so does one of the tally that step and run begin with.
 ghost use Rattle.std.specs.Prelude.{◌≤◌, ◌<◌, length};
 
-use crate::BYTES;
-use answers::{
-    Counters, Entry, HallVerdict, KIND_ACT, KIND_INSIDE, OpenAnswer, RunAnswer, Shortage,
-    StepAnswer, SuggestAnswer,
-};
-use buffer::{byte_at, wide, write_at};
+use crate::lines::BYTES;
+use answers::{Counters, Entry, Refusal, choice_words, outcome_number, shortage_words};
+use buffer::byte_at;
 use std::io;
 use std::io::Write;
 
-fn print_field(out: &mut impl Write, n: usize) -> io::Result<()> {
+fn print_number(out: &mut impl Write, n: usize) -> io::Result<()> {
     write!(out, " {n}")
 }
 
-fn end_line(out: &mut impl Write) -> io::Result<()> {
+// A letter and numbers.
+fn print_line(out: &mut impl Write, letter: u8, numbers: &[usize]) -> io::Result<()> {
+    out.write_all(&[letter])?;
+    for n in numbers {
+        print_number(out, *n)?;
+    }
     out.write_all(b"\n")
 }
 
-// A letter and two or three numbers.
-fn print_two(out: &mut impl Write, letter: u8, a: usize, b: usize) -> io::Result<()> {
-    out.write_all(&[letter])?;
-    print_field(out, a)?;
-    print_field(out, b)?;
-    end_line(out)
-}
-
-fn print_three(out: &mut impl Write, letter: u8, a: usize, b: usize, c: usize) -> io::Result<()> {
-    out.write_all(&[letter])?;
-    print_field(out, a)?;
-    print_field(out, b)?;
-    print_field(out, c)?;
-    end_line(out)
-}
-
-// A letter, a number, a place and three bytes, what is not said being 0.
-fn print_five(
+fn print_verdict<T: Copy>(
     out: &mut impl Write,
     letter: u8,
-    number: u8,
-    place: usize,
-    a: u8,
-    b: u8,
-    c: u8,
+    answer: Result<T, Refusal>,
 ) -> io::Result<()> {
-    out.write_all(&[letter])?;
-    print_field(out, wide(number))?;
-    print_field(out, place)?;
-    print_field(out, wide(a))?;
-    print_field(out, wide(b))?;
-    print_field(out, wide(c))?;
-    end_line(out)
-}
-
-fn print_counters(out: &mut impl Write, counters: Counters) -> io::Result<()> {
-    print_three(
-        out,
-        b'C',
-        counters.commits as usize,
-        counters.failed as usize,
-        counters.retries as usize,
-    )
-}
-
-fn print_check(out: &mut impl Write, table: &[u8], hall: &[u8]) -> io::Result<()> {
-    match call_check::check_hall(table, hall) {
-        HallVerdict::WellFormed => print_two(out, b'H', 0, 0),
-        HallVerdict::Refused { number, place } => print_two(out, b'H', wide(number), place),
-    }
-}
-
-fn print_opening(out: &mut impl Write, table: &[u8], hall: &mut [u8]) -> io::Result<()> {
-    match call_open::open_hall(table, hall) {
-        OpenAnswer::Opened(_) => print_two(out, b'O', 0, 0),
-        OpenAnswer::Refused { number, place } => print_two(out, b'O', wide(number), place),
-    }
-}
-
-fn print_moved(out: &mut impl Write, rule: u8, shortage: Shortage, place: usize) -> io::Result<()> {
-    match shortage {
-        Shortage::Enough => print_five(out, b'M', 0, place, rule, 0, 0),
-        Shortage::Short { channel, by } => print_five(out, b'M', 0, place, rule, channel, by),
+    match answer {
+        Ok(_) => print_line(out, letter, &[0, 0]),
+        Err(refusal) => print_line(
+            out,
+            letter,
+            &[usize::from(refusal.reason.number()), refusal.place],
+        ),
     }
 }
 
@@ -107,13 +58,19 @@ fn print_step(
     let position = byte_at(choices, 1);
     let node = byte_at(choices, 2);
     match call_step::step(table, hall, kind, position, node, first) {
-        StepAnswer::Moved {
-            rule,
-            shortage,
-            place,
-            counters: _,
-        } => print_moved(out, rule, shortage, place),
-        StepAnswer::Refused { number, place } => print_five(out, b'M', number, place, 0, 0, 0),
+        Ok(step) => {
+            let [tray, by] = shortage_words(step.made.short);
+            let rule = usize::from(step.made.rule.number());
+            print_line(
+                out,
+                b'M',
+                &[0, step.place, rule, usize::from(tray), usize::from(by)],
+            )
+        }
+        Err(refusal) => {
+            let number = usize::from(refusal.reason.number());
+            print_line(out, b'M', &[number, refusal.place, 0, 0, 0])
+        }
     }
 }
 
@@ -132,25 +89,37 @@ fn used(hall: &[u8]) -> usize
 fn print_bytes(out: &mut impl Write, hall: &[u8]) -> io::Result<()> {
     out.write_all(b"B")?;
     for byte in &hall[..used(hall)] {
-        print_field(out, wide(*byte))?;
+        print_number(out, usize::from(*byte))?;
     }
-    end_line(out)
+    out.write_all(b"\n")
 }
 
-fn print_entry(out: &mut impl Write, entry: Entry) -> io::Result<()> {
-    match entry {
-        Entry::Act { position } => print_five(out, b'S', 0, 0, KIND_ACT, position, 0),
-        Entry::Inside { position, node } => {
-            print_five(out, b'S', 0, 0, KIND_INSIDE, position, node)
-        }
-    }
+// A suggestion: its number and place, and the choice as kind, position and node, what is not said being 0.
+fn print_suggested(
+    out: &mut impl Write,
+    number: u8,
+    place: usize,
+    choice: [u8; 3],
+) -> io::Result<()> {
+    let [kind, position, node] = choice;
+    print_line(
+        out,
+        b'S',
+        &[
+            usize::from(number),
+            place,
+            usize::from(kind),
+            usize::from(position),
+            usize::from(node),
+        ],
+    )
 }
 
 fn print_suggestion(out: &mut impl Write, table: &[u8], hall: &[u8]) -> io::Result<()> {
     match call_suggest::suggest(table, hall) {
-        SuggestAnswer::Suggested(entry) => print_entry(out, entry),
-        SuggestAnswer::Still => print_five(out, b'S', 0, 0, 0, 0, 0),
-        SuggestAnswer::Refused { number, place } => print_five(out, b'S', number, place, 0, 0, 0),
+        Ok(Some(entry)) => print_suggested(out, 0, 0, choice_words(entry)),
+        Ok(None) => print_suggested(out, 0, 0, [0, 0, 0]),
+        Err(refusal) => { print_suggested(out, refusal.reason.number(), refusal.place, [0, 0, 0]) }
     }
 }
 
@@ -161,63 +130,28 @@ fn print_run(
     choices: &[u8],
     first: Counters,
 ) -> io::Result<()> {
-    match call_run::run(table, hall, choices, first) {
-        RunAnswer::Completed {
-            place,
-            done,
-            counters,
-        } => {
-            print_three(out, b'R', 0, place, done)?;
-            print_counters(out, counters)?;
-        }
-        RunAnswer::Refused {
-            number,
-            place,
-            done,
-            counters,
-        } => {
-            print_three(out, b'R', wide(number), place, done)?;
-            print_counters(out, counters)?;
-        }
-    }
+    let answer = call_run::run(table, hall, choices, first);
+    let number = usize::from(outcome_number(answer.outcome));
+    print_line(out, b'R', &[number, answer.place, answer.done])?;
+    let counters = answer.counters;
+    print_line(
+        out,
+        b'C',
+        &[
+            counters.commits as usize,
+            counters.failed as usize,
+            counters.retries as usize,
+        ],
+    )?;
     print_bytes(out, hall)?;
     print_suggestion(out, table, hall)
-}
-
-// The calls that write to the hall.
-const OPENING: u8 = 0;
-
-const STEP: u8 = 1;
-
-const RUN: u8 = 2;
-
-// One of them, on a copy of the hall.
-fn print_call(
-    out: &mut impl Write,
-    call: u8,
-    table: &[u8],
-    hall: &[u8],
-    choices: &[u8],
-    first: Counters,
-) -> io::Result<()> {
-    let mut copy = [0u8; BYTES];
-    let n = hall.len();
-    if BYTES < n {
-        return Ok(());
-    }
-    write_at(&mut copy, 0, hall);
-    match call {
-        OPENING => print_opening(out, table, &mut copy[..n]),
-        STEP => print_step(out, table, &mut copy[..n], choices, first),
-        _ => print_run(out, table, &mut copy[..n], choices, first),
-    }
 }
 
 // Two bytes as a number.
 fn word(high: u8, low: u8) -> u32
     ensures { result < 65536 }
 {
-    high as u32 * 256 + low as u32
+    u32::from(high) * 256 + u32::from(low)
 }
 
 // The counter whose four bytes begin at an offset.
@@ -229,7 +163,7 @@ fn counter_at(tally: &[u8], at: usize) -> u32
     high * 65536 + low
 }
 
-// All answers.
+// All answers. Each call that writes to the hall gets a copy of it.
 pub fn print_calls(
     out: &mut impl Write,
     table: &[u8],
@@ -242,8 +176,17 @@ pub fn print_calls(
         failed: counter_at(tally, 4),
         retries: counter_at(tally, 8),
     };
-    print_check(out, table, hall)?;
-    print_call(out, OPENING, table, hall, choices, first)?;
-    print_call(out, STEP, table, hall, choices, first)?;
-    print_call(out, RUN, table, hall, choices, first)
+    print_verdict(out, b'H', call_check::check_hall(table, hall))?;
+    let n = hall.len();
+    if BYTES < n {
+        return Ok(());
+    }
+    let mut bytes = [0u8; BYTES];
+    let copy = &mut bytes[..n];
+    copy.copy_from_slice(hall);
+    print_verdict(out, b'O', call_open::open_hall(table, copy))?;
+    copy.copy_from_slice(hall);
+    print_step(out, table, copy, choices, first)?;
+    copy.copy_from_slice(hall);
+    print_run(out, table, copy, choices, first)
 }

@@ -2,7 +2,7 @@
 // in plain words what each answers and what its caller owes.
 //
 // A `&[u8]` is passed as a pointer and a length, a `&mut` of a number or of an array as a pointer to what the call
-// sets. An enum does not pass to C: a call returns the number, 0 for none, and sets the rest in every case. A tally is
+// sets. A `Result` does not pass to C: a call returns the number, 0 for none, and sets the rest in every case. A tally is
 // three numbers: commits, failed, retries; runs and steps count on from what it holds. A suggestion is three bytes:
 // kind, position, node; a shortage is two: a tray and by how many, 0 0 for none; a station just laid down is two: its
 // kind and its body, as they stand in a hall. Only a sentence that is refused sets nothing: its buffer and its length
@@ -23,9 +23,11 @@ ghost use Rattle.answers.specs.Answered.{VerdictAnswered, OpeningAnswered, TurnA
 ghost use Rattle.answers.specs.Promises.{ToldTables, ToldHalls, ToldOpenings, ToldTurns, ToldRuns, ToldSteps, ToldSuggestions, ToldSentences};
 ghost use Rattle.print_decimals.specs.Wrote.{Wrote};
 ghost use Rattle.print_sections.specs.Limits.{lines_most};
+ghost use Rattle.print_sentence.specs.Told.{reply_told};
 
-use answers::Counters;
+use answers::{Counters, Short};
 use print_report::OUTPUT;
+use print_sentence::Moved;
 
 // Whether a table is accepted: 0, and place 0; or the number of the first refusal, and its place.
 #[unsafe(no_mangle)]
@@ -33,7 +35,7 @@ pub extern "C" fn ruonfidd_check_table(table: &[u8], place: &mut usize) -> u8
     ensures verdict_answered { VerdictAnswered (check_table table.now) result place.new }
     ensures promised { Promised ToldTables }
 {
-    answers::tell_table(table_read::check_table(table), place)
+    answers::tell_verdict(table_read::check_table(table), place)
 }
 
 // Opens a table in a hall: 0, and place 0; or the number of the first refusal, and its place, with the hall as it
@@ -44,7 +46,7 @@ pub extern "C" fn ruonfidd_open_hall(table: &[u8], hall: &mut [u8], place: &mut 
         result place.new hall.new }
     ensures promised { Promised ToldOpenings }
 {
-    answers::tell_opening(call_open::open_hall(table, hall), place)
+    answers::tell_verdict(call_open::open_hall(table, hall), place)
 }
 
 // Shows a turn, counted from 0, of the opening of a table: 0, place 0, whether it lays down a station, the station, 0 0
@@ -73,7 +75,7 @@ pub extern "C" fn ruonfidd_check_hall(table: &[u8], hall: &[u8], place: &mut usi
     ensures verdict_answered { VerdictAnswered (check_hall table.now hall.now) result place.new }
     ensures promised { Promised ToldHalls }
 {
-    answers::tell_hall(call_check::check_hall(table, hall), place)
+    answers::tell_verdict(call_check::check_hall(table, hall), place)
 }
 
 // The fresh tally: what the first run after an opening is lent.
@@ -159,6 +161,25 @@ pub extern "C" fn ruonfidd_report(input: &[u8], output: &mut [u8; OUTPUT], lengt
     *length = written;
 }
 
+// A reply that C gives by its bytes: whether the choice moved, the number of the rule or of the refusal, and a shortage,
+// 0 0 for none.
+fn reply_from(moved: u8, number: u8, tray: u8, by: u8) -> Result<Moved, u8>
+    ensures { reply_told result ≡ reply_from moved number tray by }
+{
+    if moved == 0 {
+        return Err(number);
+    }
+    let short = if answers::tells_short(tray, by) {
+        Some(Short { channel: tray, by })
+    } else {
+        None
+    };
+    Ok(Moved {
+        rule: number,
+        short,
+    })
+}
+
 // Writes the sentence of a choice and its answer to the front of a buffer, whose other bytes are left: 0, and its
 // length. `moved` is 0 where the choice was refused with this number, and any other byte where it moved by the rule of
 // this number; then `tray` was short by `by`, and none was by 0 0. Or 21, whose place is always 0: the buffer is too
@@ -180,17 +201,9 @@ pub extern "C" fn ruonfidd_sentence(
         result length.old length.new buffer.new }
     ensures promised { Promised ToldSentences }
 {
-    let short = answers::tells_short(tray, by);
-    let answer = print_sentence::sentence(
-        kind,
-        position,
-        node,
-        moved != 0,
-        number,
-        short,
-        tray,
-        by,
-        buffer,
-    );
-    answers::tell_sentence(answer, length)
+    let reply = reply_from(moved, number, tray, by);
+    answers::tell_sentence(
+        print_sentence::sentence(kind, position, node, reply, buffer),
+        length,
+    )
 }
