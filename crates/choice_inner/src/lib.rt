@@ -11,8 +11,8 @@ use answers::{Move, Reason};
 use hall_layout::{IDLE_SIZE, Index, KIND_TRANSACTION, TRANSACTION_HEAD};
 use table_terms::DECODED;
 
-// Where the node of this number, in preorder, of the transaction at a position begins; or what refuses the entry that names
-// it. Looks and moves both go by it.
+// Where the node of this number, in preorder, of the transaction at a position begins; or what refuses the entry that
+// names it. Looks and moves both go by it.
 fn find_node(
     hall: &[u8],
     index: &Index,
