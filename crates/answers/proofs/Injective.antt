@@ -13,7 +13,7 @@ use Rattle.answers.specs.declared.replies.Move.{Move}
 use Rattle.answers.specs.declared.tallies.Counters.{Counters}
 use Rattle.answers.specs.declared.steps.Step.{Step}
 use Rattle.answers.specs.Answers.{reason_number, number_of_rule, shortage_of, reply_of, verdict_of, open_answer_of, buffers_of, outcome_number, step_call_of, StepCaseDecided, entry_of, suggest_answer_of, sentence_answer_of}
-use Rattle.answers.specs.Claims.{ShortagesDiffer, RepliesDiffer, VerdictInjective, OpeningInjective, RunAnswerInjective, StepInjective, SuggestionInjective, SentenceCallInjective}
+use Rattle.answers.specs.Claims.{ShortagesDiffer, RepliesDiffer, VerdictInjective, HallVerdictInjective, OpeningInjective, RunAnswerInjective, StepInjective, SuggestionInjective, SentenceCallInjective}
 use Rattle.answers.proofs.Numbers.{reasons_differ, rules_differ}
 use Rattle.answers.proofs.CounterLaws.{counters_injective}
 
@@ -55,6 +55,9 @@ verdict_injective (Ok x) (Ok y) e = refl
 verdict_injective (Ok x) (Err f) e = absurd (let z : ◌≡◌ {A = ℕ} 0 1 = cc in omega arith)
 verdict_injective (Err f) (Ok x) e = absurd (let z : ◌≡◌ {A = ℕ} 0 1 = cc in omega arith)
 verdict_injective (Err f) (Err g) e = ap Err (refusals_differ f g (cc) (cc))
+
+pub hall_verdict_injective : HallVerdictInjective
+hall_verdict_injective = verdict_injective
 
 open_answer_injective : (a b : Result Counters Refusal) → open_answer_of a ≡ open_answer_of b → a ≡ b
 unfolding open_answer_of

@@ -11,7 +11,7 @@ pub told_tables : ToldTables
 told_tables = record { verdict_injective = Injective.verdict_injective; zero_table = Zeros.zero_table }
 
 pub told_halls : ToldHalls
-told_halls = record { verdict_injective = Injective.verdict_injective; zero_hall = Zeros.zero_hall }
+told_halls = record { hall_verdict_injective = Injective.hall_verdict_injective; zero_hall = Zeros.zero_hall }
 
 pub told_openings : ToldOpenings
 told_openings = record { opening_injective = Injective.opening_injective; zero_opened = Zeros.zero_opened }

@@ -1,10 +1,10 @@
 -- How a call answers C: the returned number, and all else that was set. A tally is three numbers, a suggestion three
 -- bytes, a shortage and a station just laid down two.
 -- Assumes nothing.
-use Rattle.std.specs.Prelude.{ℕ, ◌≡◌, Bool, not, ◌&&◌, List, [], ◌∷◌, get_or, eqb, Option, Result}
+use Rattle.std.specs.Prelude.{ℕ, ◌≡◌, Bool, cond, not, ◌&&◌, List, [], ◌∷◌, get_or, eqb, Option, Result}
 use Rattle.std.proofs.Math.Option.{none, some}
 use Rattle.semantics.specs.Definitions.Shortage.{Shortage, enough, short}
-use Rattle.semantics.specs.Definitions.Moves.{Entry, act, inside, Reply}
+use Rattle.semantics.specs.Definitions.Moves.{Entry, act, inside, Reply, moved_by, refused_by}
 use Rattle.semantics.specs.Definitions.Run.{Counters}
 use Rattle.semantics.specs.Definitions.Calls.{Verdict, verdict_number, verdict_place, Opening, open_verdict, Buffers, RunCall, StepCall}
 use Rattle.semantics.specs.Definitions.Configuration.{idle}
@@ -18,7 +18,7 @@ use Rattle.answers.specs.declared.tallies.Counters as tallies
 use Rattle.answers.specs.declared.turns.Turn.{Turn}
 use Rattle.answers.specs.declared.runs.RunAnswer.{RunAnswer}
 use Rattle.answers.specs.declared.steps.Step.{Step}
-use Rattle.answers.specs.Answers.{buffers_of, TurnIs, run_call_of, step_call_of, shortage_from, reply_in, sentence_call_of}
+use Rattle.answers.specs.Answers.{buffers_of, TurnIs, run_call_of, step_call_of, sentence_call_of}
 
 -- these two numbers as they are
 pub record VerdictSet (n at : ℕ) (returned p : ℕ) : Type 0 where
@@ -68,8 +68,8 @@ pub record TurnAnswered (a : TurnAnswer) (returned p laid : ℕ) (station : List
   pub left_open : left ≡ left_by a
 
 -- of an answer of the code: what is told of the answer that it stands for
-pub record TurnTold (a : Result (Option Turn) Refusal) (returned p laid : ℕ) (station : List ℕ) (left : ℕ) : Type 0 where
-  pub told : (v : TurnAnswer) → TurnIs v a → TurnAnswered v returned p laid station left
+pub record TurnTold (a : Result (Option Turn) Refusal) (n p laid : ℕ) (station : List ℕ) (left : ℕ) : Type 0 where
+  pub told : (v : TurnAnswer) → TurnIs v a → TurnAnswered v n p laid station left
 
 -- ---- a tally
 
@@ -163,7 +163,7 @@ tells_short a k = not (eqb a 0 && eqb k 0)
 -- a byte that tells whether the choice moved, 0 that it did not, the number of the rule or of the refusal, and the two
 -- bytes of a shortage
 abbrev pub reply_from : (moved number tray by : ℕ) → Reply
-reply_from m n a k = reply_in (not (eqb m 0)) n (shortage_from (tells_short a k) a k)
+reply_from m n a k = cond (eqb m 0) (refused_by n) (moved_by n (cond (tells_short a k) (short a k) enough))
 
 -- what is returned, and the lent length afterwards: as it was where nothing is told
 abbrev pub sentence_number : SentenceAnswer → ℕ

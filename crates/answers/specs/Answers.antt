@@ -1,6 +1,6 @@
 -- What each answer of the code says, in the terms of the definitions.
 -- Assumes nothing.
-use Rattle.std.specs.Prelude.{ℕ, ◌<◌, ◌≡◌, Bool, true, false, List, get_or, Option, Some, None, Result, Ok, Err, IfErr, ⊤}
+use Rattle.std.specs.Prelude.{ℕ, ◌<◌, ◌≡◌, List, get_or, Option, Some, None, Result, Ok, Err, IfErr, ⊤}
 use Rattle.std.proofs.Math.Option.{none, some}
 use Rattle.semantics.specs.Definitions.Shortage as test
 use Rattle.semantics.specs.Definitions.Configuration.{Idle, idle}
@@ -33,42 +33,18 @@ use Rattle.answers.specs.declared.steps.Step.{Step}
 -- ---- the numbers of document 01
 
 unfoldable pub reason_number : Reason → ℕ
-reason_number reason.UnknownRecord = 1
-reason_number reason.RecordCutShort = 2
-reason_number reason.TooManyTerms = 3
-reason_number reason.ChannelOutOfRange = 4
-reason_number reason.ForwardReference = 5
-reason_number reason.ClassMismatch = 6
-reason_number reason.OverLimit = 7
-reason_number reason.BadTokens = 8
-reason_number reason.WrongEnd = 9
-reason_number reason.WrongLength = 10
-reason_number reason.Malformed = 11
-reason_number reason.UnknownKind = 12
-reason_number reason.CutShort = 13
-reason_number reason.NoComponent = 14
-reason_number reason.WrongComponent = 15
-reason_number reason.NoNode = 16
-reason_number reason.NoRule = 17
-reason_number reason.EmptyChannel = 18
-reason_number reason.TooManyComponents = 19
-reason_number reason.FullChannel = 20
-reason_number reason.ShortBuffer = 21
+reason_number r = elim r [
+    | reason.UnknownRecord ↦ 1 | reason.RecordCutShort ↦ 2 | reason.TooManyTerms ↦ 3 | reason.ChannelOutOfRange ↦ 4
+    | reason.ForwardReference ↦ 5 | reason.ClassMismatch ↦ 6 | reason.OverLimit ↦ 7 | reason.BadTokens ↦ 8
+    | reason.WrongEnd ↦ 9 | reason.WrongLength ↦ 10 | reason.Malformed ↦ 11 | reason.UnknownKind ↦ 12
+    | reason.CutShort ↦ 13 | reason.NoComponent ↦ 14 | reason.WrongComponent ↦ 15 | reason.NoNode ↦ 16
+    | reason.NoRule ↦ 17 | reason.EmptyChannel ↦ 18 | reason.TooManyComponents ↦ 19 | reason.FullChannel ↦ 20
+    | reason.ShortBuffer ↦ 21 ]
 
 unfoldable pub number_of_rule : Rule → ℕ
-number_of_rule rule.Out = 1
-number_of_rule rule.In = 2
-number_of_rule rule.Rep = 3
-number_of_rule rule.Atst = 4
-number_of_rule rule.Atre = 5
-number_of_rule rule.Atfail = 6
-number_of_rule rule.Atok = 7
-number_of_rule rule.Ardok = 8
-number_of_rule rule.Ardf = 9
-number_of_rule rule.Awr = 10
-number_of_rule rule.Aoi = 11
-number_of_rule rule.Aof = 12
-number_of_rule rule.Aoe = 13
+number_of_rule r = elim r [
+    | rule.Out ↦ 1 | rule.In ↦ 2 | rule.Rep ↦ 3 | rule.Atst ↦ 4 | rule.Atre ↦ 5 | rule.Atfail ↦ 6 | rule.Atok ↦ 7
+    | rule.Ardok ↦ 8 | rule.Ardf ↦ 9 | rule.Awr ↦ 10 | rule.Aoi ↦ 11 | rule.Aof ↦ 12 | rule.Aoe ↦ 13 ]
 
 -- ---- a choice, and the reply to it
 
@@ -159,13 +135,8 @@ RunCaseDecided a = IfErr a.outcome (λ e. 0 < reason_number e)
 -- choice moved; rule 0, nothing short and the counters that were lent where it is refused
 abbrev pub step_call_of : Result Step Refusal → Buffers → StepCall
 step_call_of (Ok s) l =
-    record {
-      number = 0;
-      place = s.place;
-      rule = number_of_rule s.made.rule;
-      shortage = shortage_of s.made.short;
-      buffers = buffers_of l.hall s.counters;
-    }
+    let r = number_of_rule s.made.rule in let w = shortage_of s.made.short in
+    record { number = 0; place = s.place; rule = r; shortage = w; buffers = buffers_of l.hall s.counters }
 step_call_of (Err e) l =
     record { number = reason_number e.reason; place = e.place; rule = 0; shortage = test.enough; buffers = l }
 
@@ -181,16 +152,6 @@ suggest_answer_of (Ok None) = still
 suggest_answer_of (Err e) = not_suggested (reason_number e.reason) e.place
 
 -- ---- a sentence
-
--- whether something was short, which tray and by how many
-abbrev pub shortage_from : (short : Bool) (tray by : ℕ) → test.Shortage
-shortage_from true a k = test.short a k
-shortage_from false a k = test.enough
-
--- whether a choice moved, the number of its rule or of its refusal, and what it was short of where it moved
-abbrev pub reply_in : (moved : Bool) (number : ℕ) → test.Shortage → moves.Reply
-reply_in true n w = moves.moved_by n w
-reply_in false n w = moves.refused_by n
 
 abbrev pub sentence_answer_of : Result ℕ Refusal → words.SentenceAnswer
 sentence_answer_of (Ok n) = told n

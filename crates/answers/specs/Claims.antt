@@ -37,6 +37,9 @@ RepliesDiffer = (a b : Result Move Reason) → reply_of a ≡ reply_of b → a �
 abbrev pub VerdictInjective : Type 0
 VerdictInjective = (a b : Result ⊤ Refusal) → verdict_of a ≡ verdict_of b → a ≡ b
 
+abbrev pub HallVerdictInjective : Type 0
+HallVerdictInjective = VerdictInjective
+
 -- and the halls, and the buffers, that they leave are the same
 abbrev pub OpeningInjective : Type 0
 OpeningInjective = (a b : Result Counters Refusal) (x y : List ℕ) → opening_of a x ≡ opening_of b y → (a ≡ b) × (x ≡ y)

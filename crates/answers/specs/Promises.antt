@@ -1,6 +1,6 @@
 -- Every claim on the answers, in the records that the contracts of the exports cite: `.ci/claims` holds the list.
 -- Assumes nothing.
-use Rattle.answers.specs.Claims.{ShortagesDiffer, RepliesDiffer, VerdictInjective, OpeningInjective, RunAnswerInjective, StepInjective, SuggestionInjective, SentenceCallInjective, ZeroTable, ZeroHall, ZeroOpened, ZeroTurn, ZeroSuggested, ZeroSentence, RefusedTold, PastTold, NothingTold, PutTold, Byte0Refused, OtherByteMoved, HandedOn, ShortWritesNothing, LongTellsLength}
+use Rattle.answers.specs.Claims.{ShortagesDiffer, RepliesDiffer, VerdictInjective, HallVerdictInjective, OpeningInjective, RunAnswerInjective, StepInjective, SuggestionInjective, SentenceCallInjective, ZeroTable, ZeroHall, ZeroOpened, ZeroTurn, ZeroSuggested, ZeroSentence, RefusedTold, PastTold, NothingTold, PutTold, Byte0Refused, OtherByteMoved, HandedOn, ShortWritesNothing, LongTellsLength}
 
 -- ---- ruonfidd_check_table
 
@@ -11,7 +11,7 @@ pub record ToldTables : Type 0 where
 -- ---- ruonfidd_check_hall
 
 pub record ToldHalls : Type 0 where
-  pub verdict_injective : VerdictInjective
+  pub hall_verdict_injective : HallVerdictInjective
   pub zero_hall : ZeroHall
 
 -- ---- ruonfidd_open_hall
