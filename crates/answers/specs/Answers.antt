@@ -1,6 +1,6 @@
 -- What each answer of the code says, in the terms of the definitions.
 -- Assumes nothing.
-use Rattle.std.specs.Prelude.{ℕ, ◌<◌, ◌≡◌, List, get_or, Option, Some, None, Result, Ok, Err, IfErr, ⊤}
+use Rattle.std.specs.Prelude.{ℕ, ◌+◌, ◌<◌, ◌≡◌, List, get_or, Option, Some, None, Result, Ok, Err, IfErr, ⊤}
 use Rattle.std.proofs.Math.Option.{none, some}
 use Rattle.semantics.specs.Definitions.Shortage as test
 use Rattle.semantics.specs.Definitions.Configuration.{Idle, idle}
@@ -16,13 +16,14 @@ use Rattle.semantics.specs.Definitions.Suggestion.{suggested, still, not_suggest
 use Rattle.semantics.specs.Definitions.Suggestion as suggestion
 use Rattle.semantics.specs.Definitions.Sentence.{told, not_told, SentenceCall}
 use Rattle.semantics.specs.Definitions.Sentence as words
+use denote.Enum.Declared.{tag_of}
+use Rattle.answers.specs.contracts.refusals.Reason as refusals
+use Rattle.answers.specs.contracts.rules.Rule as rules
 use Rattle.answers.specs.declared.choices.Entry.{Entry}
 use Rattle.answers.specs.declared.choices.Entry.TheVariants.{Act, Inside}
 use Rattle.answers.specs.declared.refusals.Reason.{Reason}
-use Rattle.answers.specs.declared.refusals.Reason.TheVariants as reason
 use Rattle.answers.specs.declared.refusals.Refusal.{Refusal}
 use Rattle.answers.specs.declared.rules.Rule.{Rule}
-use Rattle.answers.specs.declared.rules.Rule.TheVariants as rule
 use Rattle.answers.specs.declared.replies.Short.{Short}
 use Rattle.answers.specs.declared.replies.Move.{Move}
 use Rattle.answers.specs.declared.tallies.Counters.{Counters}
@@ -30,21 +31,13 @@ use Rattle.answers.specs.declared.turns.Turn.{Turn}
 use Rattle.answers.specs.declared.runs.RunAnswer.{RunAnswer}
 use Rattle.answers.specs.declared.steps.Step.{Step}
 
--- ---- the numbers of document 01
+-- ---- the numbers of document 01: the cases stand in its order, from 1 on, and src/ has the number at each
 
 unfoldable pub reason_number : Reason → ℕ
-reason_number r = elim r [
-    | reason.UnknownRecord ↦ 1 | reason.RecordCutShort ↦ 2 | reason.TooManyTerms ↦ 3 | reason.ChannelOutOfRange ↦ 4
-    | reason.ForwardReference ↦ 5 | reason.ClassMismatch ↦ 6 | reason.OverLimit ↦ 7 | reason.BadTokens ↦ 8
-    | reason.WrongEnd ↦ 9 | reason.WrongLength ↦ 10 | reason.Malformed ↦ 11 | reason.UnknownKind ↦ 12
-    | reason.CutShort ↦ 13 | reason.NoComponent ↦ 14 | reason.WrongComponent ↦ 15 | reason.NoNode ↦ 16
-    | reason.NoRule ↦ 17 | reason.EmptyChannel ↦ 18 | reason.TooManyComponents ↦ 19 | reason.FullChannel ↦ 20
-    | reason.ShortBuffer ↦ 21 ]
+reason_number r = tag_of refusals.the_type r + 1
 
 unfoldable pub number_of_rule : Rule → ℕ
-number_of_rule r = elim r [
-    | rule.Out ↦ 1 | rule.In ↦ 2 | rule.Rep ↦ 3 | rule.Atst ↦ 4 | rule.Atre ↦ 5 | rule.Atfail ↦ 6 | rule.Atok ↦ 7
-    | rule.Ardok ↦ 8 | rule.Ardf ↦ 9 | rule.Awr ↦ 10 | rule.Aoi ↦ 11 | rule.Aof ↦ 12 | rule.Aoe ↦ 13 ]
+number_of_rule r = tag_of rules.the_type r + 1
 
 -- ---- a choice, and the reply to it
 

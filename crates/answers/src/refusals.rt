@@ -45,6 +45,7 @@ pub struct Refusal {
 
 impl Reason {
     // The number that C and document 01 have for it.
+    #[tactic(auto, unfolding(crate::specs::Answers::reason_number))]
     pub fn number(self) -> u8
         ensures { result ≡ reason_number self }
     {

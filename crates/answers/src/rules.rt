@@ -23,6 +23,7 @@ pub enum Rule {
 
 impl Rule {
     // The number that C and document 01 have for it.
+    #[tactic(auto, unfolding(crate::specs::Answers::number_of_rule))]
     pub fn number(self) -> u8
         ensures { result ≡ number_of_rule self }
     {

@@ -25,11 +25,7 @@ fn admit_hall(decoded: &[u8; DECODED], terms: usize, hall: &[u8]) -> Result<Inde
 
 // The index of an admitted hall. Refused by 1 to 9 with the table's place, by 10 where the hall has another
 // length, by 11 where it is not well formed.
-pub fn admit(
-    table: &[u8],
-    hall: &[u8],
-    decoded: &mut [u8; DECODED],
-) -> Result<Index, Refusal>
+pub fn admit(table: &[u8], hall: &[u8], decoded: &mut [u8; DECODED]) -> Result<Index, Refusal>
     requires { decoded.old ≡ replicate decoded_bytes 0 }
     ensures { AdmissionIs result decoded.new hall.now (admission table.now hall.now) }
 {

@@ -70,12 +70,5 @@ pub fn step(
     let mut index = call_admit::admit(table, hall, &mut decoded)?;
     let (entry, size) = named(kind, position, node)?;
     let bytes = [kind, position, node];
-    step_held(
-        &decoded,
-        hall,
-        &mut index,
-        entry,
-        &bytes[..size],
-        counters,
-    )
+    step_held(&decoded, hall, &mut index, entry, &bytes[..size], counters)
 }

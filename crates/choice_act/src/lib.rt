@@ -33,7 +33,12 @@ pub fn look_act(
         return Err(Reason::NoComponent);
     };
     match occupant {
-        Occupant::Transaction => move_blocks::look_end(decoded, hall, index.starts[p], index.components),
+        Occupant::Transaction => move_blocks::look_end(
+            decoded,
+            hall,
+            index.starts[p],
+            index.components,
+        ),
         Occupant::Output { channel } => move_tokens::look_output(hall, channel),
         Occupant::Block => Ok(Move::by(Rule::Atst)),
         Occupant::Take { term } => move_tokens::look_take(decoded, hall, index.components, term),

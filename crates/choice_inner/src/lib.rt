@@ -13,12 +13,7 @@ use table_terms::DECODED;
 
 // Where the node of this number, in preorder, of the transaction at a position begins; or what refuses the entry that
 // names it. Looks and moves both go by it.
-fn find_node(
-    hall: &[u8],
-    index: &Index,
-    position: usize,
-    node: u8,
-) -> Result<usize, Reason>
+fn find_node(hall: &[u8], index: &Index, position: usize, node: u8) -> Result<usize, Reason>
     requires { CanFindNode hall.now index.now.starts index.now.components }
     ensures { NodeFound hall.now index.now.starts index.now.components position node result }
 {

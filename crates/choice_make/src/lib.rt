@@ -25,12 +25,8 @@ pub fn look(
         (entry_of entry) result }
 {
     match entry {
-        Entry::Act { position } => choice_act::look_act(
-            decoded, hall, index, position,
-        ),
-        Entry::Inside { position, node } => {
-            look_inside(decoded, hall, index, position, node)
-        }
+        Entry::Act { position } => choice_act::look_act(decoded, hall, index, position),
+        Entry::Inside { position, node } => look_inside(decoded, hall, index, position, node),
     }
 }
 
@@ -48,8 +44,6 @@ pub fn make(
 {
     match entry {
         Entry::Act { position } => choice_act::act(decoded, hall, index, position),
-        Entry::Inside { position, node } => {
-            act_inside(decoded, hall, index, position, node)
-        }
+        Entry::Inside { position, node } => act_inside(decoded, hall, index, position, node),
     }
 }

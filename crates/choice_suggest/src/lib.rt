@@ -13,12 +13,7 @@ use hall_layout::{Index, KIND_TRANSACTION, MAX_NODES};
 use table_terms::DECODED;
 
 // The first entry of kind 2 that is accepted at the position of a transaction, whose tree has at most MAX_NODES nodes.
-fn first_inside(
-    decoded: &[u8; DECODED],
-    hall: &[u8],
-    index: &Index,
-    position: u8,
-) -> Option<Entry>
+fn first_inside(decoded: &[u8; DECODED], hall: &[u8], index: &Index, position: u8) -> Option<Entry>
     requires { Running decoded.now hall.now index.now.starts index.now.components }
     ensures { FirstFoundInside decoded.now hall.now index.now.starts index.now.components
         position result }
@@ -32,12 +27,7 @@ fn first_inside(
 }
 
 // The first entry that is accepted at a position.
-fn first_at(
-    decoded: &[u8; DECODED],
-    hall: &[u8],
-    index: &Index,
-    position: u8,
-) -> Option<Entry>
+fn first_at(decoded: &[u8; DECODED], hall: &[u8], index: &Index, position: u8) -> Option<Entry>
     requires { Running decoded.now hall.now index.now.starts index.now.components × (position < index.now.components) }
     ensures { FirstFoundAt decoded.now hall.now index.now.starts index.now.components position
         result }
@@ -52,11 +42,7 @@ fn first_at(
 }
 
 // The first entry that is accepted; none where none is (document 01's still: quiescent).
-pub fn first_accepted(
-    decoded: &[u8; DECODED],
-    hall: &[u8],
-    index: &Index,
-) -> Option<Entry>
+pub fn first_accepted(decoded: &[u8; DECODED], hall: &[u8], index: &Index) -> Option<Entry>
     requires { Running decoded.now hall.now index.now.starts index.now.components }
     ensures { FirstFound decoded.now hall.now index.now.starts index.now.components result }
 {

@@ -112,7 +112,14 @@ pub fn replace_component(
     let used = index.starts[index.components];
     splice(hall, begin, end, used, new);
     let less = end - begin;
-    renumber(&mut index.starts, index.components, position, pieces, less, new.len());
+    renumber(
+        &mut index.starts,
+        index.components,
+        position,
+        pieces,
+        less,
+        new.len(),
+    );
     index.components = index.components - 1 + pieces;
 }
 
@@ -132,5 +139,12 @@ pub fn replace_part(
 {
     let used = index.starts[index.components];
     splice(hall, from, to, used, new);
-    renumber(&mut index.starts, index.components, position, 1, to - from, new.len());
+    renumber(
+        &mut index.starts,
+        index.components,
+        position,
+        1,
+        to - from,
+        new.len(),
+    );
 }

@@ -46,12 +46,7 @@ fn begun(hall: &[u8], block: u8, expression: u8) -> [u8; BEGUN]
 
 // ATST: the block at a position becomes a transaction with the counts of now as its snapshot, and its expression at one
 // leaf, with the empty log.
-pub fn begin(
-    decoded: &[u8; DECODED],
-    hall: &mut [u8],
-    index: &mut Index,
-    position: usize,
-)
+pub fn begin(decoded: &[u8; DECODED], hall: &mut [u8], index: &mut Index, position: usize)
     requires { CanApply decoded.now hall.old index.old.starts index.old.components (act position) 4 }
     ensures { Applied decoded.now hall.old index.old.starts index.old.components
         (act position) 4 hall.new index.new.starts index.new.components }

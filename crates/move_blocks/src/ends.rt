@@ -54,11 +54,7 @@ pub fn look_end(
 }
 
 // ATRE and ATFAIL: the transaction at a position gives way to its block.
-pub fn restart(
-    hall: &mut [u8],
-    index: &mut Index,
-    position: usize,
-)
+pub fn restart(hall: &mut [u8], index: &mut Index, position: usize)
     requires { CanRestart hall.old index.old.starts index.old.components position }
     ensures block { Restarted hall.old index.old.starts index.old.components position
         hall.new index.new.starts }
@@ -70,11 +66,7 @@ pub fn restart(
 }
 
 // ATOK: the reads are taken from the counts, and each write becomes an output.
-pub fn commit(
-    hall: &mut [u8],
-    index: &mut Index,
-    position: usize,
-)
+pub fn commit(hall: &mut [u8], index: &mut Index, position: usize)
     requires { CanCommit hall.old index.old.starts index.old.components position }
     ensures { Committed hall.old index.old.starts index.old.components position
         hall.new index.new.starts index.new.components }

@@ -63,12 +63,7 @@ pub fn split(
 }
 
 // AOF: the fork and its left side, a retry leaf, give way to its right side.
-pub fn drop_left(
-    hall: &mut [u8],
-    index: &mut Index,
-    position: usize,
-    at: usize,
-)
+pub fn drop_left(hall: &mut [u8], index: &mut Index, position: usize, at: usize)
     requires { (at + left_size ≤ length hall.old)
         × CanReplacePart hall.old index.old.starts index.old.components position at (at + left_size) [] }
     ensures part { ReplacedPart hall.old index.old.starts index.old.components position at
@@ -79,12 +74,7 @@ pub fn drop_left(
 }
 
 // AOE: the fork gives way to its left side, an end leaf.
-pub fn keep_left(
-    hall: &mut [u8],
-    index: &mut Index,
-    position: usize,
-    at: usize,
-)
+pub fn keep_left(hall: &mut [u8], index: &mut Index, position: usize, at: usize)
     requires { (at + left_size ≤ length hall.old) × CanReplacePart hall.old index.old.starts index.old.components position at
         (tree_end hall.old at) (left_bytes hall.old at) }
     ensures part { ReplacedPart hall.old index.old.starts index.old.components position at

@@ -17,11 +17,7 @@ pub fn look_output(hall: &[u8], channel: u8) -> Result<Move, Reason>
 }
 
 // OUT at a position.
-pub fn put(
-    hall: &mut [u8],
-    index: &mut Index,
-    position: usize,
-)
+pub fn put(hall: &mut [u8], index: &mut Index, position: usize)
     requires { CanPut hall.old index.old.starts index.old.components position }
     ensures { TokenPut hall.old index.old.starts index.old.components position hall.new index.new.starts index.new.components }
 {

@@ -110,12 +110,7 @@ fn take_by(
 
 // IN or REP at a position. A continuation that is not two side by side opens into one component at most: only the others
 // take a buffer for as many as may be.
-pub fn take(
-    decoded: &[u8; DECODED],
-    hall: &mut [u8],
-    index: &mut Index,
-    position: usize,
-)
+pub fn take(decoded: &[u8; DECODED], hall: &mut [u8], index: &mut Index, position: usize)
     requires { CanTake decoded.now hall.old index.old.starts index.old.components position }
     ensures { TokenTaken decoded.now hall.old index.old.starts index.old.components position
         hall.new index.new.starts index.new.components }

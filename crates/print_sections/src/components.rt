@@ -5,20 +5,13 @@ ghost use Rattle.print_sections.specs.Limits.{component_most, components_most};
 ghost use Rattle.print_sections.specs.Printed.{CanPrintComponents, ComponentPrinted, ComponentsPrinted};
 
 use buffer::byte_at;
-use hall_layout::{
-    COMPONENT_BODY, Index, KIND_OUTPUT, KIND_WAITING, MAX_NODES, TRANSACTION_HEAD,
-};
+use hall_layout::{COMPONENT_BODY, Index, KIND_OUTPUT, KIND_WAITING, MAX_NODES, TRANSACTION_HEAD};
 use print_decimals::Page;
 use print_lines::{LETTER_OUTPUT, LETTER_TRANSACTION, LETTER_WAITING, write_line};
 
 // The line of the component at a position: the channel of an output, the term of one that waits, the term of a
 // transaction and how many nodes it has.
-fn component_line(
-    hall: &[u8],
-    index: &Index,
-    position: usize,
-    page: &mut Page<'_>,
-)
+fn component_line(hall: &[u8], index: &Index, position: usize, page: &mut Page<'_>)
     requires { CanPrintComponents hall.now index.now.starts index.now.components × (position < index.now.components)
         × HasRoom component_most page.old }
     ensures { ComponentPrinted hall.now index.now.starts index.now.components position page.old page.new }
@@ -38,11 +31,7 @@ fn component_line(
 }
 
 // The lines of all components, in order.
-pub fn component_lines(
-    hall: &[u8],
-    index: &Index,
-    page: &mut Page<'_>,
-)
+pub fn component_lines(hall: &[u8], index: &Index, page: &mut Page<'_>)
     requires { CanPrintComponents hall.now index.now.starts index.now.components × HasRoom components_most page.old }
     ensures { ComponentsPrinted hall.now index.now.starts index.now.components page.old page.new }
 {

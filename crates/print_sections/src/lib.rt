@@ -23,13 +23,7 @@ use totals::counters_line;
 pub use totals::run_line;
 
 // The lines of a run whose last hall is held, all sections in order.
-pub fn print_lines(
-    hall: &[u8],
-    index: &Index,
-    first: &[u8],
-    answer: RunAnswer,
-    page: &mut Page<'_>,
-)
+pub fn print_lines(hall: &[u8], index: &Index, first: &[u8], answer: RunAnswer, page: &mut Page<'_>)
     requires { CanPrintComponents hall.now index.now.starts index.now.components × (Layout·channels ≤ length first.now)
         × HasRoom lines_most page.old }
     ensures { LinesPrinted hall.now index.now.starts index.now.components first.now answer page.old page.new }

@@ -1,23 +1,23 @@
--- `zeros_from` meets its contract: the bytes are zeros where the largest of them is. Assumes nothing.
-use Prim.Native.Nat.{◌-◌, max}
+-- `zeros_from` meets its contract: the bytes so far are zeros where the largest of them is. Assumes nothing.
 use native.Mathlib.Omega.{arith}
-use mathlib.Core.Path.{◌≡◌}
-use mathlib.Core.List.{List}
-use lib.ListN.{length, take, drop, length-drop}
-use Rattle.std.proofs.Common.{ℕ, rules, take_all}
-use Rattle.std.specs.List.{fold}
-use Rattle.std.proofs.lemmas.Iterator.{YieldsList-from_slice}
-use Rattle.std.proofs.lemmas.Iterator.Consumers.{fold_from_yields_List}
-use Rattle.hall_check.proofs.Zeros.{largest_zero}
+use Rattle.hall_check.proofs.Zeros.{quarters_begun, quarters_turn, quarters_done, rest_turn, rest_done}
 use Rattle.hall_check.proofs.zeros_from.Goals as goal
 
+pub loop-i-init : goal.loop-i-init
+loop-i-init c = (omega arith, quarters_begun _ _ _)
+
+pub loop-i-preserved : goal.loop-i-preserved
+loop-i-preserved c =
+    let low = c.max-low.ensures in
+    let high = c.max-high.ensures in
+    let both = c.max.ensures in
+    (c.loop-i.invariant.0, quarters_turn _ _ _ _ _ c.loop-i.invariant.1 _ _ _ _ low high both c.max-top.ensures)
+
+pub loop-i-2-init : goal.loop-i-2-init
+loop-i-2-init c = search quarters_done
+
+pub loop-i-2-preserved : goal.loop-i-2-preserved
+loop-i-2-preserved c = let l = c.loop-i-2.auto.i in rest_turn _ _ _ _ c.loop-i-2.invariant _ c.max-top-in-loop-i-2.ensures (omega arith)
+
 pub returns : goal.returns
-returns c =
-    let s = c.args.s.now in
-    let from = c.args.from in
-    let bytes : List ℕ = take (length s - from) (drop from s) in
-    let size = length-drop from s in
-    let all : bytes ≡ drop from s = take_all _ (drop from s) (omega arith) in
-    let largest : c.fold.result ≡ fold max 0 bytes =
-    fold_from_yields_List _ max 0 c.fold.result c.fold.ensures.ran (YieldsList-from_slice bytes cc) (λ a x b q k. search rules) in
-    rw (largest, all) (largest_zero (drop from s))
+returns c = search rest_done
