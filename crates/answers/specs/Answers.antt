@@ -26,6 +26,7 @@ use Rattle.answers.specs.declared.refusals.Refusal.{Refusal}
 use Rattle.answers.specs.declared.rules.Rule.{Rule}
 use Rattle.answers.specs.declared.replies.Short.{Short}
 use Rattle.answers.specs.declared.replies.Move.{Move}
+use Rattle.answers.specs.declared.replies.Moved.{Moved}
 use Rattle.answers.specs.declared.tallies.Counters.{Counters}
 use Rattle.answers.specs.declared.turns.Turn.{Turn}
 use Rattle.answers.specs.declared.runs.RunAnswer.{RunAnswer}
@@ -54,6 +55,11 @@ unfoldable pub reply_of : Result Move Reason → moves.Reply
 unfolding shortage_of
 reply_of (Ok m) = moves.moved_by (number_of_rule m.rule) (shortage_of m.short)
 reply_of (Err e) = moves.refused_by (reason_number e)
+
+-- the reply that a sentence is told; its number is any byte
+abbrev pub reply_told : Result Moved ℕ → moves.Reply
+reply_told (Ok m) = moves.moved_by m.rule (shortage_of m.short)
+reply_told (Err n) = moves.refused_by n
 
 -- ---- a tally
 

@@ -21,7 +21,7 @@ mod verdicts;
 
 pub use choices::{Entry, KIND_ACT, KIND_INSIDE, choice_words};
 pub use refusals::{Reason, Refusal};
-pub use replies::{Move, Short, shortage_words, tells_short};
+pub use replies::{Move, Moved, Short, shortage_words, tells_short};
 pub use rules::Rule;
 pub use runs::{RunAnswer, outcome_number, tell_run};
 pub use sentences::tell_sentence;

@@ -30,6 +30,14 @@ impl Move {
     }
 }
 
+// That a choice moved, as a sentence is told it: the number of the rule, and what was short then. The number comes from C
+// and may be no rule's.
+#[derive(Clone, Copy, PartialEq, Eq)]
+pub struct Moved {
+    pub rule: u8,
+    pub short: Option<Short>,
+}
+
 // What was short, as its tray and by how many; 0 0 where nothing was.
 pub fn shortage_words(shortage: Option<Short>) -> [u8; 2]
     ensures { result ≡ shortage_words (shortage_of shortage) }

@@ -3,10 +3,12 @@
 use Prim.Native.Nat.{ℕ, ◌≤◌}
 use native.Mathlib.Omega.{arith}
 use mathlib.Core.Path.{◌≡◌, refl}
+use mathlib.Core.Bool.{Bool, true, false}
 use mathlib.Core.Option as math
 use mathlib.Core.Option.{none, some}
 use mathlib.Core.List.{List}
 use Rattle.std.specs.Prelude.{Option, None, Some, IfSome, Result, Ok, Err, ok_or}
+use Rattle.std.specs.Bool.{then_some}
 use lib.ListN.{length, get_or}
 use mir.Syntax.{w8}
 use mir.Val.{Fits}
@@ -50,12 +52,20 @@ module _ (d : List ℕ) (n : ℕ) (hall : List ℕ) where
       holds = read_holds t.terms hall c h x.good (slice_bytes hall b) right sized q y;
     }
 
-    pub form_admitted : (f : Option Index) → HallRead d n hall f → (r : Result Index Refusal) → r ≡ ok_or f e → HallAdmitted d n hall r
+    form_admitted : (f : Option Index) → HallRead d n hall f → HallAdmitted d n hall (ok_or f e)
     unfolding size_tested
-    form_admitted f w r m = record {
-      found = λ t x c. rw (eq-eqb (length hall) 11344 right, m)
+    form_admitted f w = record {
+      found = λ t x c. rw (eq-eqb (length hall) 11344 right)
           (by_form t x f w.sized (configuration_of t.terms hall) refl (w.found t.terms x c));
     }
+
+  -- by what the check of the form answered, and the index that it was lent
+  module _ (right : length hall ≡ hall_bytes) (b : (i : ℕ) → Fits w8 (get_or hall i 0)) (o : Bool) (index : Index) (w : HallRead d n hall (then_some o index)) where
+    pub malformed : o ≡ false → (e : Refusal) → e ≡ record { reason = Malformed; place = 0 } → HallAdmitted d n hall (Err e)
+    malformed g e p = form_admitted right b e p None (rw g at w)
+
+    pub well_formed : o ≡ true → HallAdmitted d n hall (Ok index)
+    well_formed g = form_admitted right b (record { reason = Malformed; place = 0 }) refl (Some index) (rw g at w)
 
 -- ---- the table
 

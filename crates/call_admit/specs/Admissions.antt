@@ -2,7 +2,7 @@
 --
 -- d is the decoded table, hall the stored bytes.
 -- Assumes nothing.
-use Rattle.std.specs.Prelude.{ℕ, ◌≡◌, List, length, eqb, Result, Ok, Err}
+use Rattle.std.specs.Prelude.{ℕ, ◌≡◌, ⊤, List, length, eqb, Result, Ok, Err}
 use Rattle.semantics.specs.Definitions.Table.{Table}
 use Rattle.semantics.specs.Definitions.Configuration.{Configuration}
 use Rattle.semantics.specs.Definitions.Stored.{hall_bytes}
@@ -17,6 +17,11 @@ use Rattle.hall_held.specs.Holds.{Holds}
 pub record TableAndHallHeld (t : Table) (h : Configuration) (d hall : List ℕ) (x : Index) : Type 0 where
   pub decoded : Decoded t.terms d
   pub holds : Holds t.terms h hall x.starts x.components
+
+-- the index that was lent, where table and hall are admitted; or the refusal
+abbrev pub held_by : Result ⊤ Refusal → Index → Result Index Refusal
+held_by (Ok x) index = Ok index
+held_by (Err e) index = Err e
 
 -- an admitted table and configuration are held; a refusal has its number and its place
 abbrev pub AdmissionIs : Result Index Refusal → (d hall : List ℕ) → Admission → Type 0

@@ -7,6 +7,7 @@ ghost use Rattle.semantics.specs.Promises.{Promised, OnHalls};
 ghost use Rattle.answers.specs.Answers.{verdict_of};
 
 use answers::Refusal;
+use hall_layout::Index;
 use table_terms::DECODED;
 
 // Checks a stored hall: refused by 1 to 9 with the table's place, by 10 where the hall has another length, by 11
@@ -16,6 +17,7 @@ pub fn check_hall(table: &[u8], hall: &[u8]) -> Result<(), Refusal>
     ensures promised { Promised OnHalls }
 {
     let mut decoded = [0u8; DECODED];
-    call_admit::admit(table, hall, &mut decoded)?;
+    let mut index = Index::new();
+    call_admit::admit(table, hall, &mut decoded, &mut index)?;
     Ok(())
 }

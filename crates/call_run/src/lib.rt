@@ -7,6 +7,7 @@ ghost use Rattle.semantics.specs.Promises.{Promised, OnRuns, Demands};
 ghost use Rattle.answers.specs.Answers.{run_call_of, RunCaseDecided, buffers_of};
 
 use answers::{Counters, RunAnswer};
+use hall_layout::Index;
 use table_terms::DECODED;
 
 // Runs a schedule, choice by choice, up to its end or to the first that is refused, and counts what was done. Refused
@@ -19,8 +20,9 @@ pub fn run(table: &[u8], hall: &mut [u8], choices: &[u8], counters: Counters) ->
     ensures demands { Promised Demands }
 {
     let mut decoded = [0u8; DECODED];
-    match call_admit::admit(table, hall, &mut decoded) {
-        Ok(mut index) => choice_run::run_held(&decoded, hall, &mut index, choices, counters),
+    let mut index = Index::new();
+    match call_admit::admit(table, hall, &mut decoded, &mut index) {
+        Ok(()) => choice_run::run_held(&decoded, hall, &mut index, choices, counters),
         Err(refusal) => RunAnswer {
             outcome: Err(refusal.reason),
             place: refusal.place,

@@ -67,7 +67,8 @@ pub fn step(
     ensures promised { Promised OnSteps }
 {
     let mut decoded = [0u8; DECODED];
-    let mut index = call_admit::admit(table, hall, &mut decoded)?;
+    let mut index = Index::new();
+    call_admit::admit(table, hall, &mut decoded, &mut index)?;
     let (entry, size) = named(kind, position, node)?;
     let bytes = [kind, position, node];
     step_held(&decoded, hall, &mut index, entry, &bytes[..size], counters)

@@ -6,14 +6,15 @@
 #![tactic(auto)]
 
 ghost use Rattle.std.specs.Prelude.{◌≡◌, ◌≤◌, ◌<◌, length, drop};
+ghost use Rattle.std.specs.Bool.{then_some};
 ghost use Rattle.semantics.specs.Definitions.Layout.{max_terms};
 ghost use Rattle.semantics.specs.Definitions.Basics.{zeros};
 ghost use Rattle.hall_laws.specs.ReadParts.{waits};
 ghost use Rattle.hall_check.specs.Scans.{KindRead, TreeRead, ComponentRead, HallRead};
 
 use hall_layout::{
-    CHANNELS, COMPONENT_BODY, IDLE_SIZE, INDEX_SIZE, Index, KIND_FORK, KIND_OUTPUT,
-    KIND_TRANSACTION, KIND_WAITING, MAX_COMPONENTS, TRANSACTION_HEAD, node_size, pending_behind,
+    CHANNELS, COMPONENT_BODY, IDLE_SIZE, Index, KIND_FORK, KIND_OUTPUT, KIND_TRANSACTION,
+    KIND_WAITING, MAX_COMPONENTS, TRANSACTION_HEAD, node_size, pending_behind,
 };
 use hall_nodes::node_at;
 use table_records::{ATOM, REPEATED_TAKE, TAKE};
@@ -118,31 +119,33 @@ pub fn component_scan(decoded: &[u8; DECODED], n: usize, s: &[u8], at: usize) ->
     }
 }
 
-// The index of a hall that is well formed for a decoded table of n terms: its bytes are counts, at most 64 components up to
-// the first zero byte or the end, and zeros behind them.
-pub fn well_formed(decoded: &[u8; DECODED], n: usize, s: &[u8]) -> Option<Index>
+// Whether the bytes are a hall that is well formed for a decoded table of n terms: counts, at most 64 components up to
+// the first zero byte or the end, and zeros behind them. Of a well-formed one the index that is lent says where each
+// component begins and where the last one ends, and how many there are. It is lent and no answer: an index has more than
+// 500 bytes, and each function that hands it on would copy them, in a third of the time of a small hall's check.
+pub fn well_formed(decoded: &[u8; DECODED], n: usize, s: &[u8], index: &mut Index) -> bool
     requires { n ≤ max_terms }
-    ensures { HallRead decoded.now n s.now result }
+    ensures { HallRead decoded.now n s.now (then_some result index.new) }
 {
     if s.len() < CHANNELS {
-        return None;
+        return false;
     }
-    let mut index = Index {
-        starts: [0; INDEX_SIZE],
-        components: 0,
-    };
-    let mut at = CHANNELS;
+    index.components = 0;
     index.starts[0] = CHANNELS;
+    let mut at = CHANNELS;
     while at < s.len() {
         if s[at] == 0 {
-            return zeros_from(s, at).then_some(index);
+            return zeros_from(s, at);
         }
         if index.components == MAX_COMPONENTS {
-            return None;
+            return false;
         }
-        at = component_scan(decoded, n, s, at)?;
+        match component_scan(decoded, n, s, at) {
+            Some(next) => at = next,
+            None => return false,
+        }
         index.components += 1;
         index.starts[index.components] = at;
     }
-    Some(index)
+    true
 }

@@ -5,7 +5,8 @@
 // bytes: what lies past their end counts as a leaf.
 #![tactic(auto)]
 
-ghost use Rattle.std.specs.Prelude.{◌≡◌, ◌≤◌, ◌<◌, length};
+ghost use Rattle.std.specs.Prelude.{◌≡◌, ◌≤◌, ◌<◌, length, replicate};
+ghost use Rattle.hall_layout.specs.Layout.{index_size};
 ghost use Rattle.hall_layout.specs.Nodes.{node_size, pending_behind, passed, node_start, tree_end};
 
 use buffer::byte_at;
@@ -73,6 +74,18 @@ pub const INDEX_SIZE: usize = MAX_COMPONENTS + 1;
 pub struct Index {
     pub starts: [usize; INDEX_SIZE],
     pub components: usize,
+}
+
+impl Index {
+    // Of no component: what is lent to be filled.
+    pub fn new() -> Self
+        ensures { result ≡ record { starts = replicate index_size 0; components = 0 } }
+    {
+        Index {
+            starts: [0; INDEX_SIZE],
+            components: 0,
+        }
+    }
 }
 
 // The nodes of a transaction of as many branches as there may be: a fork for each leaf but one.

@@ -8,18 +8,19 @@ ghost use Rattle.table_terms.specs.Decoded.{kind_at, AProcess};
 ghost use Rattle.hall_open.specs.Opening.{CanWriteComponents, ComponentsWritten, ComponentsCounted};
 
 use crate::turns::write_components;
-use hall_layout::{COMPONENT_BODY, IDLE_SIZE, KIND_OUTPUT, KIND_WAITING, MAX_COMPONENTS};
+use buffer::write_at;
+use hall_layout::{IDLE_SIZE, KIND_OUTPUT, KIND_WAITING, MAX_COMPONENTS};
 use table_records::{NIL, PUT};
 use table_terms::DECODED;
 
-// A component of two bytes, at an offset: the answer is the offset behind it.
+// A component of two bytes, at an offset: the answer is the offset behind it. Both are stored at once. A turn that is shown
+// reads them back at once, and the compiler then leaves out what the turns before it lay down.
 pub fn write_idle(hall: &mut [u8], at: usize, kind: u8, body: u8) -> usize
     requires { at + idle_size ≤ length hall.old }
     ensures value { result ≡ at + idle_size }
     ensures hall_after { hall.new ≡ written hall.old at (kind ∷ body ∷ []) idle_size }
 {
-    hall[at] = kind;
-    hall[at + COMPONENT_BODY] = body;
+    write_at(hall, at, &[kind, body]);
     at + IDLE_SIZE
 }
 

@@ -1,20 +1,20 @@
--- The digits of a number, from those of its tenth.
+-- The digits of a number, from those of its tenth, and how they are written.
 -- Assumes nothing.
 use Prim.Native.Nat.{ℕ, zero, suc, ◌+◌, ◌*◌, ◌/◌, ◌%◌, ◌^◌, ◌≤◌, ◌<◌}
 use native.Mathlib.Omega.{arith}
 use native.Mathlib.Numerals.{unary_clauses}
-use mathlib.Core.Path.{◌≡◌, refl, ap}
+use mathlib.Core.Path.{◌≡◌, refl, ap, ◌∙◌}
 use mathlib.Core.Bool.{Bool, true, false, cond}
 use mathlib.Core.List.{List, [], ◌∷◌, ◌++◌}
+use lib.ListN.{length, length-append}
 use lib.Dec.{ltb}
-use borrow.Author.Tests.{lt-ltb, le-ltb, ltb-true, ltb-false}
+use borrow.Author.Tests.{lt-ltb, le-ltb}
 use mir.Syntax.{w64}
 use mir.Val.{Fits}
 use Rattle.semantics.specs.Definitions.Report.{digits, decimal}
 use Rattle.theorems.proofs.Decimals.{tenth}
-use Rattle.print_decimals.specs.declared.Page.{Page}
-use Rattle.print_decimals.specs.Page.{Room, Appended}
-use Rattle.print_decimals.proofs.Pages.{appended_none, first_room, second_room, appended_both}
+use Rattle.print_decimals.specs.Wrote.{Wrote}
+use Rattle.print_decimals.proofs.Pages.{wrote_more, wrote_length}
 
 -- more room for digits than are needed changes nothing
 digits_enough : (f n : ℕ) → n < 10 ^ suc f → digits (suc f) n ≡ digits (suc (suc f)) n
@@ -24,46 +24,46 @@ digits_enough (suc f) n l =
     let m : n < 10 * 10 ^ suc f = simp unary_clauses (omega arith) in
     ap (λ ds. cond (ltb n 10) ((48 + n) ∷ []) (ds ++ ((48 + n % 10) ∷ []))) (digits_enough f (n / 10) (tenth n (10 ^ suc f) m))
 
--- what stands before the last digit: the digits of the tenth, where there are any
-pub leading : ℕ → List ℕ
-leading n = cond (ltb n 10) [] (decimal (n / 10))
-
-one_digit : (n : ℕ) → n < 10 → decimal n ≡ (48 + n) ∷ []
+-- a number below ten has one digit; another has those of its tenth, and one more
+pub one_digit_holds : (n : ℕ) → n < 10 → decimal n ≡ (48 + n) ∷ []
 unfolding decimal digits
-one_digit n l = rw (lt-ltb n 10 l) refl
+one_digit_holds n l = rw (lt-ltb n 10 l) refl
 
-more_digits : (n : ℕ) → 10 ≤ n → n < 10 ^ 20 → decimal n ≡ decimal (n / 10) ++ ((48 + n % 10) ∷ [])
+pub more_digits : (n : ℕ) → 10 ≤ n → n < 10 ^ 20 → decimal n ≡ decimal (n / 10) ++ ((48 + n % 10) ∷ [])
 unfolding decimal digits
 more_digits n l m = rw (le-ltb n 10 l) (ap (λ ds. ds ++ ((48 + n % 10) ∷ [])) (digits_enough 18 (n / 10) (tenth n (10 ^ 19) m)))
 
-last_digit : (n : ℕ) → n < 10 ^ 20 → decimal n ≡ leading n ++ ((48 + n % 10) ∷ [])
-unfolding leading
-last_digit n m = go (ltb n 10) refl
+-- ---- the digits of a number, written
+
+some_digits : (n : ℕ) → 1 ≤ length (decimal n)
+unfolding decimal digits
+some_digits n = go (ltb n 10) refl
   where
-    go : (b : Bool) → ltb n 10 ≡ b → decimal n ≡ cond b [] (decimal (n / 10)) ++ ((48 + n % 10) ∷ [])
-    go true e = let l = ltb-true n 10 e in let s : n % 10 ≡ n = omega arith in rw s (one_digit n l)
-    go false e = more_digits n (ltb-false n 10 e) m
+    go : (b : Bool) → ltb n 10 ≡ b → 1 ≤ length (cond b ((48 + n) ∷ []) (digits 19 (n / 10) ++ ((48 + n % 10) ∷ [])))
+    go true e = omega arith
+    go false e = let l = length-append (digits 19 (n / 10)) ((48 + n % 10) ∷ []) in omega arith
 
-module _ (p : Page) (n : ℕ) (word : Fits w64 n) (room : Room p (decimal n)) where
-  whole : Room p (leading n ++ ((48 + n % 10) ∷ []))
-  whole = rw (last_digit n (omega (arith, word))) at room
+module _ (s : List ℕ) (at n : ℕ) (room : at + length (decimal n) ≤ length s) where
+  pub one_fits : at < length s
+  one_fits = let l = some_digits n in omega arith
 
-  pub tenth_room : 10 ≤ n → Room p (decimal (n / 10))
-  unfolding leading
-  tenth_room l = rw (le-ltb n 10 l) at (first_room p (leading n) _ whole)
+  pub one_written : n < 10 → (s₁ : List ℕ) (r d : ℕ) → d ≡ 48 + n → Wrote s at (d ∷ []) s₁ r → Wrote s at (decimal n) s₁ r
+  one_written l s₁ r d e w = rw (one_digit_holds n l) (rw e at w)
 
-  -- the digits of the tenth are written, where there are any
-  pub led : (q r : Page) → 10 ≤ n → Appended p (decimal (n / 10)) r → q ≡ r → Appended p (leading n) q
-  unfolding leading
-  led q r l x e = rw (le-ltb n 10 l, e) x
+  module _ (more : 10 ≤ n) (word : Fits w64 n) where
+    tenth_length : length (decimal n) ≡ length (decimal (n / 10)) + 1
+    tenth_length = ap length (more_digits n more (omega (arith, word))) ∙ length-append (decimal (n / 10)) _
 
-  pub not_led : (q : Page) → n < 10 → q ≡ p → Appended p (leading n) q
-  unfolding leading
-  not_led q l e = rw (lt-ltb n 10 l, e) (appended_none p)
+    pub tenth_fits : at + length (decimal (n / 10)) ≤ length s
+    tenth_fits = let l = tenth_length in omega arith
 
-  module _ (q : Page) (x : Appended p (leading n) q) where
-    pub last_room : Room q ((48 + n % 10) ∷ [])
-    last_room = second_room p (leading n) _ whole q x
+    module _ (s₁ : List ℕ) (i : ℕ) (w : Wrote s at (decimal (n / 10)) s₁ i) where
+      pub last_fits : i < length s₁
+      last_fits =
+          let l = tenth_length in
+          let m = wrote_length s s₁ at i (decimal (n / 10)) tenth_fits w in
+          let e = w.end in omega arith
 
-    pub last_written : (r : Page) → Appended q ((48 + n % 10) ∷ []) r → Appended p (decimal n) r
-    last_written r y = rw (last_digit n (omega (arith, word))) (appended_both p (leading n) _ whole q x r y)
+      pub last_written : (s₂ : List ℕ) (r d : ℕ) → d ≡ 48 + n % 10 → Wrote s₁ i (d ∷ []) s₂ r → Wrote s at (decimal n) s₂ r
+      last_written s₂ r d e x =
+          rw (more_digits n more (omega (arith, word))) (wrote_more s s₁ s₂ at i r (decimal (n / 10)) _ (omega arith) w (rw e at x))

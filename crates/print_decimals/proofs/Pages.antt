@@ -86,6 +86,10 @@ module _ (m k : ℕ) (p : Page) (v : List ℕ) (q : Page) (room : HasRoom (m + k
         short = omega arith;
       }
 
+-- of at most so many bytes, and so of at most more
+pub printed_wider : (m k : ℕ) (p : Page) (v : List ℕ) (q : Page) → m ≤ k → Printed m p v q → Printed k p v q
+printed_wider m k p v q l x = let o = x.short in record { wrote = x.wrote; short = omega arith }
+
 -- ---- a page from its beginning on
 
 module _ (name : ℕ) (s : List ℕ) (p : Page) (x : Begun name s p) where

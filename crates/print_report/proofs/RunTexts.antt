@@ -29,7 +29,8 @@ use Rattle.call_admit.specs.Admissions.{TableAndHallHeld, AdmissionIs}
 use Rattle.call_admit.proofs.Admissions.{admitted_hall, refused_hall}
 use Rattle.print_decimals.specs.declared.Page.{Page}
 use Rattle.print_decimals.specs.Page.{Printed}
-use Rattle.print_sections.specs.Limits.{run_most}
+use Rattle.print_decimals.proofs.Pages.{printed_wider}
+use Rattle.print_sections.specs.Limits.{run_most, lines_most}
 use Rattle.print_sections.specs.Printed.{CanPrintComponents}
 use Rattle.print_sections.specs.Totals.{LinesPrinted}
 use Rattle.print_report.specs.Runs.{HallPrinted, RunTextPrinted}
@@ -138,7 +139,7 @@ module _ (table choices hall₀ hall₁ : List ℕ) (p q : Page) where
         let opens = ap (λ y. y.answer) w ∙ open_refused table hall₀ m i reads in
         let u : n ≡ m = cc in
         let v : e.place ≡ i = cc in
-        let l = x.short in rw (← u, ← v) (record { wrote = x.wrote; short = omega arith });
+        rw (← u, ← v) (printed_wider run_most lines_most p _ q (omega arith) x);
     done = λ t text reads y.
         let opens = ap (λ y. y.answer) w ∙ y.opens in
         let z : ◌≡◌ {A = ℕ} 0 1 = cc in absurd (omega arith);

@@ -6,6 +6,7 @@ ghost use Rattle.print_sections.specs.Limits.{lines_most};
 ghost use Rattle.print_report.specs.Runs.{HallPrinted, RunTextPrinted};
 
 use answers::RunAnswer;
+use hall_layout::Index;
 use print_decimals::Page;
 use print_sections::{counts_of, print_lines, run_line};
 use table_terms::DECODED;
@@ -16,7 +17,8 @@ fn print_hall(table: &[u8], hall: &[u8], first: &[u8], answer: RunAnswer, page: 
     ensures { HallPrinted table.now hall.now first.now answer page.old page.new }
 {
     let mut decoded = [0u8; DECODED];
-    if let Ok(index) = call_admit::admit(table, hall, &mut decoded) {
+    let mut index = Index::new();
+    if let Ok(()) = call_admit::admit(table, hall, &mut decoded, &mut index) {
         print_lines(hall, &index, first, answer, page);
     }
 }

@@ -14,12 +14,12 @@ use Rattle.semantics.specs.Definitions.Moves.{refused_by}
 use Rattle.semantics.specs.Definitions.Report.{decimal}
 use Rattle.semantics.specs.Definitions.Sentence.{rule_words, refusal_words, words_for, named, node_named, choice_named, short_named, reply_named}
 use Rattle.answers.specs.declared.replies.Short.{Short}
-use Rattle.answers.specs.Answers.{shortage_of}
+use Rattle.answers.specs.Answers.{shortage_of, reply_told}
 use Rattle.print_decimals.specs.declared.Page.{Page}
 use Rattle.print_decimals.specs.Page.{HasRoom, Room, Appended, Printed}
 use Rattle.print_decimals.proofs.Pages.{appended_none, first_room, second_room, appended_both, room_for, printed_none, printed_room, printed_more}
-use Rattle.print_sentence.specs.declared.Moved.{Moved}
-use Rattle.print_sentence.specs.Told.{choice_most, short_most, reply_most, reply_told}
+use Rattle.answers.specs.declared.replies.Moved.{Moved}
+use Rattle.print_sentence.specs.Told.{choice_most, short_most, reply_most}
 use Rattle.print_sentence.proofs.Lengths.{choice_short, short_short, rule_short, refusal_short}
 
 -- ---- a text and a number behind it

@@ -8,23 +8,16 @@ ghost use Rattle.semantics.specs.Definitions.Report.{decimal};
 ghost use Rattle.semantics.specs.Definitions.Sentence.{choice_named, short_named, reply_named, sentence as Sentence·sentence, sentence_call};
 ghost use Rattle.semantics.specs.Promises.{Promised, OnSentences};
 ghost use Rattle.print_decimals.specs.Page.{HasRoom, Room, Appended, Printed};
-ghost use Rattle.answers.specs.Answers.{shortage_of, sentence_call_of};
-ghost use Rattle.print_sentence.specs.Told.{choice_most, short_most, reply_most, reply_told};
+ghost use Rattle.answers.specs.Answers.{shortage_of, reply_told, sentence_call_of};
+ghost use Rattle.print_sentence.specs.Told.{choice_most, short_most, reply_most};
 
+pub use answers::Moved;
 use answers::{KIND_ACT, Reason, Refusal, Short};
 use print_decimals::Page;
 use words::{refusal_words, rule_words};
 
 // The bytes that a buffer must have. No sentence is longer.
 pub const SENTENCE_BYTES: usize = 96;
-
-// That a choice moved, as the sentence tells it: the number of the rule, and what was short then. The number comes from C
-// and may be no rule's.
-#[derive(Clone, Copy, PartialEq, Eq)]
-pub struct Moved {
-    pub rule: u8,
-    pub short: Option<Short>,
-}
 
 // A text and a number behind it.
 fn write_named(page: &mut Page<'_>, text: &[u8], n: u8)

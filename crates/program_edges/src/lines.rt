@@ -148,6 +148,11 @@ impl EdgeLine {
         }
     }
 
+    // Whether each part ends where the next one begins: a hall that no choices follow has no end.
+    pub fn is_whole(&self) -> bool {
+        self.hall <= self.choices && self.choices <= self.tally && self.tally <= self.length
+    }
+
     // The bytes from..to.
     fn bytes(&self, from: usize, to: usize) -> &[u8] {
         self.bytes.get(from..to).unwrap_or(&[])

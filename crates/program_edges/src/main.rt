@@ -6,7 +6,8 @@
 // A line of the list is a name, a colon, and bytes in decimal. `3x1,0` stands for `1 0 1 0 1 0`. The program prints the
 // name and below it the printed run of the bytes. Where `/` cuts the bytes in three they are a table, a stored hall and
 // choices, and the answers of the calls on a stored hall are printed (calls.rt); a fourth part is the tally that these
-// begin with, four bytes a counter, the highest first. A line without a colon is a heading.
+// begin with, four bytes a counter, the highest first. Bytes that are cut in two have no answer, but where the first part
+// is empty. A line without a colon is a heading.
 #![tactic(auto)]
 
 mod calls;
@@ -30,6 +31,9 @@ fn print_report(out: &mut impl Write, input: &[u8]) -> io::Result<()> {
 fn print_answers(out: &mut impl Write, line: &EdgeLine) -> io::Result<()> {
     if line.part() == Part::Input {
         return print_report(out, line.input());
+    }
+    if !line.is_whole() {
+        return Ok(());
     }
     calls::print_calls(out, line.table(), line.hall(), line.choices(), line.tally())
 }

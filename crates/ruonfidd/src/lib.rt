@@ -23,11 +23,10 @@ ghost use Rattle.answers.specs.Answered.{VerdictAnswered, OpeningAnswered, TurnA
 ghost use Rattle.answers.specs.Promises.{ToldTables, ToldHalls, ToldOpenings, ToldTurns, ToldRuns, ToldSteps, ToldSuggestions, ToldSentences};
 ghost use Rattle.print_decimals.specs.Wrote.{Wrote};
 ghost use Rattle.print_sections.specs.Limits.{lines_most};
-ghost use Rattle.print_sentence.specs.Told.{reply_told};
+ghost use Rattle.answers.specs.Answers.{reply_told};
 
-use answers::{Counters, Short};
+use answers::{Counters, Moved, Short};
 use print_report::OUTPUT;
-use print_sentence::Moved;
 
 // Whether a table is accepted: 0, and place 0; or the number of the first refusal, and its place.
 #[unsafe(no_mangle)]

@@ -3,7 +3,7 @@
 use Prim.Native.Nat.{ℕ, ◌≤◌, ◌<◌}
 use native.Mathlib.Omega.{arith}
 use mathlib.Core.Path.{◌≡◌}
-use mathlib.Core.Bool.{false}
+use mathlib.Core.Bool.{Bool}
 use lib.Dec.{ltb}
 use borrow.Author.Tests.{lt-ltb, le-ltb}
 use Rattle.std.specs.Prelude.{Option, Some, None}
@@ -19,8 +19,9 @@ use Rattle.table_terms.proofs.TermKinds.{record_class}
 
 -- c is the class of kind k
 module _ (k b l : ℕ) (c : Option Class) (class : c ≡ class_of k) where
-  pub no_term : c ≡ None → LimitTested k b l false
-  no_term e = record { found = λ i x y t r p q. let s = record_class i k x y t r in let z : ◌≡◌ {A = ℕ} 0 1 = cc in absurd (omega arith) }
+  -- whatever is answered of a kind that is no term's
+  pub no_term : c ≡ None → (o : Bool) → LimitTested k b l o
+  no_term e o = record { found = λ i x y t r p q. let s = record_class i k x y t r in let z : ◌≡◌ {A = ℕ} 0 1 = cc in absurd (omega arith) }
 
   module _ (x : Class) (is : c ≡ Some x) where
     pub width_tested : x ≡ Process → LimitTested k b l (ltb max_components b)

@@ -234,7 +234,6 @@ pub fn over_limit(kind: u8, m: Measures) -> bool
 {
     match table_records::class_of(kind) {
         Some(Class::Process) => MAX_WIDTH < m.breadth,
-        Some(Class::Expression) => MAX_BRANCHES < m.breadth || MAX_LENGTH < m.length,
-        None => false,
+        _ => MAX_BRANCHES < m.breadth || MAX_LENGTH < m.length,
     }
 }

@@ -5,18 +5,18 @@ use Rattle.call_step.proofs.Steps.{stepped_turned_down, stepped_unknown, named_w
 use Rattle.theorems.proofs.Theorems.{promised, on_steps}
 use Rattle.call_step.proofs.step.Goals as goal
 
-pub returns-in_err-index-clause-decided : goal.returns-in_err-index-clause-decided
-returns-in_err-index-clause-decided c =
+pub returns-in_err-admit-clause-decided : goal.returns-in_err-admit-clause-decided
+returns-in_err-admit-clause-decided c =
     let p = err_from_is_err_and c.from_residual.result c.from_residual.ensures.1 in
-    rw (p.1, p.2) (number_told c.in_err-index.field-0.0.reason)
+    rw (p.1, p.2) (number_told c.in_err-admit.field-0.0.reason)
 
-pub returns-in_err-index-clause-equation : goal.returns-in_err-index-clause-equation
-returns-in_err-index-clause-equation c =
+pub returns-in_err-admit-clause-equation : goal.returns-in_err-admit-clause-equation
+returns-in_err-admit-clause-equation c =
     let p = err_from_is_err_and c.from_residual.result c.from_residual.ensures.1 in
-    rw (p.1, p.2) (search (stepped_turned_down, c.in_err-index.ensures))
+    rw (p.1, p.2) (search (stepped_turned_down, c.in_err-admit.ensures))
 
-pub returns-in_err-index-clause-promised : goal.returns-in_err-index-clause-promised
-returns-in_err-index-clause-promised c = promised on_steps
+pub returns-in_err-admit-clause-promised : goal.returns-in_err-admit-clause-promised
+returns-in_err-admit-clause-promised c = promised on_steps
 
 pub returns-in_err-entry-clause-decided : goal.returns-in_err-entry-clause-decided
 returns-in_err-entry-clause-decided c =
@@ -29,7 +29,7 @@ returns-in_err-entry-clause-equation c =
     let residual = c.from_residual-in_err-entry in
     let p = err_from_is_err_and residual.result residual.ensures.1 in
     let e = c.in_err-entry.ensures in
-    rw (p.1, p.2, e.0) (search (stepped_unknown, e.1, e.2, c.in_ok-index.ensures))
+    rw (p.1, p.2, e.0) (search (stepped_unknown, e.1, e.2, c.in_ok-admit.ensures))
 
 pub returns-in_err-entry-clause-promised : goal.returns-in_err-entry-clause-promised
 returns-in_err-entry-clause-promised c = promised on_steps
@@ -38,7 +38,7 @@ pub step_held-requires-clause-one_entry : goal.step_held-requires-clause-one_ent
 step_held-requires-clause-one_entry c = search (named_written, c.in_ok-entry.ensures)
 
 pub returns-clause-equation : goal.returns-clause-equation
-returns-clause-equation c = search (stepped_named, c.in_ok-entry.ensures, c.in_ok-index.ensures)
+returns-clause-equation c = search (stepped_named, c.in_ok-entry.ensures, c.in_ok-admit.ensures)
 
 pub returns-clause-promised : goal.returns-clause-promised
 returns-clause-promised c = promised on_steps

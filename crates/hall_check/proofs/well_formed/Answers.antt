@@ -14,11 +14,11 @@ returns-then-s-at-eq0 c = search hall_zeros
 pub returns-then-index-eq-MAX_COMPONENTS : goal.returns-then-index-eq-MAX_COMPONENTS
 returns-then-index-eq-MAX_COMPONENTS c = search hall_full
 
-pub returns-in_err-at : goal.returns-in_err-at
-returns-in_err-at c = rw c.from_residual.ensures (search (hall_broken, c.in_err-at.ensures))
+pub returns-in-None : goal.returns-in-None
+returns-in-None c = search (hall_broken, c.in-None.ensures)
 
 pub loop-at-preserved : goal.loop-at-preserved
-loop-at-preserved c = search (hall_next, c.in_ok-at.ensures)
+loop-at-preserved c = search (hall_next, c.in-Some.ensures)
 
 pub returns : goal.returns
 returns c = search hall_over
